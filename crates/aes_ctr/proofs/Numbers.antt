@@ -2,7 +2,7 @@
 use Rattle.std.proofs.Common.{◌≡◌, ℕ, ◌+◌, ◌/◌, ◌%◌, ◌^◌, [], ◌∷◌, bit_and, refl, ap, ◌∙◌, shr-shr, arith}
 use Rattle.std.specs.Int.{w128, to_be_bytes}
 use Rattle.std.proofs.lemmas.Nat.{and_mask}
-use Rattle.aes_ctr.specs.Columns.{word_bytes, bytes_of}
+use Rattle.aes_ctr.specs.Columns.{word_bytes, column_bytes}
 use Rattle.aes_ctr.proofs.Columns.{same_word, same_state}
 
 -- numbers alike in their low 32 bits have the same four low bytes
@@ -18,7 +18,7 @@ column_in n j c same =
 
 -- four columns that have the bits of a number, the first the highest
 pub columns_in : (n a b c d : ℕ) → a % 4294967296 ≡ n / 2 ^ 96 % 4294967296 → b % 4294967296 ≡ n / 2 ^ 64 % 4294967296
-    → c % 4294967296 ≡ n / 2 ^ 32 % 4294967296 → d % 4294967296 ≡ n % 4294967296 → bytes_of (a ∷ b ∷ c ∷ d ∷ []) ≡ to_be_bytes w128 n
+    → c % 4294967296 ≡ n / 2 ^ 32 % 4294967296 → d % 4294967296 ≡ n % 4294967296 → column_bytes (a ∷ b ∷ c ∷ d ∷ []) ≡ to_be_bytes w128 n
 columns_in n a b c d ea eb ec ed =
     same_state (column_in n 96 a ea) (column_in n 64 b eb) (column_in n 32 c ec) (low_bytes d n ed)
 

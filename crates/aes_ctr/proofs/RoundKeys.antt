@@ -2,7 +2,7 @@
 use Rattle.std.proofs.Common.{◌≡◌, ℕ, ◌+◌, ◌*◌, ◌<◌, List, [], ◌∷◌, ◌++◌, length, get_or, take, drop, ap, sym, ◌∙◌, arith, length-drop, get_or-take}
 use Rattle.std.proofs.lemmas.List.{get_or-drop, length-take-le}
 use Rattle.aes_ctr.specs.Aes.{word_at, key_schedule, round_key}
-use Rattle.aes_ctr.specs.Columns.{bytes_of, HoldsSchedule}
+use Rattle.aes_ctr.specs.Columns.{column_bytes, HoldsSchedule}
 use Rattle.aes_ctr.proofs.Columns.{same_word, same_state, whole_state}
 use Rattle.aes_ctr.proofs.Expanding.{length-expanded}
 
@@ -22,7 +22,7 @@ four_words schedule round lt long =
         sym (get_or-take 16 (drop (16 * round) schedule) k 0 low ∙ get_or-drop (16 * round) schedule k 0 ∙ ap (λ n. get_or schedule n 0) is)
 
 pub round_key_words : (words key now : List ℕ) (round : ℕ) → key ≡ now → HoldsSchedule words key → round < 11
-    → bytes_of (get_or words (4 * round) 0 ∷ get_or words (4 * round + 1) 0 ∷ get_or words (4 * round + 2) 0 ∷ get_or words (4 * round + 3) 0 ∷ []) ≡ round_key (key_schedule now) round
+    → column_bytes (get_or words (4 * round) 0 ∷ get_or words (4 * round + 1) 0 ∷ get_or words (4 * round + 2) 0 ∷ get_or words (4 * round + 3) 0 ∷ []) ≡ round_key (key_schedule now) round
 round_key_words words key now round is held lt =
     let size : length (key_schedule key) ≡ 176 = omega (arith, length-expanded key 40, held.long) in
     same_state (held.each (4 * round) (omega arith)) (held.each (4 * round + 1) (omega arith)) (held.each (4 * round + 2) (omega arith)) (held.each (4 * round + 3) (omega arith))

@@ -11,8 +11,8 @@ abbrev pub byte_in : ℕ → ℕ → ℕ
 byte_in row column = slice_index (word_bytes column) row
 
 -- the state that four columns hold
-abbrev pub bytes_of : List ℕ → List ℕ
-bytes_of columns = word_bytes (slice_index columns 0) ++ word_bytes (slice_index columns 1) ++ word_bytes (slice_index columns 2) ++ word_bytes (slice_index columns 3)
+abbrev pub column_bytes : List ℕ → List ℕ
+column_bytes columns = word_bytes (slice_index columns 0) ++ word_bytes (slice_index columns 1) ++ word_bytes (slice_index columns 2) ++ word_bytes (slice_index columns 3)
 
 -- a column after MixColumns, from its bytes before
 abbrev pub mixed_bytes : ℕ → ℕ → ℕ → ℕ → List ℕ

@@ -2,8 +2,8 @@
 
 ghost use Rattle.std.specs.Prelude.{◌≡◌, ℕ, ◌+◌, ◌*◌, ◌<◌, ◌≤◌, List, length, take};
 ghost use Rattle.std.specs.Int.{w128, to_be_bytes};
-ghost use Rattle.aes_ctr.specs.Aes.{aes, key_schedule, round_key, rounds};
-ghost use Rattle.aes_ctr.specs.Columns.{bytes_of, HoldsSchedule};
+ghost use Rattle.aes_ctr.specs.Aes.{aes, key_schedule, round_key, aes_rounds};
+ghost use Rattle.aes_ctr.specs.Columns.{column_bytes, HoldsSchedule};
 ghost use Rattle.aes_ctr.specs.Keystream.{counter_block, keystream, xored};
 
 use crate::key_schedule::{WORDS, schedule_words};
@@ -44,7 +44,7 @@ impl Cipher {
     /// The columns of a round's key.
     fn round_key(&self, round: usize) -> [u32; 4]
         requires { round < 11 }
-        ensures { bytes_of result ≡ round_key (key_schedule self.now) round }
+        ensures { column_bytes result ≡ round_key (key_schedule self.now) round }
     {
         let first = 4 * round;
         [
@@ -57,7 +57,7 @@ impl Cipher {
 
     /// The columns of the block that AES-128 makes of the block with these columns (FIPS 197, section 5.1).
     fn enciphered(&self, start: [u32; 4]) -> [u32; 4]
-        ensures { bytes_of result ≡ aes self.now (bytes_of start) }
+        ensures { column_bytes result ≡ aes self.now (column_bytes start) }
     {
         let first = self.round_key(0);
         let mut words = add_round_key(start, first);

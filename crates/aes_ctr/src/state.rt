@@ -4,7 +4,7 @@
 ghost use Rattle.std.specs.Prelude.{◌≡◌, ◌/◌, ◌%◌, ◌^◌};
 ghost use Rattle.std.specs.Int.{w128, to_be_bytes};
 ghost use Rattle.aes_ctr.specs.Aes.{sub_byte, sub_bytes, shift_rows, mix_columns, add_round_key};
-ghost use Rattle.aes_ctr.specs.Columns.{byte_in, word_bytes, bytes_of};
+ghost use Rattle.aes_ctr.specs.Columns.{byte_in, word_bytes, column_bytes};
 ghost use Rattle.std.specs.Prelude.{[], ◌∷◌};
 
 use crate::substitution::substitute;
@@ -22,7 +22,7 @@ pub(crate) fn column(a: u8, b: u8, c: u8, d: u8) -> u32
 
 /// The columns of a state.
 pub(crate) fn columns(s: [u8; 16]) -> [u32; 4]
-    ensures { bytes_of result ≡ s }
+    ensures { column_bytes result ≡ s }
 {
     [
         column(s[0], s[1], s[2], s[3]),
@@ -34,7 +34,7 @@ pub(crate) fn columns(s: [u8; 16]) -> [u32; 4]
 
 /// The state that these columns hold.
 pub(crate) fn state(columns: [u32; 4]) -> [u8; 16]
-    ensures { result ≡ bytes_of columns }
+    ensures { result ≡ column_bytes columns }
 {
     let a = columns[0].to_be_bytes();
     let b = columns[1].to_be_bytes();
@@ -50,7 +50,7 @@ pub(crate) fn state(columns: [u32; 4]) -> [u8; 16]
 
 /// The columns of the state whose bytes are those of this number, the highest first.
 pub(crate) fn parted(number: u128) -> [u32; 4]
-    ensures { bytes_of result ≡ to_be_bytes w128 number }
+    ensures { column_bytes result ≡ to_be_bytes w128 number }
 {
     [
         (number >> 96) as u32,
@@ -70,7 +70,7 @@ fn pair(first: u32, second: u32) -> u64
 
 /// The number whose bytes, the highest first, are those of the state that these columns hold.
 pub(crate) fn joined(columns: [u32; 4]) -> u128
-    ensures { to_be_bytes w128 result ≡ bytes_of columns }
+    ensures { to_be_bytes w128 result ≡ column_bytes columns }
 {
     let high = pair(columns[0], columns[1]);
     let low = pair(columns[2], columns[3]);
@@ -79,7 +79,7 @@ pub(crate) fn joined(columns: [u32; 4]) -> u128
 
 /// SubBytes, ShiftRows and MixColumns (sections 5.1.1 to 5.1.3).
 pub(crate) fn mixed(s: [u32; 4]) -> [u32; 4]
-    ensures { bytes_of result ≡ mix_columns (shift_rows (sub_bytes (bytes_of s))) }
+    ensures { column_bytes result ≡ mix_columns (shift_rows (sub_bytes (column_bytes s))) }
 {
     [
         mixed_column(s[0], s[1], s[2], s[3]),
@@ -103,7 +103,7 @@ fn substituted_column(a: u32, b: u32, c: u32, d: u32) -> u32
 
 /// SubBytes and ShiftRows (sections 5.1.1 and 5.1.2).
 pub(crate) fn substituted(s: [u32; 4]) -> [u32; 4]
-    ensures { bytes_of result ≡ shift_rows (sub_bytes (bytes_of s)) }
+    ensures { column_bytes result ≡ shift_rows (sub_bytes (column_bytes s)) }
 {
     [
         substituted_column(s[0], s[1], s[2], s[3]),
@@ -115,7 +115,7 @@ pub(crate) fn substituted(s: [u32; 4]) -> [u32; 4]
 
 /// AddRoundKey (section 5.1.4).
 pub(crate) fn add_round_key(s: [u32; 4], key: [u32; 4]) -> [u32; 4]
-    ensures { bytes_of result ≡ add_round_key (bytes_of s) (bytes_of key) }
+    ensures { column_bytes result ≡ add_round_key (column_bytes s) (column_bytes key) }
 {
     [s[0] ^ key[0], s[1] ^ key[1], s[2] ^ key[2], s[3] ^ key[3]]
 }

@@ -18,9 +18,9 @@ use Rattle.call_board.specs.Whole.{with_more, with_closed}
 use Rattle.call_board.proofs.Free.{held_once}
 use Rattle.relay_core.specs.Scripts.{script, script_of, script_of_act, in_cell, closings}
 use Rattle.relay_core.proofs.Turns.{nothing_more}
-use Rattle.board_turns.specs.Acting.{acted}
-use Rattle.board_turns.specs.Closing.{pairs_left}
-use Rattle.board_turns.specs.Ending.{leg_pairs}
+use Rattle.board_turns.specs.Acts.{acted}
+use Rattle.board_turns.specs.Closings.{pairs_left}
+use Rattle.board_turns.specs.CallEnds.{leg_pairs}
 use Rattle.answer_command.proofs.Stays.{stay_left}
 
 ends_by : (v : BoardEvent) (a : Answer) → act_in v ≡ act.Answered a → ended_in v ≡ []

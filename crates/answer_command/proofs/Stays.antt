@@ -5,8 +5,8 @@ use Rattle.histories.specs.Words.{In, here, there, has}
 use Rattle.histories.proofs.Lists.{equal_if, has_it}
 use Rattle.port_pool.specs.declared.holder.Holder.{Holder}
 use Rattle.call_board.specs.Pairs.{Once}
-use Rattle.board_turns.specs.Closing.{pairs_left}
-use Rattle.board_turns.specs.Ending.{leg_pairs}
+use Rattle.board_turns.specs.Closings.{pairs_left}
+use Rattle.board_turns.specs.CallEnds.{leg_pairs}
 use Rattle.board_turns.proofs.Lefts.{has_left}
 
 is_false : (b : Bool) → (b ≡ true → ⊥) → b ≡ false

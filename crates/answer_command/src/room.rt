@@ -1,7 +1,7 @@
 //! The memory of an answer that the board planned.
 ghost use Rattle.std.specs.Prelude.{◌≡◌, ◌≤◌, ◌<◌, ◌^◌, [], ◌∷◌, is_some, IfOk, OnOk, if◌then◌else◌};
 ghost use Rattle.cookie_cache.specs.Keepings.{IsCookie};
-ghost use Rattle.call_cell.specs.Committing.{inbound_keys};
+ghost use Rattle.call_cell.specs.Commits.{inbound_keys};
 ghost use Rattle.control_messages.specs.Rooms.{IsReplyRoom};
 
 use call_cell::InContexts;

@@ -4,8 +4,8 @@ use Rattle.std.specs.Prelude.{nat_le, ◌&&◌}
 use Rattle.std.specs.List.{list_any}
 use Rattle.relay_outside.specs.declared.settings.Config.{Config}
 use Rattle.ng_command.specs.declared.command.Options.{Options}
-use Rattle.ng_command.specs.Said as said
-use Rattle.ng_command.specs.Said.{Said}
+use Rattle.ng_command.specs.Meanings as said
+use Rattle.ng_command.specs.Meanings.{Said}
 use Rattle.ng_reply.specs.declared.code.ErrorCode.{ErrorCode}
 use Rattle.ng_reply.specs.declared.code.ErrorCode.TheVariants.{E8, E9, E10, E13, E14}
 use Rattle.port_pool.specs.declared.reports.LegReport.{LegReport}
@@ -16,8 +16,8 @@ use Rattle.call_board.specs.Acts.{Act, Call, Given, Control, BoardEntry}
 use Rattle.call_board.specs.Calls.{live, find_call, new_call, rounds, rounds_of_call}
 use Rattle.call_board.specs.Pairs.{free_in, is_short}
 use Rattle.call_board.specs.Replies.{Done}
-use Rattle.call_board.specs.Answers.{Answering, failing, leased_pairs, offer_ask, answer_ask, offer_leased, offer_unless, offer_to, answer_unless, answer_to, missing, names_side, delete_of, query_of, answering_asked}
-use Rattle.call_board.specs.Fits.{GivesFor, GivesNothing, Hears, HearsAnswer, is_heard, demanded_by}
+use Rattle.call_board.specs.Answers.{Answering, failing, leased_pairs, offer_ask, answer_ask, offer_leased, offer_unless, offer_to, answer_unless, answer_to, nothing_to_end, names_side, delete_of, query_of, answering_asked}
+use Rattle.call_board.specs.Fits.{GivesFor, GivesNothing, ReadsRequest, ReadsAnswerOf, is_request_read, demanded_by}
 use Rattle.call_board.proofs.Tells.{leased_case}
 use Rattle.board_laws.proofs.Spelled.{offer_once, answer_once}
 use Rattle.board_laws.proofs.Faults.{Chosen, offer_split, answer_split}
@@ -64,23 +64,23 @@ fault_same config h ask of begins before None d a b fed m n =
     planned_same config h ask of begins before (begins && nat_le config.max_sessions (length (live h))) (is_short (free_in config h) (plan.demand before ask).pairs) d a b fed m n
 
 leased_heard : (config : Config) (h : List BoardEntry) (g : Given) (ask : OfferAsk) (of : Call) (begins : Bool) (before : List Round) (pairs : List ℕ) (failed drew : Bool)
-    → is_heard (leased_case config h g ask of begins before pairs failed drew).act ≡ true
+    → is_request_read (leased_case config h g ask of begins before pairs failed drew).act ≡ true
 leased_heard config h g ask of begins before pairs true drew = refl
 leased_heard config h g ask of begins before pairs false true = refl
 leased_heard config h g ask of begins before pairs false false = refl
 
 planned_heard : (config : Config) (h : List BoardEntry) (g : Given) (ask : OfferAsk) (of : Call) (begins : Bool) (before : List Round) (over short : Bool)
-    → is_heard (planned config h ask of begins before over short g).act ≡ true
+    → is_request_read (planned config h ask of begins before over short g).act ≡ true
 planned_heard config h g ask of begins before true short = refl
 planned_heard config h g ask of begins before false true = refl
 planned_heard config h g ask of begins before false false =
     leased_heard config h g ask of begins before (leased_pairs config h (plan.demand before ask)) (list_any not g.opens) g.draw_failed
 
 late_heard : (config : Config) (h : List BoardEntry) (g : Given) (ask : OfferAsk) (of : Call) (begins : Bool) (before : List Round) (fault : Option ErrorCode)
-    → (fault ≡ Some E8) ⊎ (fault ≡ None) → is_heard (offer_unless config h g ask of begins before fault).act ≡ true
-late_heard config h g ask of begins before fault (inl is) = ap (λ (f : Option ErrorCode). is_heard (offer_unless config h g ask of begins before f).act) is
+    → (fault ≡ Some E8) ⊎ (fault ≡ None) → is_request_read (offer_unless config h g ask of begins before fault).act ≡ true
+late_heard config h g ask of begins before fault (inl is) = ap (λ (f : Option ErrorCode). is_request_read (offer_unless config h g ask of begins before f).act) is
 late_heard config h g ask of begins before fault (inr is) =
-    ap (λ (f : Option ErrorCode). is_heard (offer_unless config h g ask of begins before f).act) is
+    ap (λ (f : Option ErrorCode). is_request_read (offer_unless config h g ask of begins before f).act) is
     ∙ planned_heard config h g ask of begins before (begins && nat_le config.max_sessions (length (live h))) (is_short (free_in config h) (plan.demand before ask).pairs)
 
 -- an offer of this call with what was chosen, and what it demands
@@ -92,8 +92,8 @@ abbrev wanted : List Round → (from_tag sdp : List ℕ) → Options → Chosen 
 wanted before from_tag sdp options xs = plan.demand before (offer_ask from_tag sdp options xs)
 
 offer_same : (config : Config) (h : List BoardEntry) (of : Call) (begins : Bool) (before : List Round) (from_tag sdp : List ℕ) (options : Options) (a b : Given) (xs ys : Chosen) → Fed a b
-    → (is_heard (offered config h of begins before from_tag sdp options a xs).act ≡ true → plan.OfferHeard (offer_ask from_tag sdp options xs))
-    → (is_heard (offered config h of begins before from_tag sdp options b ys).act ≡ true → plan.OfferHeard (offer_ask from_tag sdp options ys))
+    → (is_request_read (offered config h of begins before from_tag sdp options a xs).act ≡ true → plan.OfferRead (offer_ask from_tag sdp options xs))
+    → (is_request_read (offered config h of begins before from_tag sdp options b ys).act ≡ true → plan.OfferRead (offer_ask from_tag sdp options ys))
     → GivesFor (wanted before from_tag sdp options xs) a (offered config h of begins before from_tag sdp options a xs).act
     → GivesFor (wanted before from_tag sdp options ys) b (offered config h of begins before from_tag sdp options b ys).act
     → Same a b (offered config h of begins before from_tag sdp options a xs) (offered config h of begins before from_tag sdp options b ys)
@@ -121,8 +121,8 @@ offer_same config h of begins before from_tag sdp options a b xs ys fed hear_a h
     ]
 
 offers_same : (config : Config) (h : List BoardEntry) (id from_tag sdp : List ℕ) (options : Options) (found : Option Call) (a b : Given) (xs ys : Chosen) → Fed a b
-    → (is_heard (offer_to config h a id (offer_ask from_tag sdp options xs) found).act ≡ true → plan.OfferHeard (offer_ask from_tag sdp options xs))
-    → (is_heard (offer_to config h b id (offer_ask from_tag sdp options ys) found).act ≡ true → plan.OfferHeard (offer_ask from_tag sdp options ys))
+    → (is_request_read (offer_to config h a id (offer_ask from_tag sdp options xs) found).act ≡ true → plan.OfferRead (offer_ask from_tag sdp options xs))
+    → (is_request_read (offer_to config h b id (offer_ask from_tag sdp options ys) found).act ≡ true → plan.OfferRead (offer_ask from_tag sdp options ys))
     → GivesFor (wanted (rounds_of_call h found) from_tag sdp options xs) a (offer_to config h a id (offer_ask from_tag sdp options xs) found).act
     → GivesFor (wanted (rounds_of_call h found) from_tag sdp options ys) b (offer_to config h b id (offer_ask from_tag sdp options ys) found).act
     → Same a b (offer_to config h a id (offer_ask from_tag sdp options xs) found) (offer_to config h b id (offer_ask from_tag sdp options ys) found)
@@ -144,17 +144,17 @@ answer_nothing config h ask d g None gives = gives
 answer_nothing config h ask d g (Some of) gives = unless_nothing config ask of (rounds h of.number) d g (plan.answer_fault (rounds h of.number) ask) gives
 
 answer_late : (config : Config) (ask : AnswerAsk) (of : Call) (before : List Round) (fault : Option ErrorCode)
-    → (fault ≡ Some E8) ⊎ (fault ≡ None) → is_heard (answer_unless config ask of before fault).act ≡ true
-answer_late config ask of before fault (inl is) = ap (λ (f : Option ErrorCode). is_heard (answer_unless config ask of before f).act) is
-answer_late config ask of before fault (inr is) = ap (λ (f : Option ErrorCode). is_heard (answer_unless config ask of before f).act) is
+    → (fault ≡ Some E8) ⊎ (fault ≡ None) → is_request_read (answer_unless config ask of before fault).act ≡ true
+answer_late config ask of before fault (inl is) = ap (λ (f : Option ErrorCode). is_request_read (answer_unless config ask of before f).act) is
+answer_late config ask of before fault (inr is) = ap (λ (f : Option ErrorCode). is_request_read (answer_unless config ask of before f).act) is
 
 abbrev answered : Config → Call → List Round → (from_tag to_tag sdp : List ℕ) → Options → Chosen → Answering
 answered config of before from_tag to_tag sdp options xs =
     answer_unless config (answer_ask from_tag to_tag sdp options xs) of before (plan.answer_fault before (answer_ask from_tag to_tag sdp options xs))
 
 answer_same : (config : Config) (of : Call) (before : List Round) (from_tag to_tag sdp : List ℕ) (options : Options) (xs ys : Chosen)
-    → (is_heard (answered config of before from_tag to_tag sdp options xs).act ≡ true → plan.AnswerHeard before (answer_ask from_tag to_tag sdp options xs))
-    → (is_heard (answered config of before from_tag to_tag sdp options ys).act ≡ true → plan.AnswerHeard before (answer_ask from_tag to_tag sdp options ys))
+    → (is_request_read (answered config of before from_tag to_tag sdp options xs).act ≡ true → plan.AnswerRead before (answer_ask from_tag to_tag sdp options xs))
+    → (is_request_read (answered config of before from_tag to_tag sdp options ys).act ≡ true → plan.AnswerRead before (answer_ask from_tag to_tag sdp options ys))
     → answered config of before from_tag to_tag sdp options xs ≡ answered config of before from_tag to_tag sdp options ys
 answer_same config of before from_tag to_tag sdp options xs ys hear_a hear_b =
     elim (answer_split before from_tag to_tag sdp options) [
@@ -169,8 +169,8 @@ answer_same config of before from_tag to_tag sdp options xs ys hear_a hear_b =
     ]
 
 answers_same : (config : Config) (h : List BoardEntry) (from_tag to_tag sdp : List ℕ) (options : Options) (found : Option Call) (xs ys : Chosen)
-    → (is_heard (answer_to config h (answer_ask from_tag to_tag sdp options xs) found).act ≡ true → HearsAnswer h (answer_ask from_tag to_tag sdp options xs) found)
-    → (is_heard (answer_to config h (answer_ask from_tag to_tag sdp options ys) found).act ≡ true → HearsAnswer h (answer_ask from_tag to_tag sdp options ys) found)
+    → (is_request_read (answer_to config h (answer_ask from_tag to_tag sdp options xs) found).act ≡ true → ReadsAnswerOf h (answer_ask from_tag to_tag sdp options xs) found)
+    → (is_request_read (answer_to config h (answer_ask from_tag to_tag sdp options ys) found).act ≡ true → ReadsAnswerOf h (answer_ask from_tag to_tag sdp options ys) found)
     → answer_to config h (answer_ask from_tag to_tag sdp options xs) found ≡ answer_to config h (answer_ask from_tag to_tag sdp options ys) found
 answers_same config h from_tag to_tag sdp options None xs ys hear_a hear_b = refl
 answers_same config h from_tag to_tag sdp options (Some of) xs ys hear_a hear_b =
@@ -178,12 +178,12 @@ answers_same config h from_tag to_tag sdp options (Some of) xs ys hear_a hear_b 
 
 -- Deletes and queries.
 
-missing_nothing : (d : Demand) (g : Given) (fatal : Bool) (code : ErrorCode) → GivesFor d g (missing fatal code).act → Nothing g
+missing_nothing : (d : Demand) (g : Given) (fatal : Bool) (code : ErrorCode) → GivesFor d g (nothing_to_end fatal code).act → Nothing g
 missing_nothing d g true code gives = gives
 missing_nothing d g false code gives = gives
 
 named_nothing : (d : Demand) (g : Given) (fatal : Bool) (of : Call) (named : Bool)
-    → GivesFor d g (cond named (record { reply = Done; act = act.Deleted of }) (missing fatal E10)).act → Nothing g
+    → GivesFor d g (cond named (record { reply = Done; act = act.Deleted of }) (nothing_to_end fatal E10)).act → Nothing g
 named_nothing d g fatal of true gives = gives
 named_nothing d g fatal of false gives = missing_nothing d g fatal E10 gives
 
@@ -198,30 +198,30 @@ ToldAlike a b x y = (of : Call) (m n : List LegReport) → x ≡ act.Queried of 
 
 query_same : (h : List BoardEntry) (d e : Demand) (a b : Given) (found : Option Call) → Fed a b → ToldAlike a b (query_of h a found).act (query_of h b found).act
     → GivesFor d a (query_of h a found).act → GivesFor e b (query_of h b found).act → Same a b (query_of h a found) (query_of h b found)
-query_same h d e a b None fed told m n = nothing a b _ _ fed m n refl
-query_same h d e a b (Some of) fed told m n =
-    let same = nothing_same a b fed.left fed.right m.0 n.0 (report_same a.report b.report m.1 n.1 (λ x y p q. told of x y refl refl p q)) in
+query_same h d e a b None fed log m n = nothing a b _ _ fed m n refl
+query_same h d e a b (Some of) fed log m n =
+    let same = nothing_same a b fed.left fed.right m.0 n.0 (report_same a.report b.report m.1 n.1 (λ x y p q. log of x y refl refl p q)) in
     record { given = same; answer = ap (λ (g : Given). query_of h g (Some of)) same }
 
 -- Any command.
 
 pub asked_same : (config : Config) (h : List BoardEntry) (c d : Control) (r : Result Said ErrorCode) → Fed c.given d.given → ToldAlike c.given d.given (answering_asked config h c r).act (answering_asked config h d r).act
-    → (is_heard (answering_asked config h c r).act ≡ true → Hears h c r) → (is_heard (answering_asked config h d r).act ≡ true → Hears h d r)
+    → (is_request_read (answering_asked config h c r).act ≡ true → ReadsRequest h c r) → (is_request_read (answering_asked config h d r).act ≡ true → ReadsRequest h d r)
     → GivesFor (demanded_by h c r) c.given (answering_asked config h c r).act → GivesFor (demanded_by h d r) d.given (answering_asked config h d r).act
     → Same c.given d.given (answering_asked config h c r) (answering_asked config h d r)
-asked_same config h c d (Err code) fed told hear_c hear_d m n = nothing c.given d.given _ _ fed m n refl
-asked_same config h c d (Ok said.Ping) fed told hear_c hear_d m n = nothing c.given d.given _ _ fed m n refl
-asked_same config h c d (Ok (said.Offer id from_tag sdp options)) fed told hear_c hear_d m n =
+asked_same config h c d (Err code) fed log hear_c hear_d m n = nothing c.given d.given _ _ fed m n refl
+asked_same config h c d (Ok said.Ping) fed log hear_c hear_d m n = nothing c.given d.given _ _ fed m n refl
+asked_same config h c d (Ok (said.Offer id from_tag sdp options)) fed log hear_c hear_d m n =
     offers_same config h id from_tag sdp options (find_call h id) c.given d.given c.chosen d.chosen fed hear_c hear_d m n
-asked_same config h c d (Ok (said.Answer id from_tag to_tag sdp options)) fed told hear_c hear_d m n =
+asked_same config h c d (Ok (said.Answer id from_tag to_tag sdp options)) fed log hear_c hear_d m n =
     nothing c.given d.given _ _ fed
     (answer_nothing config h (answer_ask from_tag to_tag sdp options c.chosen) (demanded_by h c (Ok (said.Answer id from_tag to_tag sdp options))) c.given (find_call h id) m)
     (answer_nothing config h (answer_ask from_tag to_tag sdp options d.chosen) (demanded_by h d (Ok (said.Answer id from_tag to_tag sdp options))) d.given (find_call h id) n)
     (answers_same config h from_tag to_tag sdp options (find_call h id) c.chosen d.chosen hear_c hear_d)
-asked_same config h c d (Ok (said.Delete id from_tag fatal)) fed told hear_c hear_d m n =
+asked_same config h c d (Ok (said.Delete id from_tag fatal)) fed log hear_c hear_d m n =
     nothing c.given d.given _ _ fed
     (delete_nothing h from_tag fatal (demanded_by h c (Ok (said.Delete id from_tag fatal))) c.given (find_call h id) m)
     (delete_nothing h from_tag fatal (demanded_by h d (Ok (said.Delete id from_tag fatal))) d.given (find_call h id) n) refl
-asked_same config h c d (Ok (said.Query id)) fed told hear_c hear_d m n =
-    query_same h (demanded_by h c (Ok (said.Query id))) (demanded_by h d (Ok (said.Query id))) c.given d.given (find_call h id) fed told m n
-asked_same config h c d (Ok (said.Listing limit)) fed told hear_c hear_d m n = nothing c.given d.given _ _ fed m n refl
+asked_same config h c d (Ok (said.Query id)) fed log hear_c hear_d m n =
+    query_same h (demanded_by h c (Ok (said.Query id))) (demanded_by h d (Ok (said.Query id))) c.given d.given (find_call h id) fed log m n
+asked_same config h c d (Ok (said.Listing limit)) fed log hear_c hear_d m n = nothing c.given d.given _ _ fed m n refl

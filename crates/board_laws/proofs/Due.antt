@@ -10,7 +10,7 @@ use Rattle.call_cell.specs.declared.outcome.Outcome.{Outcome}
 use Rattle.call_cell.specs.declared.outcome.Outcome.TheVariants as outcomes
 use Rattle.call_cell.specs.Cells.{CellEntry, Receipt, Shield, Sending, Deed}
 use Rattle.call_cell.specs.Deeds.{kind, sent_outcome, sent_deed, deed_wrapped, deed_towards, deed_opposite, deed_judged, deed_found, deed}
-use Rattle.call_cell.specs.Standing.{sent_ok, send_outcome}
+use Rattle.call_cell.specs.LegHistories.{sent_ok, send_outcome}
 use Rattle.call_cell.proofs.Does.{Does, refuses, loses, leaves, Taken, Leaving, sending_of, does}
 use Rattle.board_laws.specs.Due.{IsSentOnce}
 

@@ -3,8 +3,8 @@ use Rattle.std.proofs.Common.{◌≡◌, ◌∙◌, ap, refl, ℕ, List, [], len
 use Rattle.std.specs.Prelude.{nat_le, ◌&&◌}
 use Rattle.std.specs.List.{list_any}
 use Rattle.relay_outside.specs.declared.settings.Config.{Config}
-use Rattle.ng_command.specs.Said as said
-use Rattle.ng_command.specs.Said.{Said}
+use Rattle.ng_command.specs.Meanings as said
+use Rattle.ng_command.specs.Meanings.{Said}
 use Rattle.ng_reply.specs.declared.code.ErrorCode.{ErrorCode}
 use Rattle.ng_reply.specs.declared.code.ErrorCode.TheVariants.{E9, E10, E13, E14}
 use Rattle.sdes_lines.specs.declared.crypto_line.CryptoLine.{CryptoLine}
@@ -13,20 +13,20 @@ use Rattle.offer_answer.specs.Plan as plan
 use Rattle.call_board.specs.Acts as act
 use Rattle.call_board.specs.Acts.{Act, Call, Given, Control, BoardEntry}
 use Rattle.call_board.specs.Calls.{live, find_call, new_call, rounds}
-use Rattle.call_board.specs.Kept.{kept}
+use Rattle.call_board.specs.KeptReplies.{kept_reply}
 use Rattle.call_board.specs.Pairs.{free, free_in, is_short}
 use Rattle.call_board.specs.Replies.{Done}
-use Rattle.call_board.specs.Asked.{asked}
-use Rattle.call_board.specs.Answers.{Answering, failing, leased_pairs, offer_ask, answer_ask, offer_unless, offer_to, answer_unless, answer_to, missing, names_side, delete_of, query_of, answering, answering_asked, answering_unless, spelled}
-use Rattle.call_board.specs.Fits.{FitsControl, answer_of}
+use Rattle.call_board.specs.Requests.{asked}
+use Rattle.call_board.specs.Answers.{Answering, failing, leased_pairs, offer_ask, answer_ask, offer_unless, offer_to, answer_unless, answer_to, nothing_to_end, names_side, delete_of, query_of, answering, answering_asked, answering_unless, spelled}
+use Rattle.call_board.specs.Fits.{FitsControl, answered_in}
 use Rattle.call_board.proofs.Fixed.{unless_out_of_memory}
 use Rattle.call_board.proofs.Tells.{leased_case, false_in}
-use Rattle.board_turns.specs.Controls.{Hearing, unanswered, control_of}
-use Rattle.board_turns.specs.Giving.{IsGivenBy}
-use Rattle.relay_outside.specs.Told.{Rose}
+use Rattle.board_turns.specs.Controls.{RequestRecord, unanswered, control_of}
+use Rattle.board_turns.specs.DeviceAnswers.{IsGivenBy}
+use Rattle.relay_outside.specs.DeviceLogs.{Rose}
 use Rattle.relay_outside.specs.declared.keys.KeyCall.{KeyCall}
 use Rattle.relay_outside.specs.declared.ports.PortCall.{PortCall}
-use Rattle.board_laws.specs.Answered.{FailsNowhere, ComesFirst, IsSuccess, given_this, IsAnswered, well, failed, no_memory}
+use Rattle.board_laws.specs.Answers.{FailsNowhere, ComesFirst, IsSuccess, given_this, IsAnswered, well, failed, no_memory}
 use Rattle.board_laws.proofs.Answered.{act_of, bytes_of}
 use Rattle.board_laws.proofs.Commands.{planned}
 use Rattle.board_laws.proofs.First.{IsFirst, FailsFirst, asked_first, offer_first, answer_first}
@@ -85,11 +85,11 @@ answer_ends config h ask None given = fails E9 tt (λ g. refl)
 answer_ends config h ask (Some of) given =
     replied_ends config ask of (rounds h of.number) (plan.answer_fault (rounds h of.number) ask) (answer_first (rounds h of.number) ask) given
 
-missing_ends : (fatal : Bool) (code : ErrorCode) → ComesFirst code → (given : Given) → Ends (λ g. missing fatal code) given
+missing_ends : (fatal : Bool) (code : ErrorCode) → ComesFirst code → (given : Given) → Ends (λ g. nothing_to_end fatal code) given
 missing_ends true code first given = fails code first (λ g. refl)
 missing_ends false code first given = succeeds tt
 
-named_ends : (of : Call) (fatal named : Bool) (given : Given) → Ends (λ g. cond named (record { reply = Done; act = act.Deleted of }) (missing fatal E10)) given
+named_ends : (of : Call) (fatal named : Bool) (given : Given) → Ends (λ g. cond named (record { reply = Done; act = act.Deleted of }) (nothing_to_end fatal E10)) given
 named_ends of fatal true given = succeeds tt
 named_ends of fatal false given = missing_ends fatal E10 tt given
 
@@ -118,18 +118,18 @@ asked_ends config h c (Ok (said.Listing limit)) first given none = succeeds tt
 -- The reply.
 
 by_memory : (config : Config) (h : List BoardEntry) (c : Control) (m : Bool) → c.given.out_of_memory ≡ m
-    → answer_of c ≡ unless_out_of_memory config c.cookie c.body m (answering config h c) → Ends (λ g. answering config h (given_this c g)) c.given → IsAnswered config h c
+    → answered_in c ≡ unless_out_of_memory config c.cookie c.body m (answering config h c) → Ends (λ g. answering config h (given_this c g)) c.given → IsAnswered config h c
 by_memory config h c true is due ends = no_memory is (ap bytes_of due) (ap act_of due)
 by_memory config h c false is due (succeeds good) = well is good due
 by_memory config h c false is due (fails code first anyway) = failed code is first anyway (due ∙ ap (spelled config c.cookie c.body) (anyway c.given))
 
-due_ends : (config : Config) (h : List BoardEntry) (c : Control) → answer_of c ≡ answering_unless config h c None → FailsNowhere c.given → IsAnswered config h c
+due_ends : (config : Config) (h : List BoardEntry) (c : Control) → answered_in c ≡ answering_unless config h c None → FailsNowhere c.given → IsAnswered config h c
 due_ends config h c due none =
     by_memory config h c c.given.out_of_memory refl due
     (asked_ends config h c (asked config c.too_long c.pairs) (asked_first config c.too_long c.pairs) c.given none)
 
 -- of a turn that the board's history demands
-pub answered : (config : Config) (h : List BoardEntry) (now : ℕ) (c : Control) → FitsControl config h now c → kept h c.source c.cookie now ≡ None → FailsNowhere c.given → IsAnswered config h c
+pub answered : (config : Config) (h : List BoardEntry) (now : ℕ) (c : Control) → FitsControl config h now c → kept_reply h c.source c.cookie now ≡ None → FailsNowhere c.given → IsAnswered config h c
 answered config h now c fits unkept none = due_ends config h c (fits.answers ∙ ap (answering_unless config h c) unkept) none
 
 -- what is due depends on nothing that the datagram got
@@ -147,7 +147,7 @@ unanswered_asked config h c d (Ok (said.Query id)) chosen given = ap (λ (g : Gi
 unanswered_asked config h c d (Ok (said.Listing limit)) chosen given = refl
 
 -- of a turn as the board's history has it
-pub control_answered : (config : Config) (h : List BoardEntry) (moment : ℕ) (x : Hearing) → kept h x.source x.cookie moment ≡ None → FailsNowhere x.given
+pub control_answered : (config : Config) (h : List BoardEntry) (moment : ℕ) (x : RequestRecord) → kept_reply h x.source x.cookie moment ≡ None → FailsNowhere x.given
     → IsAnswered config h (control_of config h moment x)
 control_answered config h moment x unkept none =
     let c = control_of config h moment x in
@@ -155,8 +155,8 @@ control_answered config h moment x unkept none =
     due_ends config h c (ap (answering_unless config h (unanswered x)) unkept ∙ ap (unless_out_of_memory config x.cookie x.body x.given.out_of_memory) same) none
 
 -- of one in which no count of faults rose
-pub counted : (config : Config) (h : List BoardEntry) (moment : ℕ) (x : Hearing) (ports ports_now keys keys_now : ℕ) (opened opened_now : Option (List PortCall)) (drew drew_now : Option (List KeyCall))
-    → kept h x.source x.cookie moment ≡ None → IsGivenBy config (free config h) x.given ports ports_now keys keys_now opened opened_now drew drew_now
+pub counted : (config : Config) (h : List BoardEntry) (moment : ℕ) (x : RequestRecord) (ports ports_now keys keys_now : ℕ) (opened opened_now : Option (List PortCall)) (drew drew_now : Option (List KeyCall))
+    → kept_reply h x.source x.cookie moment ≡ None → IsGivenBy config (free config h) x.given ports ports_now keys keys_now opened opened_now drew drew_now
     → (Rose ports ports_now → ⊥) → (Rose keys keys_now → ⊥) → IsAnswered config h (control_of config h moment x)
 counted config h moment x ports ports_now keys keys_now opened opened_now drew drew_now unkept by no_port no_key =
     control_answered config h moment x unkept (record { opened = λ i. no_port (by.port_fault i); drew = λ i. no_key (by.key_fault i) })

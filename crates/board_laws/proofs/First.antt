@@ -8,11 +8,11 @@ use Rattle.relay_outside.specs.declared.address.Ip.{Ip}
 use Rattle.relay_outside.specs.declared.settings.Config.{Config}
 use Rattle.histories.specs.Words as words
 use Rattle.ng_bencode.specs.Tree.{Entries}
-use Rattle.ng_command.specs.Effects.{kind_of}
+use Rattle.ng_command.specs.Effects.{command_kind}
 use Rattle.ng_command.specs.Faults.{first_wrong, first_unsupported, fault_by}
-use Rattle.ng_command.specs.Reading.{kind_or_fault, kind_named, or_fault, told_by, told}
-use Rattle.ng_command.specs.Said as said
-use Rattle.ng_command.specs.Said.{Said, meaning}
+use Rattle.ng_command.specs.Bodies.{kind_or_fault, kind_named, or_fault, said_of_kind, said_or_fault}
+use Rattle.ng_command.specs.Meanings as said
+use Rattle.ng_command.specs.Meanings.{Said, meaning}
 use Rattle.ng_command.specs.Values.{text_at}
 use Rattle.ng_command.specs.declared.fault.KeyName.{KeyName}
 use Rattle.ng_reply.specs.declared.code.ErrorCode.{ErrorCode}
@@ -20,8 +20,8 @@ use Rattle.ng_reply.specs.declared.code.ErrorCode.TheVariants.{E8, E10, E11, E12
 use Rattle.sdp_text.specs.Lines.{lines_of}
 use Rattle.sdp_text.specs.LineFaults.{faulty_line}
 use Rattle.sdp_text.specs.First.{by_count, by_address}
-use Rattle.sdp_text.specs.Parts.{or_else, parts, is_unplaced, is_dtls_part, served_fault}
-use Rattle.sdp_text.specs.Reading.{unplaced_fault, dtls_fault, number_fault, sections_fault, fault_in, v6_line_in}
+use Rattle.sdp_text.specs.Parts.{first_of_two, media_parts, is_unplaced, is_dtls_part, served_fault}
+use Rattle.sdp_text.specs.Descriptions.{unplaced_fault, dtls_fault, number_fault, sections_fault, fault_in, v6_line_in}
 use Rattle.sdp_text.specs.declared.fault.SdpFault.{SdpFault}
 use Rattle.sdp_text.specs.declared.fault.SdpFault.TheVariants as sdp
 use Rattle.sdp_text.proofs.Faults.{first_fault}
@@ -30,8 +30,8 @@ use Rattle.offer_answer.specs.Sides.{MadeOffer, last_offer, is_some_sides}
 use Rattle.offer_answer.specs.Sections.{active_sections, all_sections, section_count, committed_count}
 use Rattle.offer_answer.specs.Faults.{is_strangers, lacks_line, may_answer, takes_no_line, fault_of_answer_to}
 use Rattle.offer_answer.specs.Plan.{offer_fault, answer_fault}
-use Rattle.call_board.specs.Asked.{or_code, code_if, v6_error, sdp_error, description_error, unless, asked_by, asked}
-use Rattle.board_laws.specs.Answered.{ComesFirst}
+use Rattle.call_board.specs.Requests.{or_code, code_if, v6_error, sdp_error, description_error, unless, asked_by, asked}
+use Rattle.board_laws.specs.Answers.{ComesFirst}
 
 -- the error that is there comes first
 abbrev pub IsFirst : Option ErrorCode → Type 0
@@ -43,7 +43,7 @@ IsFirst (Some code) = ComesFirst code
 abbrev IsTold : Option SdpFault → Type 0
 IsTold fault = IsFirst (code_if fault)
 
-either : (a b : Option SdpFault) → IsTold a → IsTold b → IsTold (or_else a b)
+either : (a b : Option SdpFault) → IsTold a → IsTold b → IsTold (first_of_two a b)
 either None b p q = q
 either (Some x) b p q = p
 
@@ -62,21 +62,21 @@ number_told false n = tt
 named_told : (x y : SdpFault) → IsTold (Some y) → x ≡ y → IsTold (Some x)
 named_told x y p e = subst (λ (f : SdpFault). IsTold (Some f)) (sym e) p
 
-served_told : (lines : List (List ℕ)) (fault : Option SdpFault) → served_fault (parts lines) ≡ fault → IsTold fault
+served_told : (lines : List (List ℕ)) (fault : Option SdpFault) → served_fault (media_parts lines) ≡ fault → IsTold fault
 served_told lines None is = tt
-served_told lines (Some fault) is = elim (first_fault (parts lines) fault is).there.at_fault [
+served_told lines (Some fault) is = elim (first_fault (media_parts lines) fault is).there.at_fault [
   | by_count single e ↦ named_told fault _ tt e
   | by_address number names e ↦ named_told fault (sdp.Address number) tt e
 ]
 
 text_told : (lines : List (List ℕ)) → IsTold (fault_in lines)
 text_told lines =
-    either (option_map sdp.Line (faulty_line lines)) (sections_fault (parts lines)) (mapped_told (faulty_line lines) sdp.Line (λ n. tt))
-    (either (unplaced_fault (parts lines)) (or_else (dtls_fault (parts lines)) (or_else (number_fault (parts lines)) (served_fault (parts lines))))
-    (mapped_told (find is_unplaced (parts lines)) (λ part. sdp.Line part.line) (λ part. tt))
-    (either (dtls_fault (parts lines)) (or_else (number_fault (parts lines)) (served_fault (parts lines))) (dtls_told (list_any is_dtls_part (parts lines)))
-    (either (number_fault (parts lines)) (served_fault (parts lines)) (number_told (nat_lt 8 (length (parts lines))) (length (parts lines)))
-    (served_told lines (served_fault (parts lines)) refl))))
+    either (option_map sdp.Line (faulty_line lines)) (sections_fault (media_parts lines)) (mapped_told (faulty_line lines) sdp.Line (λ n. tt))
+    (either (unplaced_fault (media_parts lines)) (first_of_two (dtls_fault (media_parts lines)) (first_of_two (number_fault (media_parts lines)) (served_fault (media_parts lines))))
+    (mapped_told (find is_unplaced (media_parts lines)) (λ part. sdp.Line part.line) (λ part. tt))
+    (either (dtls_fault (media_parts lines)) (first_of_two (number_fault (media_parts lines)) (served_fault (media_parts lines))) (dtls_told (list_any is_dtls_part (media_parts lines)))
+    (either (number_fault (media_parts lines)) (served_fault (media_parts lines)) (number_told (nat_lt 8 (length (media_parts lines))) (length (media_parts lines)))
+    (served_told lines (served_fault (media_parts lines)) refl))))
 
 v6_first : (address : Option Ip) (line : Option ℕ) → IsFirst (v6_error address line)
 v6_first (Some address) line = tt
@@ -113,9 +113,9 @@ keys_first (Some key) unsupported says = tt
 keys_first None (Some key) says = tt
 keys_first None None says = tt
 
-named_first : (name : Option (List ℕ)) (pairs : Entries) → FailsFirst (or_code (told_by (kind_named name) pairs))
+named_first : (name : Option (List ℕ)) (pairs : Entries) → FailsFirst (or_code (said_of_kind (kind_named name) pairs))
 named_first None pairs = tt
-named_first (Some name) pairs = elim (kind_of name) as (λ kind. FailsFirst (or_code (told_by (kind_or_fault kind) pairs))) [
+named_first (Some name) pairs = elim (command_kind name) as (λ kind. FailsFirst (or_code (said_of_kind (kind_or_fault kind) pairs))) [
   | None ↦ tt
   | Some kind ↦ keys_first (first_wrong kind pairs) (first_unsupported kind pairs) (meaning kind pairs)
 ]
@@ -133,7 +133,7 @@ pub asked_first : (config : Config) (too_long : Bool) (pairs : Option Entries) �
 unfolding asked
 asked_first config true pairs = tt
 asked_first config false None = tt
-asked_first config false (Some pairs) = asked_by_first config (or_code (told pairs)) (named_first (text_at pairs (codes "command")) pairs)
+asked_first config false (Some pairs) = asked_by_first config (or_code (said_or_fault pairs)) (named_first (text_at pairs (codes "command")) pairs)
 
 -- Offers and answers.
 

@@ -9,7 +9,7 @@ use Rattle.offer_answer.specs.Rounds.{Round, OfferAsk, Demand}
 use Rattle.call_board.specs.Acts.{Call, Given, Control, BoardEntry}
 use Rattle.call_board.specs.Fits.{OpensAll, OpenFails, GivesNothing, DrawsAll, DrawFails, GivesFor, GivesUndone}
 use Rattle.call_board.proofs.Tells.{leased_case}
-use Rattle.board_turns.specs.Giving.{draws_of}
+use Rattle.board_turns.specs.DeviceAnswers.{draws_of}
 use Rattle.board_laws.specs.Alike.{Agree, GiveAlike, Follows, GivenBy}
 
 -- Part by part.

@@ -18,14 +18,14 @@ use Rattle.sdes_lines.proofs.Lines.{after_attribute, line_parts, attribute_read}
 use Rattle.sdes_lines.proofs.Tags.{tag_in_front, tag_value}
 use Rattle.sdes_lines.proofs.Keys.{key_in_front, key_is_decoded}
 use Rattle.sdp_text.specs.Lines.{lines_of}
-use Rattle.sdp_edit.specs.Choosing.{IsFirstOf, IsKeyOf, section_lines, IsAny, IsOffered}
+use Rattle.sdp_edit.specs.ChosenLines.{IsFirstOf, IsChosenKey, section_lines, IsAny, IsOffered}
 use Rattle.offer_answer.specs.Rounds.{Round}
 use Rattle.offer_answer.specs.Sections.{section_count}
 use Rattle.offer_answer.specs.Keys.{chosen_in, last_lines}
 use Rattle.offer_answer.specs.Faults.{AreFirst}
-use Rattle.offer_answer.specs.Plan.{OfferHeard, AnswerHeard}
+use Rattle.offer_answer.specs.Plan.{OfferRead, AnswerRead}
 use Rattle.call_board.specs.Dialects.{is_json, SaysIn}
-use Rattle.call_board.specs.Asked.{Reads}
+use Rattle.call_board.specs.Requests.{ReadsBody}
 use Rattle.call_board.specs.Answers.{offer_ask, answer_ask}
 use Rattle.call_board.proofs.Saying.{says_once}
 
@@ -40,7 +40,7 @@ said_once false body p q short r s =
     (ap (λ (text : List ℕ). text ++ []) (sym r.spelled ∙ s.spelled))).0
 said_once true body p q short r s = dict_once p q (says_once body (Dict p) (Dict q) r s)
 
-pub read_once : (body : List ℕ) (p q : Option Entries) → length body < 2 ^ 64 → Reads body p → Reads body q → p ≡ q
+pub read_once : (body : List ℕ) (p q : Option Entries) → length body < 2 ^ 64 → ReadsBody body p → ReadsBody body q → p ≡ q
 read_once body None None short r s = refl
 read_once body (Some p) None short r s = absurd (s p r)
 read_once body None (Some q) short r s = absurd (r q s)
@@ -88,8 +88,8 @@ usable_once line a b u v =
 -- The first line of a section that is one of P.
 
 first_case : (P : CryptoLine → Type 0) (line : List ℕ) (more : List (List ℕ)) → ((r s : Option CryptoLine) → IsFirstOf P more r → IsFirstOf P more s → r ≡ s)
-    → (r s : Option CryptoLine) → (IsKeyOf P line r × IsSome r) ⊎ (IsKeyOf P line None × IsFirstOf P more r)
-    → (IsKeyOf P line s × IsSome s) ⊎ (IsKeyOf P line None × IsFirstOf P more s) → r ≡ s
+    → (r s : Option CryptoLine) → (IsChosenKey P line r × IsSome r) ⊎ (IsChosenKey P line None × IsFirstOf P more r)
+    → (IsChosenKey P line s × IsSome s) ⊎ (IsChosenKey P line None × IsFirstOf P more s) → r ≡ s
 first_case P line more rest None s (inl f) g = cc (f.1)
 first_case P line more rest (Some a) None (inl f) (inl g) = cc (g.1)
 first_case P line more rest (Some a) (Some b) (inl f) (inl g) = ap Some (usable_once line a b f.0.0 g.0.0)
@@ -124,11 +124,11 @@ firsts_once P sdp xs ys a b =
     first_once (P n) (section_lines n (lines_of sdp)) (chosen_in xs n) (chosen_in ys n) (a.first n there) (b.first n there))
 
 pub offer_once : (from_tag sdp : List ℕ) (options : Options) (xs ys : List (Option CryptoLine))
-    → OfferHeard (offer_ask from_tag sdp options xs) → OfferHeard (offer_ask from_tag sdp options ys) → xs ≡ ys
-unfolding OfferHeard
+    → OfferRead (offer_ask from_tag sdp options xs) → OfferRead (offer_ask from_tag sdp options ys) → xs ≡ ys
+unfolding OfferRead
 offer_once from_tag sdp options xs ys a b = firsts_once (λ section. IsAny) sdp xs ys a b
 
 pub answer_once : (before : List Round) (from_tag to_tag sdp : List ℕ) (options : Options) (xs ys : List (Option CryptoLine))
-    → AnswerHeard before (answer_ask from_tag to_tag sdp options xs) → AnswerHeard before (answer_ask from_tag to_tag sdp options ys) → xs ≡ ys
-unfolding AnswerHeard
+    → AnswerRead before (answer_ask from_tag to_tag sdp options xs) → AnswerRead before (answer_ask from_tag to_tag sdp options ys) → xs ≡ ys
+unfolding AnswerRead
 answer_once before from_tag to_tag sdp options xs ys a b = firsts_once (λ section. IsOffered (last_lines before section)) sdp xs ys a b

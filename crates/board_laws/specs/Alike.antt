@@ -4,15 +4,15 @@ use Rattle.relay_outside.specs.declared.keys.KeyCall.{KeyCall}
 use Rattle.relay_outside.specs.declared.settings.Config.{Config}
 use Rattle.ng_bencode.specs.Tree.{Dict, Entries}
 use Rattle.ng_bencode.specs.Spells.{Spells, spelling}
-use Rattle.ng_json.specs.Twins.{Says}
-use Rattle.ng_json.specs.Written.{json_text}
+use Rattle.ng_json.specs.Twins.{SaysInJson}
+use Rattle.ng_json.specs.JsonText.{json_text}
 use Rattle.port_pool.specs.declared.reports.LegReport.{LegReport}
 use Rattle.call_board.specs.Acts.{Call, Queried, Given, Control, Turn, BoardEntry}
 use Rattle.call_board.specs.Dialects.{is_json}
-use Rattle.call_board.specs.Kept.{kept}
+use Rattle.call_board.specs.KeptReplies.{kept_reply}
 use Rattle.call_board.specs.Replies.{Reply, tree_of_reply}
 use Rattle.relay_core.specs.Scripts.{script}
-use Rattle.board_turns.specs.Giving.{draws_of}
+use Rattle.board_turns.specs.DeviceAnswers.{draws_of}
 
 -- the same datagram, from the same source
 pub record AreOfOne (c d : Control) : Type 0 where
@@ -60,22 +60,22 @@ pub record SayAlike (h : List BoardEntry) (now : ℕ) (pairs : Entries) (c d : C
   pub source : c.source ≡ d.source
   pub spells : Spells c.body (Dict pairs)
   pub in_json : is_json d.body ≡ true
-  pub says : Says d.body (Dict pairs)
+  pub says : SaysInJson d.body (Dict pairs)
   pub short_c : c.too_long ≡ false
   pub short_d : d.too_long ≡ false
-  pub none_kept_c : kept h c.source c.cookie now ≡ None
-  pub none_kept_d : kept h d.source d.cookie now ≡ None
+  pub none_kept_c : kept_reply h c.source c.cookie now ≡ None
+  pub none_kept_d : kept_reply h d.source d.cookie now ≡ None
 
 -- the board's entry of a turn
-abbrev pub entry_of : ℕ → Control → BoardEntry
-entry_of now c = record { moment = now; event = Turn c }
+abbrev pub turn_entry : ℕ → Control → BoardEntry
+turn_entry now c = record { moment = now; event = Turn c }
 
 -- After this history, at this moment, the devices returned the same, the same was done, the same nested entries are owed, in the same order, and
 -- one value was replied: spelled in bencode to the one, written as JSON to the other, each after its own cookie
 pub record AreOneInBoth (config : Config) (h : List BoardEntry) (now : ℕ) (c d : Control) : Type 0 where
   pub given : c.given ≡ d.given
   pub act : c.act ≡ d.act
-  pub scripts : script config h (entry_of now c) ≡ script config h (entry_of now d)
+  pub scripts : script config h (turn_entry now c) ≡ script config h (turn_entry now d)
   pub reply : Reply
   pub spelled : c.reply ≡ c.cookie ++ 32 ∷ spelling (tree_of_reply config reply)
   pub written : d.reply ≡ d.cookie ++ 32 ∷ json_text (tree_of_reply config reply)

@@ -5,7 +5,7 @@ use Rattle.relay_outside.specs.declared.settings.Config.{Config}
 use Rattle.port_pool.specs.Ports.{half_port}
 use Rattle.call_cell.specs.Cells.{CellEntry, Receipt, Sending}
 use Rattle.call_cell.specs.Deeds.{deed}
-use Rattle.call_cell.specs.Standing.{send_outcome}
+use Rattle.call_cell.specs.LegHistories.{send_outcome}
 
 -- The relay of the packet makes one send, by this port, to this target and of that many bytes, whatever that answers. With either answer it notes
 -- the same and protects under the same; its outcome is `Sent` where the send returned Ok, and `SendFault` of the same port where it failed

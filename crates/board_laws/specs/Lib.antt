@@ -1,3 +1,3 @@
 pub mod Alike
-pub mod Answered
+pub mod Answers
 pub mod Due

@@ -3,23 +3,23 @@ ghost use Rattle.relay_outside.specs.declared.address.Addr.{Addr};
 ghost use Rattle.relay_outside.specs.declared.keys.KeyCall.{KeyCall};
 ghost use Rattle.relay_outside.specs.declared.ports.PortCall.{PortCall};
 ghost use Rattle.relay_outside.specs.declared.settings.Config.{Config};
-ghost use Rattle.relay_outside.specs.Told.{Rose};
+ghost use Rattle.relay_outside.specs.DeviceLogs.{Rose};
 ghost use Rattle.port_pool.specs.declared.reports.LegReport.{LegReport};
 ghost use Rattle.call_board.specs.Acts.{BoardEntry, Control};
 ghost use Rattle.call_board.specs.Fits.{FitsControl};
-ghost use Rattle.call_board.specs.Kept.{kept};
+ghost use Rattle.call_board.specs.KeptReplies.{kept_reply};
 ghost use Rattle.call_board.specs.Pairs.{free};
-ghost use Rattle.board_turns.specs.Controls.{Hearing, control_of};
-ghost use Rattle.board_turns.specs.Giving.{IsGivenBy};
+ghost use Rattle.board_turns.specs.Controls.{RequestRecord, control_of};
+ghost use Rattle.board_turns.specs.DeviceAnswers.{IsGivenBy};
 ghost use Rattle.call_cell.specs.declared.outcome.Lost.TheVariants.{SendFault};
 ghost use Rattle.call_cell.specs.declared.outcome.Outcome.{Outcome};
 ghost use Rattle.call_cell.specs.declared.outcome.Outcome.TheVariants.{Sent, Lost};
 ghost use Rattle.call_cell.specs.Cells.{CellEntry, Receipt};
 ghost use Rattle.call_cell.specs.Deeds.{deed};
-ghost use Rattle.call_cell.specs.Standing.{sent_ok};
+ghost use Rattle.call_cell.specs.LegHistories.{sent_ok};
 ghost use Rattle.ng_bencode.specs.Tree.{Entries};
 ghost use Rattle.board_laws.specs.Alike.{AreOfOne, GiveAlike, HasMemory, AreOne, GivenBy, SayAlike, AreOneInBoth};
-ghost use Rattle.board_laws.specs.Answered.{FailsNowhere, IsAnswered};
+ghost use Rattle.board_laws.specs.Answers.{FailsNowhere, IsAnswered};
 ghost use Rattle.board_laws.specs.Due.{IsSentOnce};
 
 /// Theorem (no run-time code): after one history of the board, at one moment, two turns of one datagram (the same source, cookie and
@@ -52,10 +52,10 @@ pub fn dialects_are_one()
 /// A port or a key can have failed only where a count of faults rose: `counted` says it so, of a turn whose entry says what the devices told.
 /// When each error comes, and which success is due, is what `answering` says (`call_board/specs/Answers.antt`).
 pub fn framed_datagrams_are_answered()
-    ensures answered { (config : Config) (h : List BoardEntry) (now : ℕ) (c : Control) → FitsControl config h now c → kept h c.source c.cookie now ≡ None →
+    ensures answered { (config : Config) (h : List BoardEntry) (now : ℕ) (c : Control) → FitsControl config h now c → kept_reply h c.source c.cookie now ≡ None →
         FailsNowhere c.given → IsAnswered config h c }
-    ensures counted { (config : Config) (h : List BoardEntry) (moment : ℕ) (x : Hearing) (ports ports_now keys keys_now : ℕ)
-        (opened opened_now : Option (List PortCall)) (drew drew_now : Option (List KeyCall)) → kept h x.source x.cookie moment ≡ None →
+    ensures counted { (config : Config) (h : List BoardEntry) (moment : ℕ) (x : RequestRecord) (ports ports_now keys keys_now : ℕ)
+        (opened opened_now : Option (List PortCall)) (drew drew_now : Option (List KeyCall)) → kept_reply h x.source x.cookie moment ≡ None →
         IsGivenBy config (free config h) x.given ports ports_now keys keys_now opened opened_now drew drew_now →
         (Rose ports ports_now → ⊥) → (Rose keys keys_now → ⊥) → IsAnswered config h (control_of config h moment x) }
 {}
@@ -64,7 +64,7 @@ pub fn framed_datagrams_are_answered()
 /// it answers, and does the same but for its outcome. So what a relay of it returns is `Sent`, or `SendFault` of the port that it was to leave by,
 /// and that only where the send failed. No memory is needed for it.
 ///
-/// `relayed` says it of what `Cell::relay` and each relay of a lane promise of their outcome (`CellRelays`, `call_cell/specs/CellStanding.antt`).
+/// `relayed` says it of what `Cell::relay` and each relay of a lane promise of their outcome (`CellRelays`, `call_cell/specs/CellHistories.antt`).
 pub fn due_packets_are_sent()
     ensures once { (config : Config) (h : List CellEntry) (p : Receipt) (port : ℕ) (to : Addr) (len : ℕ) →
         (deed config h p true).outcome ≡ Sent port to len → IsSentOnce config h p port to len }

@@ -11,18 +11,18 @@ use Rattle.port_pool.specs.declared.holder.Holder.{Holder}
 use Rattle.port_pool.specs.Signals.{NewKey}
 use Rattle.port_pool.specs.Boxes.{Open, Close, holder}
 use Rattle.call_cell.specs.declared.prepare.Prepare as prepared
-use Rattle.call_cell.specs.Preparing.{CanCome}
+use Rattle.call_cell.specs.Preparations.{CanCome}
 use Rattle.call_cell.specs.Cells.{since_end, CellEvent, keys_of, key_numbered}
 use Rattle.relay_core.specs.Entries.{Event, Box, Entry, is_at, history, cell_at, box_in, cell_entry, box_event, cell_history, box_history}
 use Rattle.relay_core.specs.Scripts.{Owed, owed_by}
-use Rattle.relay_core.specs.Made.{Made, list_of}
-use Rattle.relay_core.specs.Standing.{BringsNewKeys}
-use Rattle.relay_core.specs.Turning.{IsAbove, Rising, GainsNested, made_by}
+use Rattle.relay_core.specs.Records.{Made, list_of}
+use Rattle.relay_core.specs.PlaceHistories.{BringsNewKeys}
+use Rattle.relay_core.specs.Turns.{IsAbove, Rising, GainsNested, made_by}
 use Rattle.relay_core.proofs.Boards.{lt_or_eq}
 use Rattle.relay_core.proofs.Histories.{at_place, is_there}
 use Rattle.relay_core.proofs.Shut.{same_history}
 use Rattle.relay_core.proofs.Turns.{filter_append, filter_none, filter_every, false_if, nothing_more}
-use Rattle.board_turns.specs.Nesting.{IsShut, IsOpen}
+use Rattle.board_turns.specs.NestedSteps.{IsShut, IsTurnOpen}
 use Rattle.board_turns.specs.InCells.{HasNewKeys, CanPrepare, in_cell_of}
 use Rattle.board_turns.proofs.Nesting.{map_rows}
 
@@ -193,7 +193,7 @@ still P l longer place s holds n above =
 pub still_shut : (l longer : List Entry) (place : ℕ) → IsElsewhere l place longer → IsShut l place → IsShut longer place
 still_shut l longer place s shut = still (λ (es : List Entry). holder (filter_map box_event es) ≡ None) l longer place s shut
 
-pub still_open : (l longer : List Entry) (place : ℕ) → IsElsewhere l place longer → IsOpen l place → IsOpen longer place
+pub still_open : (l longer : List Entry) (place : ℕ) → IsElsewhere l place longer → IsTurnOpen l place → IsTurnOpen longer place
 still_open l longer place s held = still (λ (es : List Entry). IsSome (holder (filter_map box_event es))) l longer place s held
 
 pub still_new : (l longer : List Entry) (place : ℕ) → IsElsewhere l place longer → HasNewKeys l place → HasNewKeys longer place

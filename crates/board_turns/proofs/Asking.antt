@@ -2,9 +2,9 @@
 use Rattle.std.proofs.Common.{◌≡◌, ◌∙◌, ap, refl, Bool, Option, Some, None, Ok, Err}
 use Rattle.relay_outside.specs.declared.settings.Config.{Config}
 use Rattle.ng_bencode.specs.Tree.{Entries}
-use Rattle.ng_command.specs.Said.{Said}
+use Rattle.ng_command.specs.Meanings.{Said}
 use Rattle.ng_reply.specs.declared.code.ErrorCode.{ErrorCode}
-use Rattle.call_board.specs.Asked.{asked, asked_by, command_in, description_error, unless}
+use Rattle.call_board.specs.Requests.{asked, asked_by, command_in, description_error, unless}
 
 unless_none : (o : Option ErrorCode) (says : Said) → o ≡ None → unless o says ≡ Ok says
 unless_none None says is = refl

@@ -7,7 +7,7 @@ use Rattle.relay_outside.specs.declared.ports.InCall.{InCall}
 use Rattle.relay_outside.specs.declared.ports.OutCall.{OutCall}
 use Rattle.relay_outside.specs.declared.ports.PortCall.{PortCall}
 use Rattle.relay_outside.specs.declared.settings.Config.{Config}
-use Rattle.relay_outside.specs.Told.{EndTold}
+use Rattle.relay_outside.specs.DeviceLogs.{EndLog}
 use Rattle.turn_table.specs.declared.machine.Entry as table
 use Rattle.turn_table.specs.declared.hands.Turns.{Turns}
 use Rattle.turn_table.specs.declared.hands.Hand.{Hand}
@@ -18,22 +18,22 @@ use Rattle.histories.specs.Words.{In, here, there, greatest}
 use Rattle.histories.proofs.Lists.{maps, keeps}
 use Rattle.call_board.specs.declared.board.Board as board
 use Rattle.call_board.specs.Acts.{BoardEvent, BoardEntry}
-use Rattle.call_board.specs.Boards.{Shows, BoardFor}
+use Rattle.call_board.specs.Boards.{BoardMatches, BoardFor}
 use Rattle.call_board.specs.Fits.{FitsBoard}
 use Rattle.call_board.specs.Futures.{closed_pairs}
 use Rattle.call_board.specs.Pairs.{held}
-use Rattle.call_board.specs.Views.{View, view_of, at_moment, last_moment}
+use Rattle.call_board.specs.Views.{View, view_of, view_at_moment, board_last_moment}
 use Rattle.relay_core.specs.declared.part.Part.{Part}
 use Rattle.relay_core.specs.declared.part.Part.TheVariants as part
 use Rattle.relay_core.specs.Entries.{Event, Board, Entry, is_at, history, board_at, board_entry, board_history, front}
 use Rattle.relay_core.specs.Legal.{Orderly}
-use Rattle.relay_core.specs.Made.{Made, entry_of, list_of, moment_of}
+use Rattle.relay_core.specs.Records.{Made, entry_of, list_of, moment_of}
 use Rattle.relay_core.specs.Steps.{board_made, BoardSteps, Relates, IsReserved}
-use Rattle.relay_core.specs.Beginning.{AreParts}
+use Rattle.relay_core.specs.FirstPlaces.{AreParts}
 use Rattle.relay_core.specs.Scripts.{Owed, owed_by, script}
-use Rattle.relay_core.specs.Standing.{BoardIs}
-use Rattle.relay_core.specs.Joining.{IsSound}
-use Rattle.relay_core.specs.Turning.{Numbered, IsAbove, IsTurn, Gained, GainsNested, made_by}
+use Rattle.relay_core.specs.PlaceHistories.{BoardIs}
+use Rattle.relay_core.specs.Joins.{IsSound}
+use Rattle.relay_core.specs.Turns.{Numbered, IsAbove, IsTurn, GainedOwed, GainsNested, made_by}
 use Rattle.relay_core.proofs.Elsewhere.{owed_elsewhere}
 use Rattle.relay_core.proofs.Histories.{at_place, good_history}
 use Rattle.relay_core.proofs.Turns.{filter_none, false_if, same_board}
@@ -42,13 +42,13 @@ use Rattle.relay_core.proofs.Given.{given_board}
 use Rattle.relay_core.proofs.Gains.{turn_made}
 use Rattle.relay_core.proofs.Known.{IsKnown, known_sound, known_turn}
 use Rattle.relay_core.proofs.Stepping.{steps_for_all}
-use Rattle.media_ports.specs.Held.{TellsHeld}
+use Rattle.media_ports.specs.OpenPorts.{LogsHeld}
 use Rattle.board_turns.specs.declared.board_turn.BoardEntryId.{BoardEntryId}
-use Rattle.board_turns.specs.Nesting.{MayNest}
+use Rattle.board_turns.specs.NestedSteps.{MayNest}
 use Rattle.board_turns.proofs.Nesting.{parts_count, above_rows, same_again}
-use Rattle.board_turns.specs.Acting.{InTurn}
+use Rattle.board_turns.specs.Acts.{InTurn}
 use Rattle.board_turns.specs.Between.{board_of, IsBetween, MakesTurn}
-use Rattle.board_turns.specs.Ending.{leg_pairs}
+use Rattle.board_turns.specs.CallEnds.{leg_pairs}
 use Rattle.board_turns.proofs.Closed.{list_gained}
 
 -- The board's whole history.
@@ -121,7 +121,7 @@ module _ {M I O T : Type 0} {g : _} where
       let count = parts_count config (starts hand) b.parts in
       (omega (arith, count), λ j has. absurd (has (b.idle j)))
 
-module _ {M I O T : Type 0} {g : _} (it : I → EndTold InCall) (ic : I → ℕ) (ot : O → EndTold OutCall) (oc : O → ℕ) where
+module _ {M I O T : Type 0} {g : _} (it : I → EndLog InCall) (ic : I → ℕ) (ot : O → EndLog OutCall) (oc : O → ℕ) where
   pub turn_begins : (config : Config) (turns : Turns M (Part I O) Made T) (old mid : Hand M (Part I O) Made T g) (turn : Turn M (Part I O) Made T)
       → IsBetween config turns old → IsSameHand old mid × (entries mid ≡ entries old)
       → GainsTurn 0 turn old mid × IsGiven (λ (a : Part I O) (m : Made) (o : T) (b : Part I O). Relates it ic ot oc a m b) IsReserved old 0 (front_of turn) (state_of turn)
@@ -175,33 +175,33 @@ max_again : (a b : ℕ) → max (max a b) b ≡ max a b
 max_again a b = omega arith
 
 -- an advanced board shows the moment of the turn
-pub at_turn : (config : Config) (h : List BoardEntry) (new : board.Board) (now moment : ℕ) → moment ≡ max now (last_moment h)
-    → Shows config new (at_moment (view_of config h) now) → Shows config new (at_moment (view_of config h) moment)
+pub at_turn : (config : Config) (h : List BoardEntry) (new : board.Board) (now moment : ℕ) → moment ≡ max now (board_last_moment h)
+    → BoardMatches config new (view_at_moment (view_of config h) now) → BoardMatches config new (view_at_moment (view_of config h) moment)
 at_turn config h new now moment is shows =
     let v = view_of config h in
     let same : max now v.moment ≡ max moment v.moment = sym (max_again now v.moment) ∙ ap (λ (m : ℕ). max m v.moment) (sym is) in
-    subst (λ (m : ℕ). Shows config new (record { moment = m; begun = v.begun; drawn = v.drawn; calls = v.calls; free = v.free; leases = v.leases; keepings = v.keepings })) same shows
+    subst (λ (m : ℕ). BoardMatches config new (record { moment = m; begun = v.begun; drawn = v.drawn; calls = v.calls; free = v.free; leases = v.leases; keepings = v.keepings })) same shows
 
 -- advanced to no later moment it shows the last one
-pub at_last : (config : Config) (h : List BoardEntry) (new : board.Board) → Shows config new (at_moment (view_of config h) 0) → BoardFor config new h
+pub at_last : (config : Config) (h : List BoardEntry) (new : board.Board) → BoardMatches config new (view_at_moment (view_of config h) 0) → BoardFor config new h
 at_last config h new shows =
     let v = view_of config h in
     let same : max 0 v.moment ≡ v.moment = omega arith in
-    subst (λ (m : ℕ). Shows config new (record { moment = m; begun = v.begun; drawn = v.drawn; calls = v.calls; free = v.free; leases = v.leases; keepings = v.keepings })) same shows
+    subst (λ (m : ℕ). BoardMatches config new (record { moment = m; begun = v.begun; drawn = v.drawn; calls = v.calls; free = v.free; leases = v.leases; keepings = v.keepings })) same shows
 
 module _ {M I O T : Type 0} {g : _} where
   -- A datagram's turn was taken and its board advanced to the moment of the turn
   pub in_turn : (config : Config) (turns : Turns M (Part I O) Made T) (old mid : Hand M (Part I O) Made T g) (turn : Turn M (Part I O) Made T) (entry_id : BoardEntryId)
-      (was now : board.Board) (handed : ℕ) (told : Option (List PortCall)) → entries mid ≡ entries old → Begins config turns mid turn
+      (was now : board.Board) (handed : ℕ) (log : Option (List PortCall)) → entries mid ≡ entries old → Begins config turns mid turn
       → entry_id.number ≡ front_of turn → state_of turn ≡ part.Board was
-      → ((config : Config) (v : View) → Shows config was v → Shows config now (at_moment v handed) × (entry_id.moment ≡ max handed v.moment))
-      → TellsHeld config told (leg_pairs (held (board_of (made_by old)))) → InTurn config turns mid entry_id now told
-  in_turn config turns old mid turn entry_id was now handed told same begins number_is state_is advanced opens =
+      → ((config : Config) (v : View) → BoardMatches config was v → BoardMatches config now (view_at_moment v handed) × (entry_id.moment ≡ max handed v.moment))
+      → LogsHeld config log (leg_pairs (held (board_of (made_by old)))) → InTurn config turns mid entry_id now log
+  in_turn config turns old mid turn entry_id was now handed log same begins number_is state_is advanced opens =
       let n = front_of turn in
       let h = board_history (made_by mid) n in
       let stood : BoardIs {I = I} {O = O} config (part.Board was) h = subst (λ (x : Part I O). BoardIs config x h) state_is begins.board in
       let a = advanced config (view_of config h) stood.1 in
-      let moment : entry_id.moment ≡ max handed (last_moment h) = a.1 in
+      let moment : entry_id.moment ≡ max handed (board_last_moment h) = a.1 in
       let whole = begins_whole config turns old mid turn same begins in
       let q : n ≡ entry_id.number = sym number_is in
       record {
@@ -209,20 +209,20 @@ module _ {M I O T : Type 0} {g : _} where
         above = subst (λ (k : ℕ). IsAbove (made_by mid) 0 k) q begins.above;
         low = subst (λ (k : ℕ). k < 2 ^ 56) q begins.low;
         orderly = begins.orderly;
-        timely = subst (λ (k : ℕ). last_moment (board_history (made_by mid) k) ≤ entry_id.moment) q (omega (arith, moment));
-        shows = subst (λ (k : ℕ). Shows config now (at_moment (view_of config (board_history (made_by mid) k)) entry_id.moment)) q
+        timely = subst (λ (k : ℕ). board_last_moment (board_history (made_by mid) k) ≤ entry_id.moment) q (omega (arith, moment));
+        shows = subst (λ (k : ℕ). BoardMatches config now (view_at_moment (view_of config (board_history (made_by mid) k)) entry_id.moment)) q
             (at_turn config h now handed entry_id.moment moment a.0);
-        opens = subst (λ (k : ℕ). TellsHeld config told (leg_pairs (held (board_history (made_by mid) k)))) q
-            (subst (λ (l : List BoardEntry). TellsHeld config told (leg_pairs (held l))) (sym whole) opens);
+        opens = subst (λ (k : ℕ). LogsHeld config log (leg_pairs (held (board_history (made_by mid) k)))) q
+            (subst (λ (l : List BoardEntry). LogsHeld config log (leg_pairs (held l))) (sym whole) opens);
       }
 
 -- The turn is put.
 
 -- The board that was taken relates to the new one by a step that is right after the history that it stands for, and that records the pairs
 -- of the legs which it closes then
-pub relates_put : {I O : Type 0} (it : I → EndTold InCall) (ic : I → ℕ) (ot : O → EndTold OutCall) (oc : O → ℕ)
+pub relates_put : {I O : Type 0} (it : I → EndLog InCall) (ic : I → ℕ) (ot : O → EndLog OutCall) (oc : O → ℕ)
     (config : Config) (h : List BoardEntry) (old new : Part I O) (made : Made) (event : BoardEvent) → made.event ≡ Board event → closed_pairs h (board_made made event) ≡ made.returned
-    → BoardIs config old h → made.moment ≡ moment_of (Board event) made.handed (last_moment h) → FitsBoard config h (board_made made event)
+    → BoardIs config old h → made.moment ≡ moment_of (Board event) made.handed (board_last_moment h) → FitsBoard config h (board_made made event)
     → BoardIs config new (board_made made event ∷ h) → Relates it ic ot oc old made new
 relates_put it ic ot oc config h (part.Board old) (part.Board new) made event is gives was moment fits stands =
     subst (λ (v : Event). BoardSteps old made v new) (sym is)
@@ -280,7 +280,7 @@ module _ {M I O T : Type 0} {g : _} where
         turn_made config (made_by old) (list_of gains.rows) (entry_of row) (board_made made event) is refl
         (subst (λ (l : List Entry). IsAbove l 0 (front_of turn)) list_same above)
         (subst (λ (l : List Entry). FitsBoard config (board_history l (front_of turn)) (board_made made event)) list_same fits)
-        (subst (λ (l : List Entry). Gained l (front_of turn) (script config (board_history l (front_of turn)) (board_made made event)) (list_of gains.rows)) list_same
+        (subst (λ (l : List Entry). GainedOwed l (front_of turn) (script config (board_history l (front_of turn)) (board_made made event)) (list_of gains.rows)) list_same
         gains.gained)
 
     known : IsKnown config (entries new)

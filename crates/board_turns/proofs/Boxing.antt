@@ -3,7 +3,7 @@ use Rattle.std.proofs.Common.{◌≡◌, refl, sym, subst, ℕ, ◌≤◌, List,
 use Rattle.relay_outside.specs.declared.settings.Config.{Config}
 use Rattle.relay_outside.specs.declared.ports.InCall.{InCall}
 use Rattle.relay_outside.specs.declared.ports.OutCall.{OutCall}
-use Rattle.relay_outside.specs.Told.{EndTold}
+use Rattle.relay_outside.specs.DeviceLogs.{EndLog}
 use Rattle.turn_table.specs.declared.hands.Turns.{Turns}
 use Rattle.turn_table.specs.declared.hands.Hand.{Hand}
 use Rattle.turn_table.specs.Hands.{view, entries, IsGiven}
@@ -11,21 +11,21 @@ use Rattle.port_pool.specs.declared.holder.Holder.{Holder}
 use Rattle.port_pool.specs.declared.boxes.Opened.{Opened}
 use Rattle.port_pool.specs.Boxes.{BoxEvent, FitsBox, Open, holder}
 use Rattle.port_pool.specs.declared.boxes.PairBox.{PairBox}
-use Rattle.port_pool.specs.PairBoxes.{BoxFor, holder_of, ends_of, ends_in, at_of, cells_of}
+use Rattle.port_pool.specs.PairBoxes.{BoxFor, holder_of, pair_ends, ends_in, at_of, cells_of}
 use Rattle.relay_core.specs.declared.part.Part.{Part}
 use Rattle.relay_core.specs.declared.part.Part.TheVariants as part
 use Rattle.relay_core.specs.Entries.{Box, box_history, box_of}
-use Rattle.relay_core.specs.Made.{Made}
-use Rattle.relay_core.specs.Standing.{BoxIs}
+use Rattle.relay_core.specs.Records.{Made}
+use Rattle.relay_core.specs.PlaceHistories.{BoxIs}
 use Rattle.relay_core.specs.Steps.{Relates, IsReserved}
-use Rattle.relay_core.specs.Turning.{made_by}
+use Rattle.relay_core.specs.Turns.{made_by}
 use Rattle.relay_core.proofs.Given.{given_box}
 use Rattle.board_turns.proofs.Nesting.{above_rows}
-use Rattle.board_turns.specs.Nesting.{MayNest, IsShut, IsOpen, Opens, Shuts, nested}
-use Rattle.board_turns.specs.Taken.{CanOpen, CanShut, FitEnds, HasEnds}
+use Rattle.board_turns.specs.NestedSteps.{MayNest, IsShut, IsTurnOpen, OpensBox, Shuts, nested}
+use Rattle.board_turns.specs.BoxStates.{CanOpen, CanShut, FitEnds, HasEnds}
 
 -- a box without a holder has no ends
-pub no_ends : {I : Type 0} (o : Option (Opened I)) → holder_of o ≡ None → ends_of o ≡ None
+pub no_ends : {I : Type 0} (o : Option (Opened I)) → holder_of o ≡ None → pair_ends o ≡ None
 no_ends None q = refl
 no_ends (Some opened) q = absurd (let e : Some opened.holder ≡ None = q in cc)
 
@@ -41,7 +41,7 @@ module _ {I O : Type 0} where
   can_shut cells held (part.Pair box) is some = subst (λ (o : Option Holder). IsSome o) (sym is.0) some
 
 -- a shut box that is opened makes the step of an opening
-pub open_relates : {I O : Type 0} (it : I → EndTold InCall) (ic : I → ℕ) (ot : O → EndTold OutCall) (oc : O → ℕ) (x : Part I O) (old new : PairBox I) (leg : Holder)
+pub open_relates : {I O : Type 0} (it : I → EndLog InCall) (ic : I → ℕ) (ot : O → EndLog OutCall) (oc : O → ℕ) (x : Part I O) (old new : PairBox I) (leg : Holder)
     (rtp rtcp : I) (number handed : ℕ) → x ≡ part.Pair old → CanOpen leg x → FitEnds it x (rtp, rtcp)
     → ((h : List BoxEvent) → BoxFor old h → FitsBox h (Open leg) × BoxFor new (Open leg ∷ h)) → ends_in new ≡ Some (rtp, rtcp) → cells_of new ≡ cells_of old
     → at_of new ≡ at_of old → Relates it ic ot oc x (nested number handed 0 (Box (Open leg))) (part.Pair new)
@@ -57,7 +57,7 @@ open_relates {I = I} {O = O} it ic ot oc x old new leg rtp rtcp number handed is
       stands = history;
     })
 
-module _ {M I O T : Type 0} {g : _} (it : I → EndTold InCall) (ic : I → ℕ) (ot : O → EndTold OutCall) (oc : O → ℕ) where
+module _ {M I O T : Type 0} {g : _} (it : I → EndLog InCall) (ic : I → ℕ) (ot : O → EndLog OutCall) (oc : O → ℕ) where
   abbrev pub Gives : Hand M (Part I O) Made T g → ℕ → ℕ → Part I O → Type 0
   Gives hand place n x = IsGiven (λ (a : Part I O) (m : Made) (o : T) (b : Part I O). Relates it ic ot oc a m b) IsReserved hand place n x
 
@@ -77,7 +77,7 @@ module _ {M I O T : Type 0} {g : _} (it : I → EndTold InCall) (ic : I → ℕ)
       (box_given config turns hand leg.pair n x may there)) low high
 
   pub open_given : (config : Config) (turns : Turns M (Part I O) Made T) (hand : Hand M (Part I O) Made T g) (pair found n : ℕ) (x : Part I O)
-      → MayNest config turns hand → IsOpen (made_by hand) (box_of config pair) → found ≡ box_of config pair → Gives hand found n x → CanShut x
+      → MayNest config turns hand → IsTurnOpen (made_by hand) (box_of config pair) → found ≡ box_of config pair → Gives hand found n x → CanShut x
   open_given config turns hand pair found n x may held at given =
       let there : Gives hand (box_of config pair) n x = subst (λ (k : ℕ). Gives hand k n x) at given in
       can_shut config.max_sessions (holder (box_history (made_by hand) (box_of config pair) n)) x (box_given config turns hand pair n x may there)
@@ -104,7 +104,7 @@ module _ {M I O T : Type 0} {g : _} (it : I → EndTold InCall) (ic : I → ℕ)
       (subst (λ (k : ℕ). Gives hand k n now) at (subst (λ (z : Part I O). Gives hand found n z) (sym same) given)) relates has
 
   opened_by : (hand : Hand M (Part I O) Made T g) (place n : ℕ) (x y : Part I O) (made : Made) (ends : I × I) → Gives hand place n x
-      → Relates it ic ot oc x made y → HasEnds y ends → Opens it ic ot oc hand place made ends
+      → Relates it ic ot oc x made y → HasEnds y ends → OpensBox it ic ot oc hand place made ends
   opened_by hand place n (part.Pair old) (part.Pair new) made ends given relates has = record {
     old = old;
     new = new;
@@ -118,7 +118,7 @@ module _ {M I O T : Type 0} {g : _} (it : I → EndTold InCall) (ic : I → ℕ)
 
   -- the box that was opened has the ends that came
   pub opened_from : (hand : Hand M (Part I O) Made T g) (found place n : ℕ) (x now y : Part I O) (made : Made) (ends : I × I) → found ≡ place → now ≡ x
-      → Gives hand found n x → Relates it ic ot oc now made y → HasEnds y ends → Opens it ic ot oc hand place made ends
+      → Gives hand found n x → Relates it ic ot oc now made y → HasEnds y ends → OpensBox it ic ot oc hand place made ends
   opened_from hand found place n x now y made ends at same given relates has =
       opened_by hand place n now y made ends
       (subst (λ (k : ℕ). Gives hand k n now) at (subst (λ (z : Part I O). Gives hand found n z) (sym same) given)) relates has

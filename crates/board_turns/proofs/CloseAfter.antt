@@ -9,7 +9,7 @@ use Rattle.port_pool.specs.declared.pairs.Lease.{Lease}
 use Rattle.port_pool.specs.declared.holder.Holder.{Holder}
 use Rattle.call_board.specs.declared.board.Board.{Board}
 use Rattle.call_board.specs.Acts.{Call, BoardEntry}
-use Rattle.call_board.specs.Boards.{Shows, pairs_in}
+use Rattle.call_board.specs.Boards.{BoardMatches, pairs_in}
 use Rattle.call_board.specs.Pairs.{held, free, closed_of}
 use Rattle.call_board.specs.Returns.{MayReturnAll}
 use Rattle.call_board.specs.Views.{View, times_leased}
@@ -17,16 +17,16 @@ use Rattle.call_board.proofs.Held.{closed_of_held}
 use Rattle.call_board.proofs.Outs.{ended_return}
 use Rattle.relay_core.specs.Entries.{board_history, box_of}
 use Rattle.relay_core.specs.Legal.{Orderly}
-use Rattle.relay_core.specs.Made.{Made}
+use Rattle.relay_core.specs.Records.{Made}
 use Rattle.relay_core.specs.Scripts.{Owed}
-use Rattle.relay_core.specs.Turning.{IsAbove, GainsNested, made_by}
+use Rattle.relay_core.specs.Turns.{IsAbove, GainsNested, made_by}
 use Rattle.relay_core.proofs.Histories.{good_history}
 use Rattle.relay_core.proofs.Shut.{closed_open}
-use Rattle.media_ports.specs.Held.{TellsHeld}
-use Rattle.board_turns.specs.Nesting.{IsOpen}
-use Rattle.board_turns.specs.Leaving.{AreLeasesOf}
-use Rattle.board_turns.specs.Closing.{CanClose, leases_of}
-use Rattle.board_turns.specs.Ending.{leg_pairs}
+use Rattle.media_ports.specs.OpenPorts.{LogsHeld}
+use Rattle.board_turns.specs.NestedSteps.{IsTurnOpen}
+use Rattle.board_turns.specs.Departures.{AreLeasesOf}
+use Rattle.board_turns.specs.Closings.{CanClose, leases_of_legs}
+use Rattle.board_turns.specs.CallEnds.{leg_pairs}
 use Rattle.board_turns.proofs.Closed.{still_open}
 use Rattle.board_turns.proofs.Ended.{leases_are, pairs_are, ports_are}
 
@@ -35,18 +35,18 @@ not_box config cell pair w at high x (here q) is = let same = ap (λ (v : Owed).
 not_box config cell pair w at high x (there i) is = elim i [ ]
 
 module _ {M S T O : Type 0} {g : _} where
-  pub can_close_after : (config : Config) (n moment : ℕ) (old new : Hand M S Made T g) (e : BoardEntry) (of : Call) (w : Owed) (board : Board) (told : Option (List PortCall))
+  pub can_close_after : (config : Config) (n moment : ℕ) (old new : Hand M S Made T g) (e : BoardEntry) (of : Call) (w : Owed) (board : Board) (log : Option (List PortCall))
       (v : View) (gone : List (Lease × O × O)) → Orderly config (made_by old) → IsAbove (made_by old) 0 n → GainsNested n moment (w ∷ []) old new
-      → w.place ≡ of.cell → of.cell ≤ config.max_sessions → AreLeasesOf config gone (closed_of (board_history (made_by old) n) e of) → Shows config board v
+      → w.place ≡ of.cell → of.cell ≤ config.max_sessions → AreLeasesOf config gone (closed_of (board_history (made_by old) n) e of) → BoardMatches config board v
       → v.free ≡ free config (board_history (made_by old) n) → v.leases ≡ times_leased (board_history (made_by old) n)
-      → TellsHeld config told (leg_pairs (held (board_history (made_by old) n))) → CanClose config (made_by new) board told gone
-  can_close_after config n moment old new e of w board told v gone o above gains at high are shows free_is leases_is opens =
+      → LogsHeld config log (leg_pairs (held (board_history (made_by old) n))) → CanClose config (made_by new) board log gone
+  can_close_after config n moment old new e of w board log v gone o above gains at high are shows free_is leases_is opens =
       let l = made_by old in
       let h = board_history l n in
       let legs = closed_of h e of in
       let fits = good_history config l o n in
       let pairs = pairs_are config gone legs are in
-      let its = λ (pair : ℕ) (i : In pair (pairs_in (leases_of gone))). mapped (λ (leg : Holder). leg.pair) legs (subst (λ (ps : List ℕ). In pair ps) pairs i) in
+      let its = λ (pair : ℕ) (i : In pair (pairs_in (leases_of_legs gone))). mapped (λ (leg : Holder). leg.pair) legs (subst (λ (ps : List ℕ). In pair ps) pairs i) in
       record {
         view = v;
         shows = shows;
@@ -55,7 +55,7 @@ module _ {M S T O : Type 0} {g : _} where
         have_ports = ports_are config gone legs are;
         boxes_open = λ pair i.
             let m = its pair i in
-            subst (λ (p : ℕ). IsOpen (made_by new) (box_of config p)) m.makes
+            subst (λ (p : ℕ). IsTurnOpen (made_by new) (box_of config p)) m.makes
             (still_open n moment (box_of config m.from.pair) (w ∷ []) old new gains (not_box config of.cell m.from.pair w at high)
             (λ k a. subst (λ (x : Option Holder). IsSome x) (sym (closed_open config l o n k e of m.from above a m.is_in)) refl));
         held = leg_pairs (held h);

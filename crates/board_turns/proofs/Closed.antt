@@ -7,7 +7,7 @@ use Rattle.relay_outside.specs.declared.address.Ip.{Ip}
 use Rattle.relay_outside.specs.declared.ports.OutCall.{OutCall}
 use Rattle.relay_outside.specs.declared.ports.PortCall.{PortCall}
 use Rattle.relay_outside.specs.declared.settings.Config.{Config}
-use Rattle.relay_outside.specs.Told.{EndTold, WhereTold}
+use Rattle.relay_outside.specs.DeviceLogs.{EndLog, WhereLogged}
 use Rattle.turn_table.specs.declared.hands.Hand.{Hand}
 use Rattle.turn_table.specs.declared.machine.Entry as table
 use Rattle.turn_table.specs.Hands.{entries}
@@ -17,17 +17,17 @@ use Rattle.port_pool.specs.Boxes.{holder}
 use Rattle.port_pool.specs.declared.pairs.Lease.{Lease}
 use Rattle.call_board.specs.declared.board.Board.{Board}
 use Rattle.call_board.specs.Views.{View, with_returned}
-use Rattle.call_board.specs.Boards.{Shows, pairs_in}
+use Rattle.call_board.specs.Boards.{BoardMatches, pairs_in}
 use Rattle.call_board.proofs.Outs.{returns_next}
 use Rattle.relay_core.specs.Entries.{Entry, box_event, box_of}
 use Rattle.relay_core.specs.Scripts.{Owed, owed_by}
-use Rattle.relay_core.specs.Made.{Made, entry_of, list_of}
-use Rattle.relay_core.specs.Turning.{GainsNested, made_by}
+use Rattle.relay_core.specs.Records.{Made, entry_of, list_of}
+use Rattle.relay_core.specs.Turns.{GainsNested, made_by}
 use Rattle.relay_core.proofs.Gains.{gained_nothing}
 use Rattle.relay_core.proofs.Shut.{same_history}
-use Rattle.media_ports.specs.Held.{OpensHeld}
-use Rattle.board_turns.specs.Nesting.{IsOpen, closing_of}
-use Rattle.board_turns.specs.Closing.{CanClose, leases_of, closings_of, ClosesLegs, pairs_left}
+use Rattle.media_ports.specs.OpenPorts.{OpensHeld}
+use Rattle.board_turns.specs.NestedSteps.{IsTurnOpen, closing_of}
+use Rattle.board_turns.specs.Closings.{CanClose, leases_of_legs, closings_of, ClosesLegs, pairs_left}
 use Rattle.board_turns.proofs.Lefts.{has_left}
 
 -- What a hand's list gained.
@@ -52,7 +52,7 @@ module _ {M S T : Type 0} {g : _} where
   }
 
 -- where nothing was added at the place of a box, it is open still
-pub open_elsewhere : (l ns : List Entry) (place : ℕ) → ((e : Entry) → In e ns → e.place ≡ place → ⊥) → IsOpen l place → IsOpen (l ++ ns) place
+pub open_elsewhere : (l ns : List Entry) (place : ℕ) → ((e : Entry) → In e ns → e.place ≡ place → ⊥) → IsTurnOpen l place → IsTurnOpen (l ++ ns) place
 open_elsewhere l ns place elsewhere is_open n above =
     subst (λ (h : List Entry). IsSome (holder (filter_map box_event h))) (sym (same_history l ns place n elsewhere))
     (is_open n (λ e i p. above e (in_left l ns i) p))
@@ -64,9 +64,9 @@ placed_by events ns place owes elsewhere e i p = elsewhere (owed_by e) (subst (�
 
 module _ {M S T : Type 0} {g : _} where
   pub still_open : (number moment place : ℕ) (events : List Owed) (old new : Hand M S Made T g) → GainsNested number moment events old new →
-      ((w : Owed) → In w events → w.place ≡ place → ⊥) → IsOpen (made_by old) place → IsOpen (made_by new) place
+      ((w : Owed) → In w events → w.place ≡ place → ⊥) → IsTurnOpen (made_by old) place → IsTurnOpen (made_by new) place
   still_open number moment place events old new gains elsewhere is_open =
-      subst (λ (l : List Entry). IsOpen l place) (sym (list_gained number moment events old new gains))
+      subst (λ (l : List Entry). IsTurnOpen l place) (sym (list_gained number moment events old new gains))
       (open_elsewhere (made_by old) (list_of gains.rows) place (placed_by events (list_of gains.rows) place gains.gained.owes elsewhere) is_open)
 
 differs : (p pair : ℕ) (others : List ℕ) → has others p ≡ false → In pair others → p ≡ pair → ⊥
@@ -86,9 +86,9 @@ not_same p pair differ false is = refl
 -- The first leg, and the others after it.
 
 module _ {O : Type 0} where
-  pub first_can : (config : Config) (l : List Entry) (board : Board) (told : Option (List PortCall)) (leg : Lease × O × O) (gone : List (Lease × O × O)) →
-      CanClose config l board told (leg ∷ gone) → CanClose config l board told (leg ∷ [])
-  first_can config l board told leg gone can = record {
+  pub first_can : (config : Config) (l : List Entry) (board : Board) (log : Option (List PortCall)) (leg : Lease × O × O) (gone : List (Lease × O × O)) →
+      CanClose config l board log (leg ∷ gone) → CanClose config l board log (leg ∷ [])
+  first_can config l board log leg gone can = record {
     view = can.view;
     shows = can.shows;
     may_return = (can.may_return.0, refl, tt);
@@ -103,18 +103,18 @@ module _ {O : Type 0} where
       first_in (here q) = here q
       first_in (there i) = elim i [ ]
 
-  pub rest_can : {M S T : Type 0} {g : _} (config : Config) (number moment : ℕ) (old new : Hand M S Made T g) (before after : Board) (told told_new : Option (List PortCall))
-      (leg : Lease × O × O) (gone : List (Lease × O × O)) → CanClose config (made_by old) before told (leg ∷ gone) →
+  pub rest_can : {M S T : Type 0} {g : _} (config : Config) (number moment : ℕ) (old new : Hand M S Made T g) (before after : Board) (log told_new : Option (List PortCall))
+      (leg : Lease × O × O) (gone : List (Lease × O × O)) → CanClose config (made_by old) before log (leg ∷ gone) →
       GainsNested number moment (closings_of config (leg ∷ [])) old new →
-      ((config : Config) (v : View) → Shows config before v → Shows config after (with_returned v (leg.0.pair ∷ []))) →
-      ((held : List ℕ) → WhereTold told (λ calls. OpensHeld config calls held) → WhereTold told_new (λ calls. OpensHeld config calls (pairs_left (leg.0.pair ∷ []) held))) →
+      ((config : Config) (v : View) → BoardMatches config before v → BoardMatches config after (with_returned v (leg.0.pair ∷ []))) →
+      ((held : List ℕ) → WhereLogged log (λ calls. OpensHeld config calls held) → WhereLogged told_new (λ calls. OpensHeld config calls (pairs_left (leg.0.pair ∷ []) held))) →
       CanClose config (made_by new) after told_new gone
-  rest_can config number moment old new before after told told_new leg gone can gains returned opens =
-      let apart = λ (pair : ℕ) (i : In pair (pairs_in (leases_of gone))). differs leg.0.pair pair (pairs_in (leases_of gone)) can.may_return.1 i in
+  rest_can config number moment old new before after log told_new leg gone can gains returned opens =
+      let apart = λ (pair : ℕ) (i : In pair (pairs_in (leases_of_legs gone))). differs leg.0.pair pair (pairs_in (leases_of_legs gone)) can.may_return.1 i in
       record {
         view = with_returned can.view (leg.0.pair ∷ []);
         shows = returned config can.view can.shows;
-        may_return = returns_next config can.view leg.0 (leases_of gone) can.may_return;
+        may_return = returns_next config can.view leg.0 (leases_of_legs gone) can.may_return;
         have_ports = can.have_ports.1;
         boxes_open = λ pair i. still_open number moment (box_of config pair) (closings_of config (leg ∷ [])) old new gains
             (other_box config leg.0.pair pair (apart pair i)) (can.boxes_open pair (there i));
@@ -130,10 +130,10 @@ module _ {O : Type 0} where
   pub closings_more : (config : Config) (some more : List (Lease × O × O)) → closings_of config (some ++ more) ≡ closings_of config some ++ closings_of config more
   closings_more config some more = map-append (λ (leg : Lease × O × O). closing_of config leg.0.pair) some more
 
-  pub pairs_more : (some more : List (Lease × O × O)) → pairs_in (leases_of (some ++ more)) ≡ pairs_in (leases_of some) ++ pairs_in (leases_of more)
-  pairs_more some more = ap pairs_in (map-append (λ (leg : Lease × O × O). leg.0) some more) ∙ map-append (λ (lease : Lease). lease.pair) (leases_of some) (leases_of more)
+  pub pairs_more : (some more : List (Lease × O × O)) → pairs_in (leases_of_legs (some ++ more)) ≡ pairs_in (leases_of_legs some) ++ pairs_in (leases_of_legs more)
+  pairs_more some more = ap pairs_in (map-append (λ (leg : Lease × O × O). leg.0) some more) ∙ map-append (λ (lease : Lease). lease.pair) (leases_of_legs some) (leases_of_legs more)
 
-  pub closes_more : (sent : O → EndTold OutCall) (interface : Ip) (some more : List (Lease × O × O)) (xs ys : List PortCall) →
+  pub closes_more : (sent : O → EndLog OutCall) (interface : Ip) (some more : List (Lease × O × O)) (xs ys : List PortCall) →
       ClosesLegs sent interface some xs → ClosesLegs sent interface more ys → ClosesLegs sent interface (some ++ more) (xs ++ ys)
   closes_more sent interface [] more xs ys first second = subst (λ (zs : List PortCall). ClosesLegs sent interface more (zs ++ ys)) (sym first) second
   closes_more sent interface (leg ∷ some) more xs ys first second = (

@@ -14,17 +14,17 @@ use Rattle.call_board.specs.Acts.{Call, Act, Control, Turn, Tick, Stop, BoardEve
 use Rattle.call_board.specs.Calls.{live, ended_by, ended_in, ended_by_act}
 use Rattle.call_board.specs.Fits.{IsFitting}
 use Rattle.call_board.specs.Pairs.{held, closed_of, closes_leg, closes_leg_act, legs_of_act}
-use Rattle.call_board.specs.Views.{View, view_of, at_moment}
+use Rattle.call_board.specs.Views.{View, view_of, view_at_moment}
 use Rattle.relay_core.specs.declared.part.Part.{Part}
 use Rattle.relay_core.specs.Entries.{Entry, board_history}
-use Rattle.relay_core.specs.Made.{Made}
+use Rattle.relay_core.specs.Records.{Made}
 use Rattle.relay_core.specs.Scripts.{script, script_of, script_of_act, ending}
-use Rattle.relay_core.specs.Turning.{made_by}
+use Rattle.relay_core.specs.Turns.{made_by}
 use Rattle.relay_core.proofs.Turns.{nothing_more}
 use Rattle.board_turns.specs.declared.board_turn.BoardEntryId.{BoardEntryId}
-use Rattle.board_turns.specs.Closing.{pairs_left}
-use Rattle.board_turns.specs.Ending.{CanEnd, leg_pairs, with_end}
-use Rattle.board_turns.specs.Acting.{acted, InTurn}
+use Rattle.board_turns.specs.Closings.{pairs_left}
+use Rattle.board_turns.specs.CallEnds.{CanEnd, leg_pairs, with_call_ended}
+use Rattle.board_turns.specs.Acts.{acted, InTurn}
 use Rattle.call_board.proofs.Free.{held_once}
 use Rattle.board_turns.proofs.Lefts.{told_alike, left_none}
 use Rattle.board_turns.proofs.Next.{next_can}
@@ -108,20 +108,20 @@ deleted_owes config h e of is = owes_by config h e e.event of is
 
 -- what it makes of what the board keeps
 pub deleted_acts : (h : List BoardEntry) (e : BoardEntry) (of : Call) (v : View) → act e ≡ act.Deleted of
-    → acted h e (act e) v ≡ with_end v of.number (closed_of h e of)
+    → acted h e (act e) v ≡ with_call_ended v of.number (closed_of h e of)
 deleted_acts h e of v is = ap (λ (a : Act). acted h e a v) is
 
 -- It may be done.
 
 module _ {M I O T : Type 0} {g : _} where
   -- the call may be ended for any entry that ends it
-  pub may_delete : (config : Config) (turns : Turns M (Part I O) Made T) (hand : Hand M (Part I O) Made T g) (entry_id : BoardEntryId) (board : Board) (told : Option (List PortCall))
-      (e : BoardEntry) (of : Call) → InTurn config turns hand entry_id board told → In of (live (board_history (made_by hand) entry_id.number)) → In of (ended_by e)
-      → CanEnd config (made_by hand) board told of.number of (closed_of (board_history (made_by hand) entry_id.number) e of)
-  may_delete config turns hand entry_id board told e of turn alive ends =
+  pub may_delete : (config : Config) (turns : Turns M (Part I O) Made T) (hand : Hand M (Part I O) Made T g) (entry_id : BoardEntryId) (board : Board) (log : Option (List PortCall))
+      (e : BoardEntry) (of : Call) → InTurn config turns hand entry_id board log → In of (live (board_history (made_by hand) entry_id.number)) → In of (ended_by e)
+      → CanEnd config (made_by hand) board log of.number of (closed_of (board_history (made_by hand) entry_id.number) e of)
+  may_delete config turns hand entry_id board log e of turn alive ends =
       let l = made_by hand in
       let h = board_history l entry_id.number in
-      subst (λ (k : List Entry). CanEnd config k board told of.number of (closed_of h e of)) (nothing_more l)
-      (next_can config l [] turn.orderly entry_id.number e [] of board told turn.above alive ends (λ i. elim i [ ]) (λ d i. elim i [ ]) refl
-      (at_moment (view_of config h) entry_id.moment) refl refl refl turn.shows
-      (told_alike config told (leg_pairs (held h)) (pairs_left [] (leg_pairs (held h))) (left_none (leg_pairs (held h))) turn.opens))
+      subst (λ (k : List Entry). CanEnd config k board log of.number of (closed_of h e of)) (nothing_more l)
+      (next_can config l [] turn.orderly entry_id.number e [] of board log turn.above alive ends (λ i. elim i [ ]) (λ d i. elim i [ ]) refl
+      (view_at_moment (view_of config h) entry_id.moment) refl refl refl turn.shows
+      (told_alike config log (leg_pairs (held h)) (pairs_left [] (leg_pairs (held h))) (left_none (leg_pairs (held h))) turn.opens))

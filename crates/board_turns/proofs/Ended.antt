@@ -13,18 +13,18 @@ use Rattle.call_cell.specs.Cells.{End}
 use Rattle.call_board.specs.Acts.{Call}
 use Rattle.call_board.specs.declared.board.Board.{Board}
 use Rattle.call_board.specs.Views.{View, CallView, call_numbered, without_call}
-use Rattle.call_board.specs.Boards.{Shows, CellsApart, pairs_in}
+use Rattle.call_board.specs.Boards.{BoardMatches, CellsApart, pairs_in}
 use Rattle.call_board.specs.Returns.{leg_lease, MayReturnAll}
 use Rattle.relay_core.specs.Entries.{Entry, box_of}
 use Rattle.relay_core.specs.Scripts.{Owed, closing}
-use Rattle.relay_core.specs.Made.{Made}
-use Rattle.relay_core.specs.Turning.{IsAbove, GainsNested, made_by}
+use Rattle.relay_core.specs.Records.{Made}
+use Rattle.relay_core.specs.Turns.{IsAbove, GainsNested, made_by}
 use Rattle.media_ports.specs.Addresses.{HavePorts}
-use Rattle.board_turns.specs.Nesting.{IsOpen, closing_of}
+use Rattle.board_turns.specs.NestedSteps.{IsTurnOpen, closing_of}
 use Rattle.board_turns.specs.InCells.{in_cell_of}
-use Rattle.board_turns.specs.Leaving.{AreLeasesOf, AllWent}
-use Rattle.board_turns.specs.Closing.{CanClose, leases_of, closings_of}
-use Rattle.board_turns.specs.Ending.{CanEnd, leg_pairs}
+use Rattle.board_turns.specs.Departures.{AreLeasesOf, AllRemoved}
+use Rattle.board_turns.specs.Closings.{CanClose, leases_of_legs, closings_of}
+use Rattle.board_turns.specs.CallEnds.{CanEnd, leg_pairs}
 use Rattle.board_turns.proofs.Closed.{still_open}
 
 lease_alike : (a b : Lease) → a.pair ≡ b.pair → a.rtp_port ≡ b.rtp_port → a.generation ≡ b.generation → a ≡ b
@@ -32,7 +32,7 @@ lease_alike a b p q r = λ i. record { pair = p i; rtp_port = q i; generation = 
 
 module _ {O : Type 0} where
   -- the leases that went are those of the legs
-  pub leases_are : (config : Config) (gone : List (Lease × O × O)) (legs : List Holder) → AreLeasesOf config gone legs → leases_of gone ≡ map (leg_lease config) legs
+  pub leases_are : (config : Config) (gone : List (Lease × O × O)) (legs : List Holder) → AreLeasesOf config gone legs → leases_of_legs gone ≡ map (leg_lease config) legs
   leases_are config [] [] are = refl
   leases_are config [] (leg ∷ legs) are = absurd are
   leases_are config (went ∷ gone) [] are = absurd are
@@ -41,7 +41,7 @@ module _ {O : Type 0} where
       let rest = leases_are config gone legs are.1 in
       λ i. first i ∷ rest i
 
-  pub pairs_are : (config : Config) (gone : List (Lease × O × O)) (legs : List Holder) → AreLeasesOf config gone legs → pairs_in (leases_of gone) ≡ leg_pairs legs
+  pub pairs_are : (config : Config) (gone : List (Lease × O × O)) (legs : List Holder) → AreLeasesOf config gone legs → pairs_in (leases_of_legs gone) ≡ leg_pairs legs
   pairs_are config [] [] are = refl
   pairs_are config [] (leg ∷ legs) are = absurd are
   pairs_are config (went ∷ gone) [] are = absurd are
@@ -59,25 +59,25 @@ module _ {O : Type 0} where
       let rest = closings_are config gone legs are.1 in
       λ i. first i ∷ rest i
 
-  pub ports_are : (config : Config) (gone : List (Lease × O × O)) (legs : List Holder) → AreLeasesOf config gone legs → HavePorts config (leases_of gone)
+  pub ports_are : (config : Config) (gone : List (Lease × O × O)) (legs : List Holder) → AreLeasesOf config gone legs → HavePorts config (leases_of_legs gone)
   ports_are config [] [] are = tt
   ports_are config [] (leg ∷ legs) are = absurd are
   ports_are config (went ∷ gone) [] are = absurd are
   ports_are config (went ∷ gone) (leg ∷ legs) are = (are.0.port ∙ ap (pair_port config) (sym are.0.pair), ports_are config gone legs are.1)
 
   -- the legs that went from the cell are those of the call
-  pub went_are : (config : Config) (l : List Entry) (board : Board) (told : Option (List PortCall)) (call : ℕ) (of : Call) (legs : List Holder) (cell n : ℕ)
-      (gone : List (Lease × O × O)) → CanEnd config l board told call of legs → cell ≡ of.cell → AllWent config l cell gone → IsAbove l cell n → AreLeasesOf config gone legs
-  went_are config l board told call of legs cell n gone can is went above =
+  pub went_are : (config : Config) (l : List Entry) (board : Board) (log : Option (List PortCall)) (call : ℕ) (of : Call) (legs : List Holder) (cell n : ℕ)
+      (gone : List (Lease × O × O)) → CanEnd config l board log call of legs → cell ≡ of.cell → AllRemoved config l cell gone → IsAbove l cell n → AreLeasesOf config gone legs
+  went_are config l board log call of legs cell n gone can is went above =
       let there_above : IsAbove l of.cell n = subst (λ (k : ℕ). IsAbove l k n) is above in
-      let there_went : AllWent config l of.cell gone = subst (λ (k : ℕ). AllWent config l k gone) is went in
+      let there_went : AllRemoved config l of.cell gone = subst (λ (k : ℕ). AllRemoved config l k gone) is went in
       subst (λ (ls : List Holder). AreLeasesOf config gone ls) (can.legs_are n there_above) (there_went n there_above)
 
 -- the board's answer is the cell of the call
-pub cell_is : (config : Config) (l : List Entry) (board : Board) (told : Option (List PortCall)) (call : ℕ) (of : Call) (legs : List Holder) (cell : ℕ) →
-    CanEnd config l board told call of legs →
-    ((config : Config) (v : View) → Shows config board v → option_map (λ (c : CallView). c.of.cell) (call_numbered v call) ≡ Some cell) → cell ≡ of.cell
-cell_is config l board told call of legs cell can answers =
+pub cell_is : (config : Config) (l : List Entry) (board : Board) (log : Option (List PortCall)) (call : ℕ) (of : Call) (legs : List Holder) (cell : ℕ) →
+    CanEnd config l board log call of legs →
+    ((config : Config) (v : View) → BoardMatches config board v → option_map (λ (c : CallView). c.of.cell) (call_numbered v call) ≡ Some cell) → cell ≡ of.cell
+cell_is config l board log call of legs cell can answers =
     let found : Some can.seen.of.cell ≡ Some cell = sym (ap (option_map (λ (c : CallView). c.of.cell)) can.found) ∙ answers config can.view can.shows in
     let same : can.seen.of.cell ≡ cell = cc in
     sym same ∙ ap (λ (c : Call). c.cell) can.of_is
@@ -88,14 +88,14 @@ not_box config cell pair high w (there i) at = elim i [ ]
 
 module _ {M S T O : Type 0} {g : _} where
   -- its legs may be closed when it has ended
-  pub can_close : (config : Config) (number moment : ℕ) (old new : Hand M S Made T g) (before after : Board) (told : Option (List PortCall)) (call : ℕ) (of : Call) (legs : List Holder)
-      (cell : ℕ) (gone : List (Lease × O × O)) → CanEnd config (made_by old) before told call of legs → cell ≡ of.cell →
+  pub can_close : (config : Config) (number moment : ℕ) (old new : Hand M S Made T g) (before after : Board) (log : Option (List PortCall)) (call : ℕ) (of : Call) (legs : List Holder)
+      (cell : ℕ) (gone : List (Lease × O × O)) → CanEnd config (made_by old) before log call of legs → cell ≡ of.cell →
       GainsNested number moment (in_cell_of cell End ∷ []) old new →
-      ((config : Config) (v : View) → Shows config before v → CellsApart v.calls → Shows config after (without_call v call)) →
-      AreLeasesOf config gone legs → CanClose config (made_by new) after told gone
-  can_close config number moment old new before after told call of legs cell gone can is gains ended are =
+      ((config : Config) (v : View) → BoardMatches config before v → CellsApart v.calls → BoardMatches config after (without_call v call)) →
+      AreLeasesOf config gone legs → CanClose config (made_by new) after log gone
+  can_close config number moment old new before after log call of legs cell gone can is gains ended are =
       let pairs = pairs_are config gone legs are in
-      let its = λ (pair : ℕ) (i : In pair (pairs_in (leases_of gone))). mapped (λ (leg : Holder). leg.pair) legs (subst (λ (ps : List ℕ). In pair ps) pairs i) in
+      let its = λ (pair : ℕ) (i : In pair (pairs_in (leases_of_legs gone))). mapped (λ (leg : Holder). leg.pair) legs (subst (λ (ps : List ℕ). In pair ps) pairs i) in
       let high = can.high in
       record {
         view = without_call can.view call;
@@ -103,7 +103,7 @@ module _ {M S T O : Type 0} {g : _} where
         may_return = subst (λ (leases : List Lease). MayReturnAll config (without_call can.view call) leases) (sym (leases_are config gone legs are)) can.may_return;
         have_ports = ports_are config gone legs are;
         boxes_open = λ pair i. still_open number moment (box_of config pair) (in_cell_of cell End ∷ []) old new gains (not_box config cell pair (omega (arith, high, is)))
-            (subst (λ (p : ℕ). IsOpen (made_by old) (box_of config p)) (its pair i).makes (can.boxes_open (its pair i).from (its pair i).is_in));
+            (subst (λ (p : ℕ). IsTurnOpen (made_by old) (box_of config p)) (its pair i).makes (can.boxes_open (its pair i).from (its pair i).is_in));
         held = can.held;
         opens = can.opens;
         are_held = λ pair i. subst (λ (p : ℕ). has can.held p ≡ true) (its pair i).makes (can.are_held (its pair i).from (its pair i).is_in);

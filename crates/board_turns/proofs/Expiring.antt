@@ -7,17 +7,17 @@ use Rattle.relay_outside.specs.declared.ports.PortCall.{PortCall}
 use Rattle.relay_outside.specs.declared.settings.Config.{Config}
 use Rattle.relay_outside.specs.declared.ports.InCall.{InCall}
 use Rattle.relay_outside.specs.declared.ports.OutCall.{OutCall}
-use Rattle.relay_outside.specs.Told.{EndTold}
+use Rattle.relay_outside.specs.DeviceLogs.{EndLog}
 use Rattle.turn_table.specs.declared.hands.Hand.{Hand}
 use Rattle.turn_table.specs.Hands.{view, entries, starts, parts}
 use Rattle.histories.specs.Words.{In, here, there}
 use Rattle.histories.proofs.Lists.{in_left, filtered, maps}
 use Rattle.port_pool.specs.declared.holder.Holder.{Holder}
 use Rattle.call_cell.specs.Cells.{CellEntry, Expire, since_end, legs}
-use Rattle.call_cell.specs.Lasting.{is_lasting, kept}
-use Rattle.call_cell.specs.Asked.{is_due}
-use Rattle.call_cell.specs.CellStanding.{CellFor, last_moment}
-use Rattle.call_cell.specs.Expiring.{CellExpires, due_by, with_moment}
+use Rattle.call_cell.specs.SignalEntries.{is_lasting, lasting_entries}
+use Rattle.call_cell.specs.Demands.{is_due}
+use Rattle.call_cell.specs.CellHistories.{CellFor, cell_last_moment}
+use Rattle.call_cell.specs.Expiries.{CellExpires, due_by, with_moment}
 use Rattle.call_cell.specs.declared.cell.Cell as cell
 use Rattle.call_cell.proofs.Asking.{cell_expires}
 use Rattle.call_cell.proofs.Nested.{legs_kept}
@@ -25,14 +25,14 @@ use Rattle.call_cell.proofs.NewKeys.{brings_same}
 use Rattle.call_board.specs.Acts.{Call}
 use Rattle.call_board.specs.declared.board.Board.{Board}
 use Rattle.call_board.specs.Views.{View, CallView}
-use Rattle.call_board.specs.Boards.{Shows}
+use Rattle.call_board.specs.Boards.{BoardMatches}
 use Rattle.relay_core.specs.Entries as event
 use Rattle.relay_core.specs.Entries.{Event, Cell, Box, Entry, is_at, cell_at, cell_entry, cell_history, history, box_of}
 use Rattle.relay_core.specs.Scripts.{Owed, owed_by}
-use Rattle.relay_core.specs.Made.{Made, list_of}
-use Rattle.relay_core.specs.Turning.{IsAbove, GainsNested, Numbered, made_by}
-use Rattle.relay_core.specs.Beginning.{AreParts}
-use Rattle.relay_core.specs.Standing.{Stands}
+use Rattle.relay_core.specs.Records.{Made, list_of}
+use Rattle.relay_core.specs.Turns.{IsAbove, GainsNested, Numbered, made_by}
+use Rattle.relay_core.specs.FirstPlaces.{AreParts}
+use Rattle.relay_core.specs.PlaceHistories.{Stands}
 use Rattle.relay_core.specs.declared.part.Part.{Part}
 use Rattle.relay_core.specs.declared.part.Part.TheVariants as part
 use Rattle.relay_core.proofs.Given.{given_whole_cell}
@@ -42,8 +42,8 @@ use Rattle.relay_core.proofs.Lasting.{lasts}
 use Rattle.relay_core.proofs.Turns.{filter_append, nothing_more}
 use Rattle.board_turns.specs.InCells.{Expires, HasNewKeys, in_cell_of}
 use Rattle.board_turns.proofs.Nesting.{above_rows}
-use Rattle.board_turns.specs.Ending.{CanEnd}
-use Rattle.board_turns.specs.Ticking.{CanExpire, IsDueBy}
+use Rattle.board_turns.specs.CallEnds.{CanEnd}
+use Rattle.board_turns.specs.Ticks.{CanExpire, IsDueBy}
 use Rattle.board_turns.proofs.Closed.{list_gained, open_elsewhere}
 use Rattle.board_turns.proofs.Stopped.{calls_long, get_map}
 use Rattle.board_turns.proofs.Tying.{NothingLeaves}
@@ -51,17 +51,17 @@ use Rattle.board_turns.proofs.Tying.{NothingLeaves}
 -- The lasting entries of a cell, where others come.
 
 abbrev lasting_of : List Entry → List CellEntry
-lasting_of xs = kept (filter_map cell_entry xs)
+lasting_of xs = lasting_entries (filter_map cell_entry xs)
 
 lasting_both : (xs ys : List Entry) → lasting_of (xs ++ ys) ≡ lasting_of xs ++ lasting_of ys
 lasting_both xs ys =
-    ap kept (filter_map-append cell_entry xs ys)
+    ap lasting_entries (filter_map-append cell_entry xs ys)
     ∙ filter-append (λ (e : CellEntry). is_lasting e.event) (filter_map cell_entry xs) (filter_map cell_entry ys)
 
-passing_event : (moment : ℕ) (v : Event) (rest : List CellEntry) → lasts v ≡ false → kept (cons_option (cell_at moment v) rest) ≡ kept rest
+passing_event : (moment : ℕ) (v : Event) (rest : List CellEntry) → lasts v ≡ false → lasting_entries (cons_option (cell_at moment v) rest) ≡ lasting_entries rest
 passing_event moment (event.Board b) rest passes = refl
 passing_event moment (Box b) rest passes = refl
-passing_event moment (Cell c) rest passes = ap (λ (b : Bool). cond b (record { moment = moment; event = c } ∷ kept rest) (kept rest)) passes
+passing_event moment (Cell c) rest passes = ap (λ (b : Bool). cond b (record { moment = moment; event = c } ∷ lasting_entries rest) (lasting_entries rest)) passes
 
 none_lasts : (xs : List Entry) → ((x : Entry) → In x xs → lasts x.event ≡ false) → lasting_of xs ≡ []
 none_lasts [] passes = refl
@@ -70,11 +70,11 @@ none_lasts (x ∷ xs) passes =
 
 -- entries that do not last change nothing of what lasts
 pub still_lasting : (l ns : List Entry) (place n : ℕ) → ((x : Entry) → In x ns → x.place ≡ place → lasts x.event ≡ false)
-    → kept (cell_history (l ++ ns) place n) ≡ kept (cell_history l place n)
+    → lasting_entries (cell_history (l ++ ns) place n) ≡ lasting_entries (cell_history l place n)
 still_lasting l ns place zero passes = refl
 still_lasting l ns place (suc n) passes =
     lasting_both (filter (is_at place n) (l ++ ns)) (history (l ++ ns) place n)
-    ∙ ap (λ (es : List CellEntry). es ++ kept (cell_history (l ++ ns) place n))
+    ∙ ap (λ (es : List CellEntry). es ++ lasting_entries (cell_history (l ++ ns) place n))
     (ap lasting_of (filter_append (is_at place n) l ns)
     ∙ lasting_both (filter (is_at place n) l) (filter (is_at place n) ns)
     ∙ ap (λ (es : List CellEntry). lasting_of (filter (is_at place n) l) ++ es)
@@ -85,10 +85,10 @@ still_lasting l ns place (suc n) passes =
 
 -- The call may still be ended.
 
-pub still_can : (config : Config) (l ns : List Entry) (board : Board) (told : Option (List PortCall)) (call : ℕ) (of : Call) (legs : List Holder)
-    → CanEnd config l board told call of legs → ((x : Entry) → In x ns → x.place ≡ of.cell → lasts x.event ≡ false)
-    → ((x : Entry) → In x ns → (pair : ℕ) → x.place ≡ box_of config pair → ⊥) → CanEnd config (l ++ ns) board told call of legs
-still_can config l ns board told call of its can passes apart =
+pub still_can : (config : Config) (l ns : List Entry) (board : Board) (log : Option (List PortCall)) (call : ℕ) (of : Call) (legs : List Holder)
+    → CanEnd config l board log call of legs → ((x : Entry) → In x ns → x.place ≡ of.cell → lasts x.event ≡ false)
+    → ((x : Entry) → In x ns → (pair : ℕ) → x.place ≡ box_of config pair → ⊥) → CanEnd config (l ++ ns) board log call of legs
+still_can config l ns board log call of its can passes apart =
     let before = λ (m : ℕ) (a : IsAbove (l ++ ns) of.cell m). let b : IsAbove l of.cell m = (λ x i p. a x (in_left l ns i) p) in b in
     let same = λ (m : ℕ). still_lasting l ns of.cell m passes in
     record {
@@ -120,30 +120,30 @@ only_one w ns owes x i = by_case (subst (λ (ws : List Owed). In (owed_by x) ws)
     by_case (there j) = elim j [ ]
 
 module _ {M S T : Type 0} {g : _} where
-  pub asked_can : (config : Config) (number moment cell : ℕ) (due : Bool) (old new : Hand M S Made T g) (board : Board) (told : Option (List PortCall)) (call : ℕ) (of : Call) (legs : List Holder)
-      → CanEnd config (made_by old) board told of.number of legs → call ≡ of.number → cell ≡ of.cell
-      → GainsNested number moment (in_cell_of cell (Expire due) ∷ []) old new → CanEnd config (made_by new) board told call of legs
-  asked_can config number moment cell due old new board told call of legs can call_is cell_is gains =
+  pub asked_can : (config : Config) (number moment cell : ℕ) (due : Bool) (old new : Hand M S Made T g) (board : Board) (log : Option (List PortCall)) (call : ℕ) (of : Call) (legs : List Holder)
+      → CanEnd config (made_by old) board log of.number of legs → call ≡ of.number → cell ≡ of.cell
+      → GainsNested number moment (in_cell_of cell (Expire due) ∷ []) old new → CanEnd config (made_by new) board log call of legs
+  asked_can config number moment cell due old new board log call of legs can call_is cell_is gains =
       let w = in_cell_of cell (Expire due) in
       let ns = list_of gains.rows in
       let is = only_one w ns gains.gained.owes in
       let high = can.high in
-      subst (λ (k : ℕ). CanEnd config (made_by new) board told k of legs) (sym call_is)
-      (subst (λ (l : List Entry). CanEnd config l board told of.number of legs) (sym (list_gained number moment (w ∷ []) old new gains))
-      (still_can config (made_by old) ns board told of.number of legs can (λ x i p. ap (λ (v : Owed). lasts v.event) (is x i))
+      subst (λ (k : ℕ). CanEnd config (made_by new) board log k of legs) (sym call_is)
+      (subst (λ (l : List Entry). CanEnd config l board log of.number of legs) (sym (list_gained number moment (w ∷ []) old new gains))
+      (still_can config (made_by old) ns board log of.number of legs can (λ x i p. ap (λ (v : Owed). lasts v.event) (is x i))
       (λ x i pair p. let place = ap (λ (v : Owed). v.place) (is x i) in omega (arith, place, cell_is, high, p))))
 
 -- What the cell of a hand with all parts returns follows from its whole history.
 
 -- the answer for one history of a cell is that for each
 answer_same : {O : Type 0} (config : Config) (old new : cell.Cell O) (h k : List CellEntry) (now : ℕ) (due : Bool) → CellFor config old h → CellFor config old k
-    → CellExpires config old new h now due → due ≡ is_due config (since_end k) (max now (last_moment k))
+    → CellExpires config old new h now due → due ≡ is_due config (since_end k) (max now (cell_last_moment k))
 answer_same config old new h k now due one two does =
     let moment = max old.moment now in
     let answer = due_by (with_moment old moment) moment in
     does.fits ∙ sym (cell_expires config old h now moment answer one refl refl).fits ∙ (cell_expires config old k now moment answer two refl refl).fits
 
-module _ {M I O T : Type 0} {g : _} (it : I → EndTold InCall) (ic : I → ℕ) (ot : O → EndTold OutCall) (oc : O → ℕ) where
+module _ {M I O T : Type 0} {g : _} (it : I → EndLog InCall) (ic : I → ℕ) (ot : O → EndLog OutCall) (oc : O → ℕ) where
   pub due_by_whole : (config : Config) (hand : Hand M (Part I O) Made T g) (place now : ℕ) (due : Bool) → AreParts config (starts hand) → Numbered (made_by hand)
       → 1 ≤ place → place ≤ config.max_sessions → HasNewKeys (made_by hand) place → parts hand ≡ 1024 → Expires it ic ot oc config hand place now due
       → IsDueBy config (made_by hand) place now due
@@ -180,20 +180,20 @@ below [] i x at = absurd (let q = at in cc)
 below (y ∷ ys) zero x at = omega arith
 below (y ∷ ys) (suc i) x at = let rest = below ys i x at in omega (arith, rest)
 
-module _ (config : Config) (l : List Entry) (board : Board) (told : Option (List PortCall)) (index : ℕ) (of : Call) (legs : List Holder) (asks : CanExpire config l board told index of legs) where
+module _ (config : Config) (l : List Entry) (board : Board) (log : Option (List PortCall)) (index : ℕ) (of : Call) (legs : List Holder) (asks : CanExpire config l board log index of legs) where
   pub index_below : index < length board.calls.list
   index_below =
       let long = calls_long config board.calls.list asks.view.calls asks.shows.calls_for in
       let low = below asks.view.calls index asks.seen asks.at in
       omega (arith, long, low)
 
-  pub number_there : (call : ℕ) → ((config : Config) (v : View) → Shows config board v → slice_get (map (λ (c : CallView). c.of.number) v.calls) index ≡ Some call) → call ≡ of.number
+  pub number_there : (call : ℕ) → ((config : Config) (v : View) → BoardMatches config board v → slice_get (map (λ (c : CallView). c.of.number) v.calls) index ≡ Some call) → call ≡ of.number
   number_there call answers =
       let found : Some asks.seen.of.number ≡ Some call = sym (get_map (λ (c : CallView). c.of.number) asks.view.calls index asks.seen asks.at) ∙ answers config asks.view asks.shows in
       let same : asks.seen.of.number ≡ call = cc in
       sym same ∙ ap (λ (c : Call). c.number) asks.of_is
 
-  pub cell_there : (cell : ℕ) → ((config : Config) (v : View) → Shows config board v → slice_get (map (λ (c : CallView). c.of.cell) v.calls) index ≡ Some cell) → cell ≡ of.cell
+  pub cell_there : (cell : ℕ) → ((config : Config) (v : View) → BoardMatches config board v → slice_get (map (λ (c : CallView). c.of.cell) v.calls) index ≡ Some cell) → cell ≡ of.cell
   cell_there cell answers =
       let found : Some asks.seen.of.cell ≡ Some cell = sym (get_map (λ (c : CallView). c.of.cell) asks.view.calls index asks.seen asks.at) ∙ answers config asks.view asks.shows in
       let same : asks.seen.of.cell ≡ cell = cc in

@@ -3,7 +3,7 @@ use Rattle.std.proofs.Common.{◌≡◌, refl, sym, ◌∙◌, ap, subst, ℕ, z
 use Rattle.std.specs.List.{AllPairs, filter_map}
 use Rattle.relay_outside.specs.declared.ports.OutCall.{OutCall}
 use Rattle.relay_outside.specs.declared.settings.Config.{Config}
-use Rattle.relay_outside.specs.Told.{EndTold}
+use Rattle.relay_outside.specs.DeviceLogs.{EndLog}
 use Rattle.histories.specs.Words.{In, here, there}
 use Rattle.histories.proofs.Lists.{maps}
 use Rattle.turn_table.specs.declared.hands.Hand.{Hand}
@@ -14,15 +14,15 @@ use Rattle.port_pool.specs.Boxes.{holder}
 use Rattle.call_cell.specs.declared.leg.Leg.{Leg}
 use Rattle.call_cell.specs.declared.prepare.Prepare as prepared
 use Rattle.call_cell.specs.Cells.{CellEvent, CellEntry, key_numbered, since_end}
-use Rattle.call_cell.specs.Committing.{contexts_due_after}
-use Rattle.call_cell.specs.Preparing.{CanCome, AreTwo, PrepareFor, added}
+use Rattle.call_cell.specs.Commits.{contexts_due_after}
+use Rattle.call_cell.specs.Preparations.{CanCome, AreTwo, PrepareFor, added}
 use Rattle.relay_core.specs.Entries.{Entry, history, cell_history, box_event, cell_entry}
-use Rattle.relay_core.specs.Made.{Made}
-use Rattle.relay_core.specs.Standing.{BringsNewKeys}
+use Rattle.relay_core.specs.Records.{Made}
+use Rattle.relay_core.specs.PlaceHistories.{BringsNewKeys}
 use Rattle.relay_core.specs.Steps.{AreOpened}
-use Rattle.relay_core.specs.Turning.{GainsNested, made_by}
-use Rattle.board_turns.specs.Nesting.{IsShut}
-use Rattle.board_turns.specs.InCells.{HasNewKeys, CanPrepare, HasRoom, in_cell_of}
+use Rattle.relay_core.specs.Turns.{GainsNested, made_by}
+use Rattle.board_turns.specs.NestedSteps.{IsShut}
+use Rattle.board_turns.specs.InCells.{HasNewKeys, CanPrepare, HasRoomForContexts, in_cell_of}
 use Rattle.board_turns.proofs.After.{gained_last, keys_after}
 
 -- no place has a history
@@ -51,7 +51,7 @@ new_first number moment place event old new gains none =
     keys_after (made_by old) (made_by new) place event last (first_new (made_by old) place none)
     (λ key i. ap (λ (h : List CellEntry). key_numbered h key.number) (cell_nothing (made_by old) place last.entry.number none))
 
-pub first_room : (l : List Entry) (place : ℕ) (signal : List SectionSignal) (contexts : ℕ) → l ≡ [] → HasRoom l place signal contexts
+pub first_room : (l : List Entry) (place : ℕ) (signal : List SectionSignal) (contexts : ℕ) → l ≡ [] → HasRoomForContexts l place signal contexts
 first_room l place signal contexts none n above =
     let due = ap (λ (h : List CellEntry). contexts_due_after (since_end h) signal) (cell_nothing l place n none) in
     omega (arith, due)
@@ -61,8 +61,8 @@ first_room l place signal contexts none n above =
 no_leg : {O : Type 0} (signal : prepared.Prepare O) → added signal ≡ [] → (leg : Holder) → In leg (added signal) → ⊥
 no_leg signal none leg i = elim (subst (λ (l : List Holder). In leg l) none i) [ ]
 
-pub first_opened : {O : Type 0} (told : O → EndTold OutCall) (config : Config) (signal : prepared.Prepare O) → added signal ≡ [] → AreOpened told config signal
-first_opened {O} told config signal none leg i = absurd (no_leg signal none leg.holder (maps (λ (l : Leg O). l.holder) signal.legs.items i))
+pub first_opened : {O : Type 0} (log : O → EndLog OutCall) (config : Config) (signal : prepared.Prepare O) → added signal ≡ [] → AreOpened log config signal
+first_opened {O} log config signal none leg i = absurd (no_leg signal none leg.holder (maps (λ (l : Leg O). l.holder) signal.legs.items i))
 
 comes_first : {O : Type 0} (config : Config) (signal : prepared.Prepare O) (call : ℕ) (key : NewKey) (dropped : List ℕ) → added signal ≡ []
     → CanCome config [] signal call (key ∷ []) dropped

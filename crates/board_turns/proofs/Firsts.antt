@@ -9,12 +9,12 @@ use Rattle.turn_table.specs.Hands.{IsHandOf, IsFirstHand, entries}
 use Rattle.call_board.specs.Pairs.{held}
 use Rattle.relay_core.specs.declared.part.Part.{Part}
 use Rattle.relay_core.specs.Entries.{Entry}
-use Rattle.relay_core.specs.Made.{Made, list_of}
-use Rattle.relay_core.specs.Beginning.{AreParts}
-use Rattle.relay_core.specs.Turning.{made_by}
+use Rattle.relay_core.specs.Records.{Made, list_of}
+use Rattle.relay_core.specs.FirstPlaces.{AreParts}
+use Rattle.relay_core.specs.Turns.{made_by}
 use Rattle.relay_core.proofs.Known.{IsKnown}
 use Rattle.relay_core.proofs.Turns.{nothing_is_orderly}
-use Rattle.media_ports.specs.Held.{OpensHeld}
+use Rattle.media_ports.specs.OpenPorts.{OpensHeld}
 use Rattle.board_turns.specs.Between.{board_of, IsBetween}
 
 nothing_known : {T : Type 0} (config : Config) → IsKnown {T = T} config []

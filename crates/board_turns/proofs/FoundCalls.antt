@@ -8,7 +8,7 @@ use Rattle.histories.proofs.Lists.{filtered, first_is_in}
 use Rattle.call_board.specs.Acts.{Call, BoardEntry}
 use Rattle.call_board.specs.Calls.{live, find_call}
 use Rattle.call_board.specs.Fits.{IsFitting}
-use Rattle.call_board.specs.Views.{CallView, call_view, view_of, at_moment, call_of_id, call_numbered}
+use Rattle.call_board.specs.Views.{CallView, call_view, view_of, view_at_moment, call_of_id, call_numbered}
 use Rattle.call_board.proofs.Found.{found_by_id, found_by_number}
 
 -- the live call of this call-id has this number
@@ -30,7 +30,7 @@ found_case h id call (Some of) is finds = record {
 
 -- the number that the board finds by a call-id
 abbrev pub number_by_id : Config → List BoardEntry → ℕ → List ℕ → Option ℕ
-number_by_id config h moment id = option_map (λ (c : CallView). c.of.number) (call_of_id (at_moment (view_of config h) moment) id)
+number_by_id config h moment id = option_map (λ (c : CallView). c.of.number) (call_of_id (view_at_moment (view_of config h) moment) id)
 
 number_is : (config : Config) (h : List BoardEntry) (moment : ℕ) (said id : List ℕ) → said ≡ id
     → number_by_id config h moment said ≡ option_map (λ (c : CallView). c.of.number) (option_map (call_view h) (find_call h id))
@@ -45,7 +45,7 @@ found_call config h moment said id call answer finds is some =
 
 -- it is found by its number
 pub called : (config : Config) (h : List BoardEntry) (moment : ℕ) (id : List ℕ) (call : ℕ) → IsFitting config h → (f : IsFoundCall h id call)
-    → call_numbered (at_moment (view_of config h) moment) call ≡ Some (call_view h f.of)
+    → call_numbered (view_at_moment (view_of config h) moment) call ≡ Some (call_view h f.of)
 called config h moment id call fits f =
     subst (λ (k : ℕ). call_numbered (view_of config h) k ≡ Some (call_view h f.of)) f.number_is (found_by_number config h f.of fits f.alive)
 

@@ -6,15 +6,15 @@ use Rattle.relay_outside.specs.declared.keys.KeyCall.{KeyCall}
 use Rattle.relay_outside.specs.declared.keys.KeyCall.TheVariants as key
 use Rattle.relay_outside.specs.declared.ports.PortCall.{PortCall}
 use Rattle.relay_outside.specs.declared.settings.Config.{Config}
-use Rattle.relay_outside.specs.Told.{Rose, Gained}
+use Rattle.relay_outside.specs.DeviceLogs.{Rose, Gained}
 use Rattle.relay_outside.proofs.Telling.{gained_none, gained_less}
 use Rattle.port_pool.specs.declared.reports.LegReport.{LegReport}
-use Rattle.media_ports.specs.Asked.{OpensNone, OpensAt}
+use Rattle.media_ports.specs.Openings.{NoneOpened, OpensAt}
 use Rattle.media_ports.proofs.Asked.{gained_no_opening, opens_none_at}
-use Rattle.media_ports.specs.Draws.{KeyBytes, DrawsAll, DrawsUpTo}
+use Rattle.media_ports.specs.Draws.{KeyBytes, AreDrawn, DrawsUpTo}
 use Rattle.board_turns.specs.declared.device_answers.DeviceAnswers.{DeviceAnswers}
 use Rattle.board_turns.specs.declared.device_answers.DeviceAnswers.TheVariants.{Nothing, OutOfMemory, PortFault, KeyFault, Offered, Report, ReportOutOfMemory}
-use Rattle.board_turns.specs.Giving.{given_by, IsUnasked, IsGivenBy}
+use Rattle.board_turns.specs.DeviceAnswers.{given_by, IsUnasked, IsGivenBy}
 
 -- where all ports were opened, none failed
 none_failed : (opened : ℕ) → In false (replicate opened true) → ⊥
@@ -23,24 +23,24 @@ none_failed (suc opened) (here e) = let k : false ≡ true = e in cc
 none_failed (suc opened) (there i) = none_failed opened i
 
 nothing_given : (config : Config) (free : List ℕ) (out_of_memory : Bool) (report : Option (List LegReport)) (ports ports_now keys keys_now : ℕ) (opened opened_now : Option (List PortCall)) (drew : Option (List KeyCall))
-    → Gained opened opened_now OpensNone → IsGivenBy config free (record { out_of_memory = out_of_memory; opens = []; draws = []; draw_failed = false; report = report }) ports ports_now keys keys_now opened opened_now drew drew
+    → Gained opened opened_now NoneOpened → IsGivenBy config free (record { out_of_memory = out_of_memory; opens = []; draws = []; draw_failed = false; report = report }) ports ports_now keys keys_now opened opened_now drew drew
 nothing_given config free out_of_memory report ports ports_now keys keys_now opened opened_now drew closes = record {
   port_fault = λ i. absurd (in_nothing i);
   key_fault = λ t. absurd (let k : false ≡ true = t in cc);
-  opens = gained_less opened opened_now OpensNone (OpensAt config free []) (opens_none_at config free) closes;
+  opens = gained_less opened opened_now NoneOpened (OpensAt config free []) (opens_none_at config free) closes;
   draws = gained_none drew (λ calls. calls ≡ []) refl;
 }
 
 -- nothing was asked: the port maker was at most asked to close, and the key source's list stands as it was, whatever the counts are
 pub closing_given : (config : Config) (free : List ℕ) (device_answers : DeviceAnswers) (ports ports_now keys keys_now : ℕ) (opened opened_now : Option (List PortCall)) (drew : Option (List KeyCall))
-    → Gained opened opened_now OpensNone → IsUnasked device_answers → IsGivenBy config free (given_by device_answers) ports ports_now keys keys_now opened opened_now drew drew
+    → Gained opened opened_now NoneOpened → IsUnasked device_answers → IsGivenBy config free (given_by device_answers) ports ports_now keys keys_now opened opened_now drew drew
 closing_given config free Nothing ports ports_now keys keys_now opened opened_now drew closes unasked = nothing_given config free false None ports ports_now keys keys_now opened opened_now drew closes
 closing_given config free OutOfMemory ports ports_now keys keys_now opened opened_now drew closes unasked = nothing_given config free true None ports ports_now keys keys_now opened opened_now drew closes
 closing_given config free (PortFault count) ports ports_now keys keys_now opened opened_now drew closes unasked = absurd unasked
 closing_given config free (KeyFault count drawn) ports ports_now keys keys_now opened opened_now drew closes unasked = absurd unasked
 closing_given config free (Offered count drawn) ports ports_now keys keys_now opened opened_now drew closes unasked = absurd unasked
-closing_given config free (Report told) ports ports_now keys keys_now opened opened_now drew closes unasked = nothing_given config free false (Some told) ports ports_now keys keys_now opened opened_now drew closes
-closing_given config free (ReportOutOfMemory told) ports ports_now keys keys_now opened opened_now drew closes unasked = nothing_given config free true (Some told) ports ports_now keys keys_now opened opened_now drew closes
+closing_given config free (Report log) ports ports_now keys keys_now opened opened_now drew closes unasked = nothing_given config free false (Some log) ports ports_now keys keys_now opened opened_now drew closes
+closing_given config free (ReportOutOfMemory log) ports ports_now keys keys_now opened opened_now drew closes unasked = nothing_given config free true (Some log) ports ports_now keys keys_now opened opened_now drew closes
 
 -- no port was closed either
 pub unasked_given : (config : Config) (free : List ℕ) (device_answers : DeviceAnswers) (ports ports_now keys keys_now : ℕ) (opened : Option (List PortCall)) (drew : Option (List KeyCall)) → IsUnasked device_answers
@@ -50,13 +50,13 @@ unasked_given config free device_answers ports ports_now keys keys_now opened dr
 
 -- all ports were opened, and all keys drawn
 pub offered_given : (config : Config) (free : List ℕ) (count : ℕ) (drawn : KeyBytes) (ports ports_now keys keys_now : ℕ) (opened opened_now : Option (List PortCall)) (drew drew_now : Option (List KeyCall))
-    → Gained opened opened_now (OpensAt config free (replicate count true)) → Gained drew drew_now (DrawsAll drawn.list)
+    → Gained opened opened_now (OpensAt config free (replicate count true)) → Gained drew drew_now (AreDrawn drawn.list)
     → IsGivenBy config free (given_by (Offered count drawn)) ports ports_now keys keys_now opened opened_now drew drew_now
 offered_given config free count drawn ports ports_now keys keys_now opened opened_now drew drew_now opens gained = record {
   port_fault = λ i. absurd (none_failed count i);
   key_fault = λ t. absurd (let k : false ≡ true = t in cc);
   opens = opens;
-  draws = gained_less drew drew_now (DrawsAll drawn.list) (λ calls. calls ≡ map key.Drawn drawn.list ++ [])
+  draws = gained_less drew drew_now (AreDrawn drawn.list) (λ calls. calls ≡ map key.Drawn drawn.list ++ [])
       (λ calls is. is ∙ sym (append-nil (map key.Drawn drawn.list))) gained;
 }
 

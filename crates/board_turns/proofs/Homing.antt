@@ -3,7 +3,7 @@ use Rattle.std.proofs.Common.{◌≡◌, sym, subst, ℕ, ◌≤◌, List, Optio
 use Rattle.relay_outside.specs.declared.ports.InCall.{InCall}
 use Rattle.relay_outside.specs.declared.ports.OutCall.{OutCall}
 use Rattle.relay_outside.specs.declared.settings.Config.{Config}
-use Rattle.relay_outside.specs.Told.{EndTold, IsOpenedFor}
+use Rattle.relay_outside.specs.DeviceLogs.{EndLog, IsOpenedFor}
 use Rattle.rtp_packet.specs.declared.head.Half.TheVariants.{Rtp, Rtcp}
 use Rattle.turn_table.specs.declared.hands.Turns.{Turns}
 use Rattle.turn_table.specs.declared.hands.Hand.{Hand}
@@ -18,23 +18,23 @@ use Rattle.call_cell.specs.declared.leg.Leg.{Leg}
 use Rattle.call_cell.specs.declared.cell.Cell as cell
 use Rattle.call_cell.specs.declared.prepare.Prepare as prepared
 use Rattle.call_cell.specs.Cells.{CellEntry}
-use Rattle.call_cell.specs.Committing.{goes_by}
+use Rattle.call_cell.specs.Commits.{goes_by}
 use Rattle.relay_core.specs.declared.part.Part.{Part}
 use Rattle.relay_core.specs.declared.part.Part.TheVariants as part
 use Rattle.relay_core.specs.Entries.{box_of}
-use Rattle.relay_core.specs.Made.{Made}
-use Rattle.relay_core.specs.Standing.{CellIs, AreHome, BoxHome, LegsHome, GoneHome}
+use Rattle.relay_core.specs.Records.{Made}
+use Rattle.relay_core.specs.PlaceHistories.{CellIs, AreHome, BoxHome, LegsHome, GoneHome}
 use Rattle.relay_core.specs.Steps.{AreOpened}
-use Rattle.relay_core.specs.Turning.{made_by}
+use Rattle.relay_core.specs.Turns.{made_by}
 use Rattle.relay_core.proofs.GivenHomes.{given_box_home, given_cell_home}
 use Rattle.relay_core.proofs.Homes.{gone_home}
-use Rattle.board_turns.specs.Nesting.{MayNest, Shuts}
+use Rattle.board_turns.specs.NestedSteps.{MayNest, Shuts}
 use Rattle.board_turns.specs.InCells.{HasNewKeys, OpenedFor, IsCellAt, Ends, Prepares, Commits}
-use Rattle.board_turns.specs.Taken.{FitEnds}
+use Rattle.board_turns.specs.BoxStates.{FitEnds}
 use Rattle.board_turns.proofs.Nesting.{above_rows}
 use Rattle.board_turns.proofs.Boxing.{Gives}
 
-module _ {I O : Type 0} (it : I → EndTold InCall) (ot : O → EndTold OutCall) where
+module _ {I O : Type 0} (it : I → EndLog InCall) (ot : O → EndLog OutCall) where
   ends_fit : (config : Config) (pair : ℕ) (x : Part I O) (ends : I × I) → BoxHome it config pair x → IsOpenedFor (port_address config pair Rtp) (it ends.0)
       → IsOpenedFor (port_address config pair Rtcp) (it ends.1) → FitEnds it x ends
   ends_fit config pair (part.Board b) ends home rtp rtcp = absurd home
@@ -47,7 +47,7 @@ module _ {I O : Type 0} (it : I → EndTold InCall) (ot : O → EndTold OutCall)
   opened_for config (part.Pair b) h signal is opened = absurd is
   opened_for config (part.Cell c) h signal is opened = subst (λ (k : Config). AreOpened ot k signal) (sym is.2.config_is) opened
 
-module _ {M I O T : Type 0} {g : _} (it : I → EndTold InCall) (ic : I → ℕ) (ot : O → EndTold OutCall) (oc : O → ℕ) where
+module _ {M I O T : Type 0} {g : _} (it : I → EndLog InCall) (ic : I → ℕ) (ot : O → EndLog OutCall) (oc : O → ℕ) where
   -- Boxes.
 
   -- the ends that come fit the box that the hand is given

@@ -4,7 +4,7 @@ use Rattle.std.specs.List.{filter_map}
 use Rattle.relay_outside.specs.declared.settings.Config.{Config}
 use Rattle.relay_outside.specs.declared.ports.InCall.{InCall}
 use Rattle.relay_outside.specs.declared.ports.OutCall.{OutCall}
-use Rattle.relay_outside.specs.Told.{EndTold}
+use Rattle.relay_outside.specs.DeviceLogs.{EndLog}
 use Rattle.rtp_packet.specs.declared.head.Half.TheVariants.{Rtp}
 use Rattle.histories.specs.Words.{In, here, there, has}
 use Rattle.histories.proofs.Lists.{filtered}
@@ -18,26 +18,26 @@ use Rattle.call_cell.specs.declared.leg.Leg.{Leg}
 use Rattle.call_cell.specs.declared.prepare.Prepare as prepared
 use Rattle.call_cell.specs.declared.cell.Cell as cell
 use Rattle.call_cell.specs.Cells.{CellEntry, legs, since_end}
-use Rattle.call_cell.specs.Standing.{LegFor}
-use Rattle.call_cell.specs.CellStanding.{CellFor}
-use Rattle.call_cell.specs.Ending.{parts_of}
+use Rattle.call_cell.specs.LegHistories.{LegStandsFor}
+use Rattle.call_cell.specs.CellHistories.{CellFor}
+use Rattle.call_cell.specs.CellEnds.{parts_of}
 use Rattle.call_cell.proofs.Few.{each_in}
 use Rattle.call_cell.proofs.Nested.{same_kept}
 use Rattle.relay_core.specs.declared.part.Part.{Part}
 use Rattle.relay_core.specs.Entries.{Entry, cell_entry, cell_history}
-use Rattle.relay_core.specs.Made.{Made}
-use Rattle.relay_core.specs.Turning.{IsAbove, made_by}
+use Rattle.relay_core.specs.Records.{Made}
+use Rattle.relay_core.specs.Turns.{IsAbove, made_by}
 use Rattle.board_turns.specs.InCells.{IsCellAt, Ends, Prepares, Commits}
-use Rattle.board_turns.specs.Leaving.{IsLeaseOf, AreLeasesOf, AllWent, DroppedWent, RejectedWent}
+use Rattle.board_turns.specs.Departures.{IsLeaseOf, AreLeasesOf, AllRemoved, DroppedRemoved, RejectedRemoved}
 use Rattle.board_turns.proofs.Nesting.{above_rows}
 use Rattle.board_turns.proofs.After.{same_history_at}
 use Rattle.board_turns.proofs.Signalling.{same_lasting}
 
 module _ {O : Type 0} where
-  its_lease : (config : Config) (h : List CellEntry) (leg : Leg O) → LegFor config h leg → IsLeaseOf config (parts_of leg) leg.holder
+  its_lease : (config : Config) (h : List CellEntry) (leg : Leg O) → LegStandsFor config h leg → IsLeaseOf config (parts_of leg) leg.holder
   its_lease config h leg for = record { pair = for.pair; generation = for.generation; port = for.port Rtp }
 
-  leases_of : (config : Config) (h : List CellEntry) (those : List (Leg O)) → ((leg : Leg O) → In leg those → LegFor config h leg)
+  leases_of : (config : Config) (h : List CellEntry) (those : List (Leg O)) → ((leg : Leg O) → In leg those → LegStandsFor config h leg)
       → AreLeasesOf config (map (λ (leg : Leg O). parts_of leg) those) (map (λ (leg : Leg O). leg.holder) those)
   leases_of config h [] for = tt
   leases_of config h (leg ∷ those) for = (its_lease config h leg (for leg (here refl)), leases_of config h those (λ other i. for other (there i)))
@@ -73,7 +73,7 @@ module _ {O : Type 0} where
       (subst (λ (l : List (Lease × O × O)). AreLeasesOf config l (map (λ (leg : Leg O). leg.holder) old.legs.items)) (sym went)
       (leases_of config (since_end h) old.legs.items (λ leg i. each_in config (since_end h) old.legs.items leg for.legs_for i)))
 
-module _ {M I O T : Type 0} {g : _} (it : I → EndTold InCall) (ic : I → ℕ) (ot : O → EndTold OutCall) (oc : O → ℕ) where
+module _ {M I O T : Type 0} {g : _} (it : I → EndLog InCall) (ic : I → ℕ) (ot : O → EndLog OutCall) (oc : O → ℕ) where
   -- the legs of the cell that was given are those of the list
   legs_given : (config : Config) (hand : Hand M (Part I O) Made T g) (place n : ℕ) (old : cell.Cell O) (h : List CellEntry)
       → IsCellAt it ic ot oc config hand place old h → IsAbove (made_by hand) place n → legs (since_end h) ≡ legs (since_end (cell_history (made_by hand) place n))
@@ -85,20 +85,20 @@ module _ {M I O T : Type 0} {g : _} (it : I → EndTold InCall) (ic : I → ℕ)
       (same_history_at (made_by hand) place was.number n (above_rows (entries hand) place was.number was.given.above) above)
 
   pub ended_went : (config : Config) (hand : Hand M (Part I O) Made T g) (place : ℕ) (gone : List (Lease × O × O)) → Ends it ic ot oc config hand place gone
-      → AllWent config (made_by hand) place gone
+      → AllRemoved config (made_by hand) place gone
   ended_went config hand place gone ends n above =
       all_went config ends.old ends.history (cell_history (made_by hand) place n) gone ends.was.stands
       (legs_given config hand place n ends.old ends.history ends.was above) ends.ends.went
 
   pub prepared_went : (config : Config) (hand : Hand M (Part I O) Made T g) (place : ℕ) (signal : prepared.Prepare O) (call : ℕ) (keys : List NewKey) (dropped : List ℕ)
       (now : ℕ) (gone : List (Lease × O × O)) → Prepares it ic ot oc config hand place signal call keys dropped now gone
-      → DroppedWent config (made_by hand) place dropped gone
+      → DroppedRemoved config (made_by hand) place dropped gone
   prepared_went config hand place signal call keys dropped now gone does n above =
       passing_went config does.old does.history (cell_history (made_by hand) place n) (λ (leg : Holder). has dropped leg.section) gone does.was.stands
       (legs_given config hand place n does.old does.history does.was above) does.prepares.went
 
   pub committed_went : (config : Config) (hand : Hand M (Part I O) Made T g) (place : ℕ) (signal : List SectionSignal) (now : ℕ) (gone : List (Lease × O × O))
-      → Commits it ic ot oc config hand place signal now gone → RejectedWent config (made_by hand) place signal gone
+      → Commits it ic ot oc config hand place signal now gone → RejectedRemoved config (made_by hand) place signal gone
   committed_went config hand place signal now gone does n above =
       passing_went config does.old does.history (cell_history (made_by hand) place n) (λ (leg : Holder). is_rejected signal leg.section) gone does.was.stands
       (legs_given config hand place n does.old does.history does.was above) does.commits.went

@@ -5,7 +5,7 @@ use Rattle.relay_outside.specs.declared.address.Addr.{Addr}
 use Rattle.relay_outside.specs.declared.settings.Config.{Config}
 use Rattle.relay_outside.specs.declared.ports.PortCall.{PortCall}
 use Rattle.relay_outside.specs.Ports.{IsOpen}
-use Rattle.relay_outside.specs.Told.{Gained, WhereTold}
+use Rattle.relay_outside.specs.DeviceLogs.{Gained, WhereLogged}
 use Rattle.rtp_packet.specs.declared.head.Half.{Half}
 use Rattle.rtp_packet.specs.declared.head.Half.TheVariants.{Rtp, Rtcp}
 use Rattle.histories.specs.Words.{In, here, there, has}
@@ -13,9 +13,9 @@ use Rattle.histories.proofs.Lists.{equal, equal_if}
 use Rattle.port_pool.specs.Ports.{pair_count, pair_port}
 use Rattle.port_pool.specs.declared.pairs.Lease.{Lease}
 use Rattle.media_ports.specs.Addresses.{port_at, port_address, addresses_of}
-use Rattle.media_ports.specs.Calls.{AllOpen, LeavesOpen, WhereBothTold}
-use Rattle.media_ports.specs.Held.{OpensHeld}
-use Rattle.board_turns.specs.Closing.{pairs_left}
+use Rattle.media_ports.specs.Calls.{AllOpen, LeavesOpen, WhereBothLogged}
+use Rattle.media_ports.specs.OpenPorts.{OpensHeld}
+use Rattle.board_turns.specs.Closings.{pairs_left}
 
 none_left : (b : Bool) → false ≡ (not b && false)
 none_left true = refl
@@ -120,21 +120,21 @@ closed_one config before now held lease is leaves opens pair half below =
 
 -- the same, where the port maker tells
 pub told_closed : (config : Config) (old new : Option (List PortCall)) (P : List PortCall → Type 0) (held : List ℕ) (lease : Lease) → lease.rtp_port ≡ pair_port config lease.pair →
-    Gained old new P → WhereBothTold old new (LeavesOpen (addresses_of config.interface (lease ∷ []))) → WhereTold old (λ calls. OpensHeld config calls held) →
-    WhereTold new (λ calls. OpensHeld config calls (pairs_left (lease.pair ∷ []) held))
+    Gained old new P → WhereBothLogged old new (LeavesOpen (addresses_of config.interface (lease ∷ []))) → WhereLogged old (λ calls. OpensHeld config calls held) →
+    WhereLogged new (λ calls. OpensHeld config calls (pairs_left (lease.pair ∷ []) held))
 told_closed config old None P held lease is gained leaves opens = tt
 told_closed config None (Some now) P held lease is gained leaves opens = absurd gained
 told_closed config (Some before) (Some now) P held lease is gained leaves opens = closed_one config before now held lease is leaves opens
 
 -- where it tells, the same pairs
-pub told_alike : (config : Config) (told : Option (List PortCall)) (a b : List ℕ) → ((q : ℕ) → has a q ≡ has b q) → WhereTold told (λ calls. OpensHeld config calls a) →
-    WhereTold told (λ calls. OpensHeld config calls b)
+pub told_alike : (config : Config) (log : Option (List PortCall)) (a b : List ℕ) → ((q : ℕ) → has a q ≡ has b q) → WhereLogged log (λ calls. OpensHeld config calls a) →
+    WhereLogged log (λ calls. OpensHeld config calls b)
 told_alike config None a b same opens = tt
 told_alike config (Some calls) a b same opens = opens_alike config calls a b same opens
 
 -- where it tells, both ports of a pair among them are open
-pub told_open : (config : Config) (told : Option (List PortCall)) (held : List ℕ) (lease : Lease) → lease.pair < pair_count config → lease.rtp_port ≡ pair_port config lease.pair →
-    has held lease.pair ≡ true → WhereTold told (λ calls. OpensHeld config calls held) → WhereTold told (AllOpen (addresses_of config.interface (lease ∷ [])))
+pub told_open : (config : Config) (log : Option (List PortCall)) (held : List ℕ) (lease : Lease) → lease.pair < pair_count config → lease.rtp_port ≡ pair_port config lease.pair →
+    has held lease.pair ≡ true → WhereLogged log (λ calls. OpensHeld config calls held) → WhereLogged log (AllOpen (addresses_of config.interface (lease ∷ [])))
 told_open config None held lease below is has_it opens = tt
 told_open config (Some calls) held lease below is has_it opens = (
   subst (λ (p : ℕ). IsOpen calls (port_at config.interface p)) (sym is) ((opens lease.pair Rtp below).1 has_it),

@@ -13,13 +13,13 @@ use Rattle.histories.specs.Words.{In, here, there}
 use Rattle.histories.proofs.Lists.{in_left}
 use Rattle.relay_core.specs.declared.part.Part.{Part}
 use Rattle.relay_core.specs.Entries.{Entry}
-use Rattle.relay_core.specs.Beginning.{AreParts}
-use Rattle.relay_core.specs.Handed.{IsHanded}
-use Rattle.relay_core.specs.Joining.{TakesOwnPairs, IsLane, IsSound}
+use Rattle.relay_core.specs.FirstPlaces.{AreParts}
+use Rattle.relay_core.specs.NestedMoments.{IsHanded}
+use Rattle.relay_core.specs.Joins.{TakesOwnPairs, IsLaneRows, IsSound}
 use Rattle.relay_core.specs.Legal.{Orderly}
-use Rattle.relay_core.specs.Made.{Made, entry_of, list_of}
-use Rattle.relay_core.specs.Recorded.{AreReturned, is_boards}
-use Rattle.relay_core.specs.Turning.{Numbered, IsAbove, IsReceiving, made_by}
+use Rattle.relay_core.specs.Records.{Made, entry_of, list_of}
+use Rattle.relay_core.specs.ReturnedPairs.{AreReturned, is_boards}
+use Rattle.relay_core.specs.Turns.{Numbered, IsAbove, IsReceiving, made_by}
 use Rattle.relay_core.proofs.Joins.{joined}
 use Rattle.relay_core.proofs.Recording.{lane_no_boards, unseen_rows}
 use Rattle.relay_core.proofs.Whole.{known_numbered}
@@ -40,7 +40,7 @@ below_top (x ∷ l) e (here q) = let same = ap (λ (y : Entry). y.number) q in o
 below_top (x ∷ l) e (there i) = let low = below_top l e i in omega (arith, low)
 
 -- the board's whole history is the same with rows after it that are none of its own
-pub history_stays : {T : Type 0} (rows others : List (table.Entry Made T)) → ((row : table.Entry Made T) → table_lists.In row others → is_boards row.event.event ≡ false)
+pub history_stays : {T : Type 0} (rows others : List (table.Entry Made T)) → ((row : table.Entry Made T) → table_lists.IsMemberOf row others → is_boards row.event.event ≡ false)
     → board_of (list_of (rows ++ others)) ≡ board_of (list_of rows)
 history_stays {T} rows others none =
     let all = list_of (rows ++ others) in
@@ -68,7 +68,7 @@ module _ {M I O T : Type 0} {g : _} (config : Config) (turns : Turns M (Part I O
   pub begun_joins : (hand : Hand M (Part I O) Made T g) → IsBetween config turns hand → IsBetweenJoins config turns hand
   begun_joins hand b = record { of_table = b.of_table; main = b.main; idle = b.idle; parts = b.parts; sound = between_sound config turns hand b }
 
-  pub joined_joins : (old other new : Hand M (Part I O) Made T g) → IsBetweenJoins config turns old → IsLane config (entries other) → IsJoined old other new
+  pub joined_joins : (old other new : Hand M (Part I O) Made T g) → IsBetweenJoins config turns old → IsLaneRows config (entries other) → IsJoined old other new
       → IsBetweenJoins config turns new
   joined_joins old other new b lane is = record {
     of_table = is.0 ∙ b.of_table;
@@ -94,7 +94,7 @@ module _ {M I O T : Type 0} {g : _} (config : Config) (turns : Turns M (Part I O
         receiving = sound.receiving numbered;
       }
 
-  pub joined_history : (old other new : Hand M (Part I O) Made T g) → IsLane config (entries other) → IsJoined old other new → board_of (made_by new) ≡ board_of (made_by old)
+  pub joined_history : (old other new : Hand M (Part I O) Made T g) → IsLaneRows config (entries other) → IsJoined old other new → board_of (made_by new) ≡ board_of (made_by old)
   joined_history old other new lane is =
       ap (λ (rows : List (table.Entry Made T)). board_of (list_of rows)) is.2
       ∙ history_stays (entries old) (entries other) (λ row i. lane_no_boards row.event.event (lane.of_lane row i))

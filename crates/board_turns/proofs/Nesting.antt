@@ -16,13 +16,13 @@ use Rattle.port_pool.specs.Ports.{pair_count}
 use Rattle.relay_core.specs.declared.part.Part.{Part}
 use Rattle.relay_core.specs.Entries.{Event, Entry}
 use Rattle.relay_core.specs.Scripts.{Owed}
-use Rattle.relay_core.specs.Made.{Left, Made, entry_of, list_of}
-use Rattle.relay_core.specs.Beginning.{AreParts}
-use Rattle.relay_core.specs.Turning.{Numbered, IsAbove, Gained, GainsNested, made_by}
+use Rattle.relay_core.specs.Records.{Left, Made, entry_of, list_of}
+use Rattle.relay_core.specs.FirstPlaces.{AreParts}
+use Rattle.relay_core.specs.Turns.{Numbered, IsAbove, GainedOwed, GainsNested, made_by}
 use Rattle.relay_core.proofs.Own.{IsRow, in_rows}
 use Rattle.relay_core.proofs.Gains.{gained_nothing, gained_one, gained_more, rising_numbered}
 use Rattle.relay_core.proofs.Turns.{nothing_more}
-use Rattle.board_turns.specs.Nesting.{MayNest, leaving, AddsRow}
+use Rattle.board_turns.specs.NestedSteps.{MayNest, leaving, AddsRow}
 
 module _ {I O : Type 0} where
   -- how many places there are
@@ -42,8 +42,8 @@ module _ {M I O T : Type 0} {g : _} where
       let count = parts_count config (starts hand) may.parts in
       (omega (arith, count, high), λ j has. let z = may.alone j has in omega (arith, z, low))
 
-in_both : {T : Type 0} {row : table.Entry Made T} (xs ys : List (table.Entry Made T)) → table_lists.In row (xs ++ ys)
-    → table_lists.In row xs ⊎ table_lists.In row ys
+in_both : {T : Type 0} {row : table.Entry Made T} (xs ys : List (table.Entry Made T)) → table_lists.IsMemberOf row (xs ++ ys)
+    → table_lists.IsMemberOf row xs ⊎ table_lists.IsMemberOf row ys
 in_both [] ys i = inr i
 in_both (x ∷ xs) ys (table_lists.here q) = inl (table_lists.here q)
 in_both (x ∷ xs) ys (table_lists.there i) = elim (in_both xs ys i) [ inl a ↦ inl (table_lists.there a) | inr b ↦ inr b ]
@@ -53,7 +53,7 @@ map_rows [] ys = refl
 map_rows (x ∷ xs) ys = ap (λ (zs : List Entry). entry_of x ∷ zs) (map_rows xs ys)
 
 above_row : {T : Type 0} (rows : List (table.Entry Made T)) (place n : ℕ) (e : Entry) → IsRow e rows
-    → ((row : table.Entry Made T) → table_lists.In row rows → row.place ≡ place → row.number < n) → e.place ≡ place → e.number < n
+    → ((row : table.Entry Made T) → table_lists.IsMemberOf row rows → row.place ≡ place → row.number < n) → e.place ≡ place → e.number < n
 above_row rows place n e found above p =
     let at : found.row.place ≡ place = ap (λ (x : Entry). x.place) found.is ∙ p in
     let low = above found.row found.is_in at in
@@ -62,11 +62,11 @@ above_row rows place n e found above p =
 
 -- above all rows of a place
 pub above_rows : {T : Type 0} (rows : List (table.Entry Made T)) (place n : ℕ)
-    → ((row : table.Entry Made T) → table_lists.In row rows → row.place ≡ place → row.number < n) → IsAbove (list_of rows) place n
+    → ((row : table.Entry Made T) → table_lists.IsMemberOf row rows → row.place ≡ place → row.number < n) → IsAbove (list_of rows) place n
 above_rows rows place n above e i p = above_row rows place n e (in_rows rows i) above p
 
 only_row : {T : Type 0} (made : table.Entry Made T) (moment : ℕ) → made.event.handed ≡ moment → (row : table.Entry Made T)
-    → table_lists.In row (made ∷ []) → row.event.handed ≡ moment
+    → table_lists.IsMemberOf row (made ∷ []) → row.event.handed ≡ moment
 only_row made moment h row (table_lists.here q) = ap (λ (x : table.Entry Made _). x.event.handed) q ∙ h
 only_row made moment h row (table_lists.there i) = elim i [ ]
 
@@ -101,13 +101,13 @@ module _ {M S T : Type 0} {g : _} where
       record {
         rows = a.rows ++ b.rows;
         list_is = b.list_is ∙ ap (λ (rows : List (table.Entry Made T)). rows ++ b.rows) a.list_is ∙ append_assoc (entries old) a.rows b.rows;
-        gained = subst (λ (l : List Entry). Gained (made_by old) number (events ++ more) l) (sym (map_rows a.rows b.rows))
+        gained = subst (λ (l : List Entry). GainedOwed (made_by old) number (events ++ more) l) (sym (map_rows a.rows b.rows))
             (gained_more (made_by old) number events more (list_of a.rows) (list_of b.rows) a.gained
-            (subst (λ (l : List Entry). Gained l number more (list_of b.rows)) made b.gained));
+            (subst (λ (l : List Entry). GainedOwed l number more (list_of b.rows)) made b.gained));
         handed = λ row i. either row (in_both a.rows b.rows i);
       }
     where
-      either : (row : table.Entry Made T) → table_lists.In row a.rows ⊎ table_lists.In row b.rows → row.event.handed ≡ moment
+      either : (row : table.Entry Made T) → table_lists.IsMemberOf row a.rows ⊎ table_lists.IsMemberOf row b.rows → row.event.handed ≡ moment
       either row (inl i) = a.handed row i
       either row (inr i) = b.handed row i
 

@@ -4,7 +4,7 @@ use Rattle.std.specs.Prelude.{◌&&◌}
 use Rattle.std.specs.List.{filter_map, flat_map}
 use Rattle.relay_outside.specs.declared.ports.PortCall.{PortCall}
 use Rattle.relay_outside.specs.declared.settings.Config.{Config}
-use Rattle.relay_outside.specs.Told.{WhereTold}
+use Rattle.relay_outside.specs.DeviceLogs.{WhereLogged}
 use Rattle.histories.specs.Words.{In, here, there, has}
 use Rattle.histories.proofs.Lists.{in_left, maps, mapped, spread, it_has, has_it}
 use Rattle.port_pool.specs.declared.pairs.Lease.{Lease}
@@ -17,7 +17,7 @@ use Rattle.call_board.specs.Pairs.{held, closed_of}
 use Rattle.call_board.specs.Fits.{IsFitting}
 use Rattle.call_board.specs.declared.board.Board.{Board}
 use Rattle.call_board.specs.Views.{View, call_view, view_of, without_call}
-use Rattle.call_board.specs.Boards.{Shows}
+use Rattle.call_board.specs.Boards.{BoardMatches}
 use Rattle.call_board.specs.Returns.{leg_lease, MayReturnAll}
 use Rattle.call_board.specs.Whole.{with_ended}
 use Rattle.call_board.proofs.Cells.{live_cells, live_cell}
@@ -27,14 +27,14 @@ use Rattle.call_board.proofs.Outs.{ended_return}
 use Rattle.relay_core.specs.Entries.{Entry, cell_entry, board_history, box_of}
 use Rattle.relay_core.specs.Scripts.{Owed, owed_by, closing, ending}
 use Rattle.relay_core.specs.Legal.{Orderly}
-use Rattle.relay_core.specs.Turning.{IsAbove}
+use Rattle.relay_core.specs.Turns.{IsAbove}
 use Rattle.relay_core.proofs.Histories.{good_history}
 use Rattle.relay_core.proofs.Shut.{same_history, closed_open, closed_apart}
 use Rattle.relay_core.proofs.LegsHeld.{ended_closes}
 use Rattle.relay_core.proofs.KeysOnce.{keys_once}
-use Rattle.media_ports.specs.Held.{OpensHeld}
-use Rattle.board_turns.specs.Closing.{pairs_left}
-use Rattle.board_turns.specs.Ending.{CanEnd, leg_pairs}
+use Rattle.media_ports.specs.OpenPorts.{OpensHeld}
+use Rattle.board_turns.specs.Closings.{pairs_left}
+use Rattle.board_turns.specs.CallEnds.{CanEnd, leg_pairs}
 use Rattle.board_turns.proofs.Closed.{placed_by, open_elsewhere}
 use Rattle.board_turns.proofs.Lefts.{has_left}
 
@@ -92,15 +92,15 @@ is_not false no_way = refl
 
 -- Calls end one after the other in the turn of the entry, which the list did not have before: these have ended. Where what came meanwhile
 -- stands elsewhere, the next one may be ended
-pub next_among : (config : Config) (l ns : List Entry) → Orderly config l → (n : ℕ) (e : BoardEntry) (gone : List Call) (of : Call) (board : Board) (told : Option (List PortCall)) →
+pub next_among : (config : Config) (l ns : List Entry) → Orderly config l → (n : ℕ) (e : BoardEntry) (gone : List Call) (of : Call) (board : Board) (log : Option (List PortCall)) →
     IsAbove l 0 n → In of (live (board_history l n)) → In of (ended_by e) → (In of.number (numbers_of gone) → ⊥) →
     ((x : Entry) → In x ns → x.place ≡ of.cell → ⊥) →
     ((leg : Holder) → In leg (closed_of (board_history l n) e of) → (x : Entry) → In x ns → x.place ≡ box_of config leg.pair → ⊥) →
     (v : View) → v.calls ≡ map (call_view (board_history l n)) (live (board_history l n)) → v.free ≡ (view_of config (board_history l n)).free → v.leases ≡ (view_of config (board_history l n)).leases →
-    Shows config board (with_ended (board_history l n) e gone v) →
-    WhereTold told (λ calls. OpensHeld config calls (pairs_left (closed_pairs (board_history l n) e gone) (leg_pairs (held (board_history l n))))) →
-    CanEnd config (l ++ ns) board told of.number of (closed_of (board_history l n) e of)
-next_among config l ns o n e gone of board told above alive ends out cell_apart box_apart v calls_are free_is leases_are shows opens =
+    BoardMatches config board (with_ended (board_history l n) e gone v) →
+    WhereLogged log (λ calls. OpensHeld config calls (pairs_left (closed_pairs (board_history l n) e gone) (leg_pairs (held (board_history l n))))) →
+    CanEnd config (l ++ ns) board log of.number of (closed_of (board_history l n) e of)
+next_among config l ns o n e gone of board log above alive ends out cell_apart box_apart v calls_are free_is leases_are shows opens =
     let h = board_history l n in
     let fits = good_history config l o n in
     let cell = live_cell config h of fits alive in
@@ -130,17 +130,17 @@ next_among config l ns o n e gone of board told above alive ends out cell_apart 
     }
 
 -- the same where the calls that have ended are in the list with their closings, and nothing else is
-pub next_can : (config : Config) (l ns : List Entry) → Orderly config l → (n : ℕ) (e : BoardEntry) (gone : List Call) (of : Call) (board : Board) (told : Option (List PortCall)) →
+pub next_can : (config : Config) (l ns : List Entry) → Orderly config l → (n : ℕ) (e : BoardEntry) (gone : List Call) (of : Call) (board : Board) (log : Option (List PortCall)) →
     IsAbove l 0 n → In of (live (board_history l n)) → In of (ended_by e) → (In of.number (numbers_of gone) → ⊥) → ((d : Call) → In d gone → In d (live (board_history l n))) →
     map owed_by ns ≡ flat_map (ending config (board_history l n) e) gone →
     (v : View) → v.calls ≡ map (call_view (board_history l n)) (live (board_history l n)) → v.free ≡ (view_of config (board_history l n)).free → v.leases ≡ (view_of config (board_history l n)).leases →
-    Shows config board (with_ended (board_history l n) e gone v) →
-    WhereTold told (λ calls. OpensHeld config calls (pairs_left (closed_pairs (board_history l n) e gone) (leg_pairs (held (board_history l n))))) →
-    CanEnd config (l ++ ns) board told of.number of (closed_of (board_history l n) e of)
-next_can config l ns o n e gone of board told above alive ends out living owes v calls_are free_is leases_are shows opens =
+    BoardMatches config board (with_ended (board_history l n) e gone v) →
+    WhereLogged log (λ calls. OpensHeld config calls (pairs_left (closed_pairs (board_history l n) e gone) (leg_pairs (held (board_history l n))))) →
+    CanEnd config (l ++ ns) board log of.number of (closed_of (board_history l n) e of)
+next_can config l ns o n e gone of board log above alive ends out living owes v calls_are free_is leases_are shows opens =
     let h = board_history l n in
     let fits = good_history config l o n in
-    next_among config l ns o n e gone of board told above alive ends out
+    next_among config l ns o n e gone of board log above alive ends out
     (placed_by (flat_map (ending config h e) gone) ns of.cell owes
     (λ w i. let s = spread (ending config h e) gone i in cell_case config h e gone of s.from fits alive s.is_in (living s.from s.is_in) out w s.has_it))
     (λ leg k. placed_by (flat_map (ending config h e) gone) ns (box_of config leg.pair) owes

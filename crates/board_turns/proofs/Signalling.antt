@@ -3,7 +3,7 @@ use Rattle.std.proofs.Common.{◌≡◌, refl, sym, ◌∙◌, ap, subst, ℕ, �
 use Rattle.relay_outside.specs.declared.settings.Config.{Config}
 use Rattle.relay_outside.specs.declared.ports.InCall.{InCall}
 use Rattle.relay_outside.specs.declared.ports.OutCall.{OutCall}
-use Rattle.relay_outside.specs.Told.{EndTold}
+use Rattle.relay_outside.specs.DeviceLogs.{EndLog}
 use Rattle.turn_table.specs.declared.hands.Hand.{Hand}
 use Rattle.turn_table.specs.Hands.{EndsTurn}
 use Rattle.port_pool.specs.declared.pairs.Lease.{Lease}
@@ -12,10 +12,10 @@ use Rattle.port_pool.specs.Signals.{NewKey}
 use Rattle.call_cell.specs.declared.prepare.Prepare as prepared
 use Rattle.call_cell.specs.declared.cell.Cell as cell
 use Rattle.call_cell.specs.Cells.{CellEvent, CellEntry, Prepare, Commit, Relay, Expire, Read, End, since_end}
-use Rattle.call_cell.specs.Lasting.{kept}
-use Rattle.call_cell.specs.CellStanding.{CellFor}
-use Rattle.call_cell.specs.Committing.{NamesKeys, CellCommits, contexts_due, contexts_due_after, inbound_keys}
-use Rattle.call_cell.specs.Preparing.{PrepareFor, CanCome, CellPrepares, FitsPlaces, added}
+use Rattle.call_cell.specs.SignalEntries.{lasting_entries}
+use Rattle.call_cell.specs.CellHistories.{CellFor}
+use Rattle.call_cell.specs.Commits.{NamesKeys, CellCommits, contexts_due, contexts_due_after, inbound_keys}
+use Rattle.call_cell.specs.Preparations.{PrepareFor, CanCome, CellPrepares, FitsPlaces, added}
 use Rattle.call_cell.proofs.Again.{can_come_again, names_keys_again}
 use Rattle.call_cell.proofs.Callers.{places_fit, due_is}
 use Rattle.call_cell.proofs.Due.{due_named}
@@ -23,33 +23,33 @@ use Rattle.call_cell.proofs.Nested.{entry_at, can_come_kept, names_keys_kept, du
 use Rattle.relay_core.specs.declared.part.Part.{Part}
 use Rattle.relay_core.specs.declared.part.Part.TheVariants as part
 use Rattle.relay_core.specs.Entries.{Entry, Cell, cell_history}
-use Rattle.relay_core.specs.Made.{Left, Made}
-use Rattle.relay_core.specs.Standing.{CellIs, nested_of}
+use Rattle.relay_core.specs.Records.{Left, Made}
+use Rattle.relay_core.specs.PlaceHistories.{CellIs, nested_of}
 use Rattle.relay_core.specs.Steps.{Relates}
-use Rattle.relay_core.specs.Turning.{IsAbove, made_by}
-use Rattle.board_turns.specs.Bringing.{brings}
-use Rattle.board_turns.specs.Nesting.{leaving, gone_left}
-use Rattle.board_turns.specs.InCells.{moment_in, HasSpace, OfferComes, AnswerComes, TakesOffer, TakesAnswer, PreparesPart, CommitsPart, Prepares, Commits, OpenedFor}
+use Rattle.relay_core.specs.Turns.{IsAbove, made_by}
+use Rattle.board_turns.specs.OfferEvents.{brings}
+use Rattle.board_turns.specs.NestedSteps.{leaving, gone_left}
+use Rattle.board_turns.specs.InCells.{moment_of_cell, HasSpace, OfferComes, AnswerComes, TakesOffer, TakesAnswer, PreparesPart, CommitsPart, Prepares, Commits, OpenedFor}
 use Rattle.board_turns.proofs.Boxing.{Gives}
 
 -- Offers, answers and ends are nested.
 
-kept_event : (moment : ℕ) (event : CellEvent) (h : List CellEntry) → kept (nested_of h) ≡ kept h
-    → kept (nested_of (entry_at moment event ∷ h)) ≡ kept (entry_at moment event ∷ h)
+kept_event : (moment : ℕ) (event : CellEvent) (h : List CellEntry) → lasting_entries (nested_of h) ≡ lasting_entries h
+    → lasting_entries (nested_of (entry_at moment event ∷ h)) ≡ lasting_entries (entry_at moment event ∷ h)
 kept_event moment (Prepare call legs keys dropped) h rest = ap (λ (l : List CellEntry). entry_at moment (Prepare call legs keys dropped) ∷ l) rest
 kept_event moment (Commit signal) h rest = ap (λ (l : List CellEntry). entry_at moment (Commit signal) ∷ l) rest
 kept_event moment (Relay r) h rest = rest
 kept_event moment (Expire due) h rest = rest
-kept_event moment (Read told) h rest = rest
+kept_event moment (Read log) h rest = rest
 kept_event moment End h rest = ap (λ (l : List CellEntry). entry_at moment End ∷ l) rest
 
-kept_nested : (h : List CellEntry) → kept (nested_of h) ≡ kept h
+kept_nested : (h : List CellEntry) → lasting_entries (nested_of h) ≡ lasting_entries h
 kept_nested [] = refl
 kept_nested (e ∷ h) = kept_event e.moment e.event h (kept_nested h)
 
 -- two histories with the same nested entries have the same lasting ones
-pub same_lasting : (h k : List CellEntry) → nested_of h ≡ nested_of k → kept h ≡ kept k
-same_lasting h k same = sym (kept_nested h) ∙ ap (λ (l : List CellEntry). kept l) same ∙ kept_nested k
+pub same_lasting : (h k : List CellEntry) → nested_of h ≡ nested_of k → lasting_entries h ≡ lasting_entries k
+same_lasting h k same = sym (kept_nested h) ∙ ap (λ (l : List CellEntry). lasting_entries l) same ∙ kept_nested k
 
 -- What a cell that is given takes.
 
@@ -89,10 +89,10 @@ module _ {I O : Type 0} where
   due_fits config (part.Board b) own signal is = absurd is
   due_fits config (part.Pair b) own signal is = absurd is
   due_fits config (part.Cell c) own signal is =
-      let kept = due_kept own is.0 signal (same_lasting own is.0 (sym is.1)) in
+      let lasting_entries = due_kept own is.0 signal (same_lasting own is.0 (sym is.1)) in
       let due = due_is config c is.0 signal is.2 in
       let keys = due_named config (since_end is.0) c.legs.items signal is.2.legs_for in
-      omega (arith, kept, due, keys)
+      omega (arith, lasting_entries, due, keys)
 
   pub space_is : (config : Config) (x : Part I O) (l : List Entry) (cell n : ℕ) (signal : List SectionSignal) (contexts : ℕ)
       → CellIs config x (nested_of (cell_history l cell n)) → IsAbove l cell n → HasSpace l cell signal contexts
@@ -140,16 +140,16 @@ module _ {I O : Type 0} where
       subst (λ (z : Part I O). PreparesPart z (part.Cell new) signal call keys dropped now gone) (sym is)
       (λ config h for comes. steps config h keys dropped for o.tells comes)
 
-module _ {I O : Type 0} (it : I → EndTold InCall) (ic : I → ℕ) (ot : O → EndTold OutCall) (oc : O → ℕ) where
+module _ {I O : Type 0} (it : I → EndLog InCall) (ic : I → ℕ) (ot : O → EndLog OutCall) (oc : O → ℕ) where
   pub prepare_relates : (x : Part I O) (old new : cell.Cell O) (signal : prepared.Prepare O) (call : ℕ) (keys : List NewKey) (dropped : List ℕ) (now : ℕ)
       (gone : List (Lease × O × O)) (number : ℕ) → x ≡ part.Cell old → TakesOffer x signal call keys dropped → OpenedFor ot x signal
       → ((config : Config) (h : List CellEntry) (k : List NewKey) (d : List ℕ) → CellFor config old h → PrepareFor signal k d → CanCome config (since_end h) signal call k d
       → CellPrepares config old new h signal call k d now gone)
-      → Relates it ic ot oc x (leaving number now (max now (moment_in x)) (Cell (Prepare call (added signal) keys dropped)) (gone_left ot gone)) (part.Cell new)
+      → Relates it ic ot oc x (leaving number now (max now (moment_of_cell x)) (Cell (Prepare call (added signal) keys dropped)) (gone_left ot gone)) (part.Cell new)
   prepare_relates x old new signal call keys dropped now gone number is takes opened steps =
       let o = offer_of x old signal call keys dropped is takes in
       let at : (config : Config) (h : List CellEntry) → CellFor config old h → o.config ≡ config = λ config h for. sym o.stands.config_is ∙ for.config_is in
-      subst (λ (z : Part I O). Relates it ic ot oc z (leaving number now (max now (moment_in z)) (Cell (Prepare call (added signal) keys dropped)) (gone_left ot gone)) (part.Cell new)) (sym is)
+      subst (λ (z : Part I O). Relates it ic ot oc z (leaving number now (max now (moment_of_cell z)) (Cell (Prepare call (added signal) keys dropped)) (gone_left ot gone)) (part.Cell new)) (sym is)
       (record {
         signal = signal;
         legs_are = refl;
@@ -168,10 +168,10 @@ module _ {I O : Type 0} (it : I → EndTold InCall) (ic : I → ℕ) (ot : O →
   pub commit_relates : (x : Part I O) (old new : cell.Cell O) (signal : List SectionSignal) (contexts now : ℕ) (gone : List (Lease × O × O)) (number : ℕ)
       → x ≡ part.Cell old → TakesAnswer x signal contexts
       → ((config : Config) (h : List CellEntry) → CellFor config old h → NamesKeys (since_end h) signal → CellCommits config old new h signal now gone)
-      → Relates it ic ot oc x (leaving number now (max now (moment_in x)) (Cell (Commit signal)) (gone_left ot gone)) (part.Cell new)
+      → Relates it ic ot oc x (leaving number now (max now (moment_of_cell x)) (Cell (Commit signal)) (gone_left ot gone)) (part.Cell new)
   commit_relates x old new signal contexts now gone number is takes steps =
       let a = answer_of x old signal contexts is takes in
-      subst (λ (z : Part I O). Relates it ic ot oc z (leaving number now (max now (moment_in z)) (Cell (Commit signal)) (gone_left ot gone)) (part.Cell new)) (sym is)
+      subst (λ (z : Part I O). Relates it ic ot oc z (leaving number now (max now (moment_of_cell z)) (Cell (Commit signal)) (gone_left ot gone)) (part.Cell new)) (sym is)
       (record {
         gone = gone;
         left_are = refl;
@@ -183,13 +183,13 @@ module _ {I O : Type 0} (it : I → EndTold InCall) (ic : I → ℕ) (ot : O →
       })
 
   -- the step tells the legs of what was prepared
-  pub relates_brought : (x y : Part I O) (number moment last call : ℕ) (told signal : prepared.Prepare O) (left : Left) → told ≡ signal
+  pub relates_brought : (x y : Part I O) (number moment last call : ℕ) (log signal : prepared.Prepare O) (left : Left) → log ≡ signal
       → Relates it ic ot oc x (leaving number moment last (Cell (brings call signal)) left) y
-      → Relates it ic ot oc x (leaving number moment last (Cell (brings call told)) left) y
-  relates_brought x y number moment last call told signal left same steps =
+      → Relates it ic ot oc x (leaving number moment last (Cell (brings call log)) left) y
+  relates_brought x y number moment last call log signal left same steps =
       subst (λ (s : prepared.Prepare O). Relates it ic ot oc x (leaving number moment last (Cell (brings call s)) left) y) (sym same) steps
 
-module _ {M I O T : Type 0} {g : _} (it : I → EndTold InCall) (ic : I → ℕ) (ot : O → EndTold OutCall) (oc : O → ℕ) where
+module _ {M I O T : Type 0} {g : _} (it : I → EndLog InCall) (ic : I → ℕ) (ot : O → EndLog OutCall) (oc : O → ℕ) where
   pub prepares_by : (config : Config) (hand : Hand M (Part I O) Made T g) (place n : ℕ) (signal : prepared.Prepare O) (call : ℕ) (keys : List NewKey)
       (dropped : List ℕ) (now : ℕ) (x y : Part I O) (gone : List (Lease × O × O))
       → Gives it ic ot oc hand place n x × CellIs config x (nested_of (cell_history (made_by hand) place n))
@@ -228,8 +228,8 @@ module _ {M I O T : Type 0} {g : _} (it : I → EndTold InCall) (ic : I → ℕ)
 
 module _ {M S T O : Type 0} {g : _} where
   -- the step tells the legs of what was prepared
-  pub tells_brought : (place n number moment last call : ℕ) (told signal : prepared.Prepare O) (left : Left) (outcome : T) (old new : Hand M S Made T g)
-      → told ≡ signal → EndsTurn place n (leaving number moment last (Cell (brings call told)) left) outcome old new
+  pub tells_brought : (place n number moment last call : ℕ) (log signal : prepared.Prepare O) (left : Left) (outcome : T) (old new : Hand M S Made T g)
+      → log ≡ signal → EndsTurn place n (leaving number moment last (Cell (brings call log)) left) outcome old new
       → EndsTurn place n (leaving number moment last (Cell (brings call signal)) left) outcome old new
-  tells_brought place n number moment last call told signal left outcome old new same ended =
+  tells_brought place n number moment last call log signal left outcome old new same ended =
       subst (λ (s : prepared.Prepare O). EndsTurn place n (leaving number moment last (Cell (brings call s)) left) outcome old new) same ended

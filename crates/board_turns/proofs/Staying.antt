@@ -4,13 +4,13 @@ use Rattle.relay_outside.specs.declared.ports.PortCall.{PortCall}
 use Rattle.relay_outside.specs.declared.settings.Config.{Config}
 use Rattle.turn_table.specs.Hands.{entries}
 use Rattle.relay_core.specs.Scripts.{Owed}
-use Rattle.relay_core.specs.Turning.{GainsNested}
+use Rattle.relay_core.specs.Turns.{GainsNested}
 use Rattle.board_turns.specs.declared.board_turn.BoardEntryId.{BoardEntryId}
 use Rattle.board_turns.specs.declared.board_turn.MainHand.{MainHand}
 use Rattle.board_turns.specs.declared.board_turn.BoardTurn.{BoardTurn}
-use Rattle.board_turns.specs.Nesting.{MayNest}
-use Rattle.board_turns.specs.Ties.{Ties}
-use Rattle.board_turns.specs.BoardTurns.{CanNest, Nests, Makes, StaysInTurn, Works}
+use Rattle.board_turns.specs.NestedSteps.{MayNest}
+use Rattle.board_turns.specs.Ties.{PortsFollowRows}
+use Rattle.board_turns.specs.BoardTurns.{CanNest, Nests, MakesNested, StaysInTurn, Works}
 use Rattle.board_turns.proofs.Nesting.{gains_more, same_again}
 use Rattle.board_turns.proofs.Tying.{ties_none, ties_both}
 
@@ -49,13 +49,13 @@ module _ {I O : Type 0} {g : _} where
         (subst (λ (config : Config). MayNest config mid.turns.now new.hand.now) (same_config old mid first) second.may);
   }
 
-  pub makes_both : (owed more : List Owed) (old mid new : MainHand I O g) → Nests old mid → Makes owed old mid → Makes more mid new → Makes (owed ++ more) old new
+  pub makes_both : (owed more : List Owed) (old mid new : MainHand I O g) → Nests old mid → MakesNested owed old mid → MakesNested more mid new → MakesNested (owed ++ more) old new
   makes_both owed more old mid new nests first second =
       gains_more old.entry_id.number old.entry_id.moment owed more old.hand.now mid.hand.now new.hand.now first
       (subst (λ (id : BoardEntryId). GainsNested id.number id.moment more mid.hand.now new.hand.now) nests.entry_is second)
 
-module _ {P I O : Type 0} {g : _} (told : P → Option (List PortCall)) (faults : P → ℕ) where
-  pub stays_none : (turn : BoardTurn P I O g) → CanNest turn.main → StaysInTurn told faults turn turn
+module _ {P I O : Type 0} {g : _} (log : P → Option (List PortCall)) (faults : P → ℕ) where
+  pub stays_none : (turn : BoardTurn P I O g) → CanNest turn.main → StaysInTurn log faults turn turn
   stays_none turn may = record {
     nests = nests_none turn.main may;
     devices = record { board_is = refl; ports_are = refl; gone_is = refl };
@@ -63,7 +63,7 @@ module _ {P I O : Type 0} {g : _} (told : P → Option (List PortCall)) (faults 
     later = omega arith;
   }
 
-  pub stays_both : (old mid new : BoardTurn P I O g) → StaysInTurn told faults old mid → StaysInTurn told faults mid new → StaysInTurn told faults old new
+  pub stays_both : (old mid new : BoardTurn P I O g) → StaysInTurn log faults old mid → StaysInTurn log faults mid new → StaysInTurn log faults old new
   stays_both old mid new first second =
       let early = first.later in
       let late = second.later in
@@ -78,19 +78,19 @@ module _ {P I O : Type 0} {g : _} (told : P → Option (List PortCall)) (faults 
         later = omega (arith, early, late);
       }
 
-  pub works_none : (turn : BoardTurn P I O g) → CanNest turn.main → turn.gone.now ≡ [] → Works told faults turn turn
+  pub works_none : (turn : BoardTurn P I O g) → CanNest turn.main → turn.gone.now ≡ [] → Works log faults turn turn
   works_none turn may empty = record {
     stays = stays_none turn may;
-    ties = ties_none turn.main.config.now (told turn.ports.now) (entries turn.main.hand.now);
+    ties = ties_none turn.main.config.now (log turn.ports.now) (entries turn.main.hand.now);
     empty = empty;
   }
 
-  pub works_both : (old mid new : BoardTurn P I O g) → Works told faults old mid → Works told faults mid new → Works told faults old new
+  pub works_both : (old mid new : BoardTurn P I O g) → Works log faults old mid → Works log faults mid new → Works log faults old new
   works_both old mid new first second = record {
     stays = stays_both old mid new first.stays second.stays;
-    ties = ties_both old.main.config.now (told old.ports.now) (told mid.ports.now) (told new.ports.now) (entries old.main.hand.now) (entries mid.main.hand.now)
+    ties = ties_both old.main.config.now (log old.ports.now) (log mid.ports.now) (log new.ports.now) (entries old.main.hand.now) (entries mid.main.hand.now)
         (entries new.main.hand.now) first.ties
-        (subst (λ (config : Config). Ties config (told mid.ports.now) (told new.ports.now) (entries mid.main.hand.now) (entries new.main.hand.now))
+        (subst (λ (config : Config). PortsFollowRows config (log mid.ports.now) (log new.ports.now) (entries mid.main.hand.now) (entries new.main.hand.now))
         (same_config old.main mid.main first.stays.nests) second.ties);
     empty = second.empty;
   }

@@ -5,7 +5,7 @@ use Rattle.std.specs.List.{flat_map}
 use Rattle.std.proofs.lemmas.List.{length-map, take-map}
 use Rattle.relay_outside.specs.declared.settings.Config.{Config}
 use Rattle.relay_outside.specs.declared.ports.PortCall.{PortCall}
-use Rattle.relay_outside.specs.Told.{WhereTold}
+use Rattle.relay_outside.specs.DeviceLogs.{WhereLogged}
 use Rattle.turn_table.specs.declared.hands.Hand.{Hand}
 use Rattle.histories.specs.Words.{In, here, there, has}
 use Rattle.histories.proofs.Lists.{filtered, it_has}
@@ -16,21 +16,21 @@ use Rattle.call_board.specs.Fits.{IsFitting}
 use Rattle.call_board.specs.declared.board.Board.{Board}
 use Rattle.call_board.specs.declared.live_call.LiveCall.{LiveCall}
 use Rattle.call_board.specs.Views.{CallView, call_view, view_of}
-use Rattle.call_board.specs.Boards.{Shows, CallsFor}
+use Rattle.call_board.specs.Boards.{BoardMatches, CallsFor}
 use Rattle.call_board.specs.Whole.{with_ended}
 use Rattle.call_board.proofs.Found.{filter_map_is, ended_calls}
 use Rattle.call_board.proofs.FreeAfter.{live_once}
 use Rattle.call_board.proofs.Sieves.{without_taken}
 use Rattle.relay_core.specs.Entries.{Entry, board_history}
 use Rattle.relay_core.specs.Legal.{Orderly}
-use Rattle.relay_core.specs.Made.{Made, list_of}
+use Rattle.relay_core.specs.Records.{Made, list_of}
 use Rattle.relay_core.specs.Scripts.{ending}
-use Rattle.relay_core.specs.Turning.{IsAbove, GainsNested, made_by}
+use Rattle.relay_core.specs.Turns.{IsAbove, GainsNested, made_by}
 use Rattle.relay_core.proofs.Histories.{good_history}
-use Rattle.media_ports.specs.Held.{OpensHeld}
+use Rattle.media_ports.specs.OpenPorts.{OpensHeld}
 use Rattle.media_ports.proofs.Leased.{drop_next}
-use Rattle.board_turns.specs.Ending.{CanEnd}
-use Rattle.board_turns.specs.Stopping.{stop_entry, still_held}
+use Rattle.board_turns.specs.CallEnds.{CanEnd}
+use Rattle.board_turns.specs.Stops.{stop_entry, still_held}
 use Rattle.board_turns.proofs.Closed.{list_gained}
 use Rattle.board_turns.proofs.Next.{next_can}
 
@@ -96,7 +96,7 @@ next_number config h e i of fits at =
 
 -- there is one
 pub one_left : (config : Config) (h : List BoardEntry) (e : BoardEntry) (i : ℕ) (of : Call) (board : Board) → IsFitting config h → slice_get (live h) i ≡ Some of →
-    Shows config board (with_ended h e (take i (live h)) (view_of config h)) → 0 < length board.calls.list
+    BoardMatches config board (with_ended h e (take i (live h)) (view_of config h)) → 0 < length board.calls.list
 one_left config h e i of board fits at shows =
     let v = with_ended h e (take i (live h)) (view_of config h) in
     let long = calls_long config board.calls.list v.calls shows.calls_for in
@@ -118,18 +118,18 @@ not_yet config h i of fits at among =
 
 module _ {M S T : Type 0} {g : _} where
   -- and it may be ended
-  pub stop_can : (config : Config) (number moment : ℕ) (old now : Hand M S Made T g) (i : ℕ) (of : Call) (board : Board) (told : Option (List PortCall)) →
+  pub stop_can : (config : Config) (number moment : ℕ) (old now : Hand M S Made T g) (i : ℕ) (of : Call) (board : Board) (log : Option (List PortCall)) →
       Orderly config (made_by old) → IsAbove (made_by old) 0 number → slice_get (live (board_history (made_by old) number)) i ≡ Some of →
       GainsNested number moment (flat_map (ending config (board_history (made_by old) number) (stop_entry (board_history (made_by old) number))) (take i (live (board_history (made_by old) number)))) old now →
-      Shows config board (with_ended (board_history (made_by old) number) (stop_entry (board_history (made_by old) number)) (take i (live (board_history (made_by old) number))) (view_of config (board_history (made_by old) number))) →
-      WhereTold told (λ calls. OpensHeld config calls (still_held (board_history (made_by old) number) (stop_entry (board_history (made_by old) number)) (take i (live (board_history (made_by old) number))))) →
-      CanEnd config (made_by now) board told of.number of (closed_of (board_history (made_by old) number) (stop_entry (board_history (made_by old) number)) of)
-  stop_can config number moment old now i of board told o above at gains shows opens =
+      BoardMatches config board (with_ended (board_history (made_by old) number) (stop_entry (board_history (made_by old) number)) (take i (live (board_history (made_by old) number))) (view_of config (board_history (made_by old) number))) →
+      WhereLogged log (λ calls. OpensHeld config calls (still_held (board_history (made_by old) number) (stop_entry (board_history (made_by old) number)) (take i (live (board_history (made_by old) number))))) →
+      CanEnd config (made_by now) board log of.number of (closed_of (board_history (made_by old) number) (stop_entry (board_history (made_by old) number)) of)
+  stop_can config number moment old now i of board log o above at gains shows opens =
       let l = made_by old in
       let h = board_history l number in
       let e = stop_entry h in
       let alive = in_at (live h) i of at in
-      subst (λ (es : List Entry). CanEnd config es board told of.number of (closed_of h e of))
+      subst (λ (es : List Entry). CanEnd config es board log of.number of (closed_of h e of))
       (sym (list_gained number moment (flat_map (ending config h e) (take i (live h))) old now gains))
-      (next_can config l (list_of gains.rows) o number e (take i (live h)) of board told above alive alive (not_yet config h i of (good_history config l o number) at)
+      (next_can config l (list_of gains.rows) o number e (take i (live h)) of board log above alive alive (not_yet config h i of (good_history config l o number) at)
       (λ d j. in_taken i (live h) j) gains.gained.owes (view_of config h) refl refl refl shows opens)

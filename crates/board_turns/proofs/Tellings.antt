@@ -14,26 +14,26 @@ use Rattle.call_board.specs.declared.board.Board.{Board}
 use Rattle.call_board.specs.Acts as act
 use Rattle.call_board.specs.Acts.{Act, Given, Control, BoardEntry}
 use Rattle.call_board.specs.Answers.{Answered}
-use Rattle.call_board.specs.Asked.{Reads, asked}
-use Rattle.call_board.specs.Fits.{GivesNothing, GivesFor, Hears, is_heard, is_repeat, demanded}
-use Rattle.call_board.specs.Kept.{is_kept}
+use Rattle.call_board.specs.Requests.{ReadsBody, asked}
+use Rattle.call_board.specs.Fits.{GivesNothing, GivesFor, ReadsRequest, is_request_read, is_repeat, demanded}
+use Rattle.call_board.specs.KeptReplies.{is_kept}
 use Rattle.call_board.specs.Replies.{Fault}
 use Rattle.call_board.proofs.Done.{IsDue, with_reply, due_fits, out_of_memory_due}
 use Rattle.control_messages.proofs.Datagrams.{fault_is}
 use Rattle.relay_core.specs.declared.part.Part.{Part}
 use Rattle.relay_core.specs.Entries.{board_history}
-use Rattle.relay_core.specs.Made.{Made}
-use Rattle.relay_core.specs.Turning.{made_by}
+use Rattle.relay_core.specs.Records.{Made}
+use Rattle.relay_core.specs.Turns.{made_by}
 use Rattle.board_turns.specs.declared.board_turn.BoardEntryId.{BoardEntryId}
-use Rattle.board_turns.specs.Acting.{InTurn}
+use Rattle.board_turns.specs.Acts.{InTurn}
 use Rattle.control_messages.specs.declared.request.Request.{Request}
 use Rattle.board_turns.specs.declared.device_answers.DeviceAnswers.{DeviceAnswers}
 use Rattle.board_turns.specs.declared.device_answers.DeviceAnswers.TheVariants.{Nothing, OutOfMemory}
 use Rattle.board_turns.specs.declared.command_outcome.CommandOutcome.{CommandOutcome}
 use Rattle.board_turns.specs.Controls.{unanswered}
-use Rattle.board_turns.specs.Giving.{given_by}
-use Rattle.board_turns.specs.Carrying.{hearing_as, hearing_by, Carries}
-use Rattle.board_turns.specs.Telling.{IsAnew, IsShort, Tells, TellsBy}
+use Rattle.board_turns.specs.DeviceAnswers.{given_by}
+use Rattle.board_turns.specs.Commands.{record_as, record_by, ExecutesCommand}
+use Rattle.board_turns.specs.PlainReplies.{IsAnew, RanOutOfMemory, Tells, TellsBy}
 use Rattle.board_turns.proofs.Plain.{is_plain, carries_due, does_nothing}
 
 -- a datagram that is read is short enough
@@ -61,84 +61,84 @@ gives_plain d given (act.Queried of) t nothing none fed = absurd (let k : false 
 
 module _ {M I O T : Type 0} {g : _} where
   out_of_memory_carries : (config : Config) (turns : Turns M (Part I O) Made T) (hand : Hand M (Part I O) Made T g) (entry_id : BoardEntryId) (request : Request) (pairs : Option Entries)
-      (chosen : List (Option CryptoLine)) (board : Board) (told : Option (List PortCall))
-      → InTurn config turns hand entry_id board told → IsAnew (board_history (made_by hand) entry_id.number) entry_id.moment request
-      → Carries config hand hand entry_id (hearing_as request pairs chosen OutOfMemory) None board told
-  out_of_memory_carries config turns hand entry_id request pairs chosen board told turn anew =
+      (chosen : List (Option CryptoLine)) (board : Board) (log : Option (List PortCall))
+      → InTurn config turns hand entry_id board log → IsAnew (board_history (made_by hand) entry_id.number) entry_id.moment request
+      → ExecutesCommand config hand hand entry_id (record_as request pairs chosen OutOfMemory) None board log
+  out_of_memory_carries config turns hand entry_id request pairs chosen board log turn anew =
       let h = board_history (made_by hand) entry_id.number in
-      let x = hearing_as request pairs chosen OutOfMemory in
+      let x = record_as request pairs chosen OutOfMemory in
       let c = unanswered x in
       let due = with_reply config c (Fault E17) act.OutOfMemory in
       let is = out_of_memory_due config h entry_id.moment c anew.not_kept refl in
-      carries_due config hand hand entry_id x due None board told is
+      carries_due config hand hand entry_id x due None board log is
       (due_fits config h entry_id.moment c due is anew.framed anew.length_is
       (λ read. absurd (not_read true (not request.too_long) read)) (λ heard. absurd (let k : false ≡ true = heard in cc))
       (record { no_opens = refl; no_draws = refl; none_failed = refl }) (λ s t. refl))
-      (does_nothing config turns hand entry_id x due board told turn.shows turn.opens refl refl) (refl, sym (fault_is config request.cookie.now request.body.now E17))
+      (does_nothing config turns hand entry_id x due board log turn.shows turn.opens refl refl) (refl, sym (fault_is config request.cookie.now request.body.now E17))
 
   -- memory ran out
   pub short_carries : (config : Config) (turns : Turns M (Part I O) Made T) (hand : Hand M (Part I O) Made T g) (entry_id : BoardEntryId) (request : Request) (pairs : Option Entries)
-      (chosen : List (Option CryptoLine)) (device_answers : DeviceAnswers) (board : Board) (told : Option (List PortCall))
-      → InTurn config turns hand entry_id board told → IsAnew (board_history (made_by hand) entry_id.number) entry_id.moment request → device_answers ≡ OutOfMemory
-      → Carries config hand hand entry_id (hearing_as request pairs chosen device_answers) None board told
-  short_carries config turns hand entry_id request pairs chosen device_answers board told turn anew is =
-      subst (λ (given : DeviceAnswers). Carries config hand hand entry_id (hearing_as request pairs chosen given) None board told) (sym is)
-      (out_of_memory_carries config turns hand entry_id request pairs chosen board told turn anew)
+      (chosen : List (Option CryptoLine)) (device_answers : DeviceAnswers) (board : Board) (log : Option (List PortCall))
+      → InTurn config turns hand entry_id board log → IsAnew (board_history (made_by hand) entry_id.number) entry_id.moment request → device_answers ≡ OutOfMemory
+      → ExecutesCommand config hand hand entry_id (record_as request pairs chosen device_answers) None board log
+  short_carries config turns hand entry_id request pairs chosen device_answers board log turn anew is =
+      subst (λ (given : DeviceAnswers). ExecutesCommand config hand hand entry_id (record_as request pairs chosen given) None board log) (sym is)
+      (out_of_memory_carries config turns hand entry_id request pairs chosen board log turn anew)
 
   -- the same of a command that was carried out so
   pub is_short_carries : (config : Config) (turns : Turns M (Part I O) Made T) (hand : Hand M (Part I O) Made T g) (entry_id : BoardEntryId) (request : Request) (pairs : Option Entries)
-      (done : CommandOutcome) (board : Board) (told : Option (List PortCall))
-      → InTurn config turns hand entry_id board told → IsAnew (board_history (made_by hand) entry_id.number) entry_id.moment request → IsShort done
-      → Carries config hand hand entry_id (hearing_by request pairs done) done.reply board told
-  is_short_carries config turns hand entry_id request pairs done board told turn anew short =
-      subst (λ (reply : Option (Room ℕ)). Carries config hand hand entry_id (hearing_by request pairs done) reply board told) (sym short.without)
-      (short_carries config turns hand entry_id request pairs done.chosen_lines done.device_answers board told turn anew short.answers_are)
+      (done : CommandOutcome) (board : Board) (log : Option (List PortCall))
+      → InTurn config turns hand entry_id board log → IsAnew (board_history (made_by hand) entry_id.number) entry_id.moment request → RanOutOfMemory done
+      → ExecutesCommand config hand hand entry_id (record_by request pairs done) done.reply board log
+  is_short_carries config turns hand entry_id request pairs done board log turn anew short =
+      subst (λ (reply : Option (Room ℕ)). ExecutesCommand config hand hand entry_id (record_by request pairs done) reply board log) (sym short.without)
+      (short_carries config turns hand entry_id request pairs done.chosen_lines done.device_answers board log turn anew short.answers_are)
 
   plain_carries : (config : Config) (turns : Turns M (Part I O) Made T) (hand : Hand M (Part I O) Made T g) (entry_id : BoardEntryId) (request : Request) (pairs : Option Entries)
-      (chosen : List (Option CryptoLine)) (due : Answered) (text : Room ℕ) (board : Board) (told : Option (List PortCall))
-      → InTurn config turns hand entry_id board told → IsAnew (board_history (made_by hand) entry_id.number) entry_id.moment request
-      → (request.too_long ≡ false → Reads request.body.now pairs)
-      → IsDue config (board_history (made_by hand) entry_id.number) entry_id.moment (unanswered (hearing_as request pairs chosen Nothing)) due
+      (chosen : List (Option CryptoLine)) (due : Answered) (text : Room ℕ) (board : Board) (log : Option (List PortCall))
+      → InTurn config turns hand entry_id board log → IsAnew (board_history (made_by hand) entry_id.number) entry_id.moment request
+      → (request.too_long ≡ false → ReadsBody request.body.now pairs)
+      → IsDue config (board_history (made_by hand) entry_id.number) entry_id.moment (unanswered (record_as request pairs chosen Nothing)) due
       → is_plain due.act ≡ true → is_kept due.act ≡ true
-      → (is_heard due.act ≡ true → Hears (board_history (made_by hand) entry_id.number) (unanswered (hearing_as request pairs chosen Nothing)) (asked config request.too_long pairs))
+      → (is_request_read due.act ≡ true → ReadsRequest (board_history (made_by hand) entry_id.number) (unanswered (record_as request pairs chosen Nothing)) (asked config request.too_long pairs))
       → text.list ≡ due.bytes
-      → Carries config hand hand entry_id (hearing_as request pairs chosen Nothing) (Some text) board told
-  plain_carries config turns hand entry_id request pairs chosen due text board told turn anew reads is plain kept hears bytes =
+      → ExecutesCommand config hand hand entry_id (record_as request pairs chosen Nothing) (Some text) board log
+  plain_carries config turns hand entry_id request pairs chosen due text board log turn anew reads is plain kept hears bytes =
       let h = board_history (made_by hand) entry_id.number in
-      let x = hearing_as request pairs chosen Nothing in
+      let x = record_as request pairs chosen Nothing in
       let c = unanswered x in
-      carries_due config hand hand entry_id x due (Some text) board told is
+      carries_due config hand hand entry_id x due (Some text) board log is
       (due_fits config h entry_id.moment c due is anew.framed anew.length_is
       (λ read. reads (read_short (not (is_repeat due.act)) request.too_long true read)) hears
       (gives_plain (demanded config h c) (given_by Nothing) due.act plain (record { no_opens = refl; no_draws = refl; none_failed = refl }) refl refl) (λ s t. refl))
-      (does_nothing config turns hand entry_id x due board told turn.shows turn.opens refl plain) (kept, bytes)
+      (does_nothing config turns hand entry_id x due board log turn.shows turn.opens refl plain) (kept, bytes)
 
   tells_case : (config : Config) (turns : Turns M (Part I O) Made T) (hand : Hand M (Part I O) Made T g) (entry_id : BoardEntryId) (request : Request) (pairs : Option Entries)
-      (chosen : List (Option CryptoLine)) (due : Answered) (done : CommandOutcome) (reply : Option (Room ℕ)) (board : Board) (told : Option (List PortCall))
-      → InTurn config turns hand entry_id board told → IsAnew (board_history (made_by hand) entry_id.number) entry_id.moment request
-      → (request.too_long ≡ false → Reads request.body.now pairs)
-      → IsDue config (board_history (made_by hand) entry_id.number) entry_id.moment (unanswered (hearing_as request pairs chosen Nothing)) due
+      (chosen : List (Option CryptoLine)) (due : Answered) (done : CommandOutcome) (reply : Option (Room ℕ)) (board : Board) (log : Option (List PortCall))
+      → InTurn config turns hand entry_id board log → IsAnew (board_history (made_by hand) entry_id.number) entry_id.moment request
+      → (request.too_long ≡ false → ReadsBody request.body.now pairs)
+      → IsDue config (board_history (made_by hand) entry_id.number) entry_id.moment (unanswered (record_as request pairs chosen Nothing)) due
       → is_plain due.act ≡ true → is_kept due.act ≡ true
-      → (is_heard due.act ≡ true → Hears (board_history (made_by hand) entry_id.number) (unanswered (hearing_as request pairs chosen Nothing)) (asked config request.too_long pairs))
+      → (is_request_read due.act ≡ true → ReadsRequest (board_history (made_by hand) entry_id.number) (unanswered (record_as request pairs chosen Nothing)) (asked config request.too_long pairs))
       → TellsBy chosen due.bytes done reply
-      → Carries config hand hand entry_id (hearing_by request pairs done) reply board told
-  tells_case config turns hand entry_id request pairs chosen due done None board told turn anew reads is plain kept hears tells =
-      short_carries config turns hand entry_id request pairs done.chosen_lines done.device_answers board told turn anew tells
-  tells_case config turns hand entry_id request pairs chosen due done (Some text) board told turn anew reads is plain kept hears tells =
-      subst (λ (lines : List (Option CryptoLine)). Carries config hand hand entry_id (hearing_as request pairs lines done.device_answers) (Some text) board told) (sym tells.0)
-      (subst (λ (device_answers : DeviceAnswers). Carries config hand hand entry_id (hearing_as request pairs chosen device_answers) (Some text) board told) (sym tells.1)
-      (plain_carries config turns hand entry_id request pairs chosen due text board told turn anew reads is plain kept hears tells.2))
+      → ExecutesCommand config hand hand entry_id (record_by request pairs done) reply board log
+  tells_case config turns hand entry_id request pairs chosen due done None board log turn anew reads is plain kept hears tells =
+      short_carries config turns hand entry_id request pairs done.chosen_lines done.device_answers board log turn anew tells
+  tells_case config turns hand entry_id request pairs chosen due done (Some text) board log turn anew reads is plain kept hears tells =
+      subst (λ (lines : List (Option CryptoLine)). ExecutesCommand config hand hand entry_id (record_as request pairs lines done.device_answers) (Some text) board log) (sym tells.0)
+      (subst (λ (device_answers : DeviceAnswers). ExecutesCommand config hand hand entry_id (record_as request pairs chosen device_answers) (Some text) board log) (sym tells.1)
+      (plain_carries config turns hand entry_id request pairs chosen due text board log turn anew reads is plain kept hears tells.2))
 
   -- A command that changes nothing got the reply that is due, where these crypto lines were chosen in its description, or memory
   -- ran out.
   pub tells_carries : (config : Config) (turns : Turns M (Part I O) Made T) (hand : Hand M (Part I O) Made T g) (entry_id : BoardEntryId) (request : Request) (pairs : Option Entries)
-      (chosen : List (Option CryptoLine)) (due : Answered) (done : CommandOutcome) (board : Board) (told : Option (List PortCall))
-      → InTurn config turns hand entry_id board told → IsAnew (board_history (made_by hand) entry_id.number) entry_id.moment request
-      → (request.too_long ≡ false → Reads request.body.now pairs)
-      → IsDue config (board_history (made_by hand) entry_id.number) entry_id.moment (unanswered (hearing_as request pairs chosen Nothing)) due
+      (chosen : List (Option CryptoLine)) (due : Answered) (done : CommandOutcome) (board : Board) (log : Option (List PortCall))
+      → InTurn config turns hand entry_id board log → IsAnew (board_history (made_by hand) entry_id.number) entry_id.moment request
+      → (request.too_long ≡ false → ReadsBody request.body.now pairs)
+      → IsDue config (board_history (made_by hand) entry_id.number) entry_id.moment (unanswered (record_as request pairs chosen Nothing)) due
       → is_plain due.act ≡ true → is_kept due.act ≡ true
-      → (is_heard due.act ≡ true → Hears (board_history (made_by hand) entry_id.number) (unanswered (hearing_as request pairs chosen Nothing)) (asked config request.too_long pairs))
+      → (is_request_read due.act ≡ true → ReadsRequest (board_history (made_by hand) entry_id.number) (unanswered (record_as request pairs chosen Nothing)) (asked config request.too_long pairs))
       → Tells chosen due.bytes done
-      → Carries config hand hand entry_id (hearing_by request pairs done) done.reply board told
-  tells_carries config turns hand entry_id request pairs chosen due done board told turn anew reads is plain kept hears tells =
-      tells_case config turns hand entry_id request pairs chosen due done done.reply board told turn anew reads is plain kept hears tells
+      → ExecutesCommand config hand hand entry_id (record_by request pairs done) done.reply board log
+  tells_carries config turns hand entry_id request pairs chosen due done board log turn anew reads is plain kept hears tells =
+      tells_case config turns hand entry_id request pairs chosen due done done.reply board log turn anew reads is plain kept hears tells

@@ -4,7 +4,7 @@ use Rattle.relay_outside.specs.declared.ports.InCall.{InCall}
 use Rattle.relay_outside.specs.declared.ports.OutCall.{OutCall}
 use Rattle.relay_outside.specs.declared.ports.PortCall.{PortCall}
 use Rattle.relay_outside.specs.declared.settings.Config.{Config}
-use Rattle.relay_outside.specs.Told.{EndTold}
+use Rattle.relay_outside.specs.DeviceLogs.{EndLog}
 use Rattle.turn_table.specs.declared.machine.Entry as table
 use Rattle.turn_table.specs.declared.hands.Turns.{Turns}
 use Rattle.turn_table.specs.declared.hands.Hand.{Hand}
@@ -15,24 +15,24 @@ use Rattle.histories.proofs.Lists.{keeps, filtered, maps, mapped, it_has, has_it
 use Rattle.call_board.specs.declared.board.Board as board
 use Rattle.call_board.specs.declared.live_call.LiveCall.{LiveCall}
 use Rattle.call_board.specs.Acts.{Call, Tick, BoardEntry}
-use Rattle.call_board.specs.Boards.{BoardFor, CallsFor, Shows}
+use Rattle.call_board.specs.Boards.{BoardFor, CallsFor, BoardMatches}
 use Rattle.call_board.specs.Calls.{live}
 use Rattle.call_board.specs.Fits.{IsFitting, named_live}
-use Rattle.call_board.specs.Views.{View, CallView, call_view, view_of, at_moment, last_moment}
+use Rattle.call_board.specs.Views.{View, CallView, call_view, view_of, view_at_moment, board_last_moment}
 use Rattle.call_board.proofs.Calls.{live_numbers}
 use Rattle.call_board.proofs.Cells.{live_step}
 use Rattle.call_board.proofs.Sieves.{filter_alike}
 use Rattle.relay_core.specs.declared.part.Part.{Part}
 use Rattle.relay_core.specs.declared.part.Part.TheVariants as part
 use Rattle.relay_core.specs.Entries.{board_history}
-use Rattle.relay_core.specs.Made.{Made, list_of}
-use Rattle.relay_core.specs.Standing.{BoardIs}
+use Rattle.relay_core.specs.Records.{Made, list_of}
+use Rattle.relay_core.specs.PlaceHistories.{BoardIs}
 use Rattle.relay_core.specs.Steps.{Relates}
-use Rattle.relay_core.specs.Turning.{made_by}
+use Rattle.relay_core.specs.Turns.{made_by}
 use Rattle.relay_core.proofs.Histories.{good_history}
 use Rattle.relay_core.proofs.Turns.{nothing_more}
 use Rattle.board_turns.specs.Between.{board_of, IsBetween}
-use Rattle.board_turns.specs.Ticking.{EndsDue, tick_at, tick_entry, tick_made, AreDue, IsDueBy}
+use Rattle.board_turns.specs.Ticks.{EndsDue, tick_at, tick_entry, tick_made, AreDue, IsDueBy}
 use Rattle.board_turns.proofs.Stopped.{views_numbers}
 use Rattle.board_turns.proofs.Ticked.{same_truth}
 use Rattle.board_turns.proofs.StopTurns.{moved, stood}
@@ -95,14 +95,14 @@ module _ {M I O T : Type 0} {g : _} where
   made_after nested n now x = tick_made (board_history (made_by nested) n) now (calls_gone (board_history (made_by nested) n) x)
 
   module _ (config : Config) (turns : Turns M (Part I O) Made T) (mid nested : Hand M (Part I O) Made T g) (turn : Turn M (Part I O) Made T) (now count : ℕ) (x : Part I O)
-      (told : Option (List PortCall)) (calls : List Call) (begins : Begins config turns mid turn)
-      (ends : EndsDue config (board_history (made_by mid) (front_of turn)) (front_of turn) (max now (last_moment (board_history (made_by mid) (front_of turn)))) mid nested count told calls)
+      (log : Option (List PortCall)) (calls : List Call) (begins : Begins config turns mid turn)
+      (ends : EndsDue config (board_history (made_by mid) (front_of turn)) (front_of turn) (max now (board_last_moment (board_history (made_by mid) (front_of turn)))) mid nested count log calls)
       (stands : BoardIs config x (tick_entry (board_history (made_by mid) (front_of turn)) now calls ∷ board_history (made_by mid) (front_of turn))) where
     -- the nested entries of a tick change nothing of the board's history
     same_history : board_history (made_by nested) (front_of turn) ≡ board_history (made_by mid) (front_of turn)
     same_history =
         let h = board_history (made_by mid) (front_of turn) in
-        nested_history config mid nested (front_of turn) (max now (last_moment h)) (front_of turn) (tick_entry h now calls) begins.orderly ends.named ends.gained
+        nested_history config mid nested (front_of turn) (max now (board_last_moment h)) (front_of turn) (tick_entry h now calls) begins.orderly ends.named ends.gained
 
     pub made_is : made_after nested (front_of turn) now x ≡ tick_made (board_history (made_by mid) (front_of turn)) now calls
     made_is =
@@ -111,7 +111,7 @@ module _ {M I O T : Type 0} {g : _} where
         ∙ ap (tick_made h now) (gone_are config h now calls x (good_history config (made_by mid) begins.orderly (front_of turn)) ends.named stands)
 
     -- the board that was taken relates to the one that ended the calls that were due
-    pub tick_relates : (it : I → EndTold InCall) (ic : I → ℕ) (ot : O → EndTold OutCall) (oc : O → ℕ) (old : Part I O)
+    pub tick_relates : (it : I → EndLog InCall) (ic : I → ℕ) (ot : O → EndLog OutCall) (oc : O → ℕ) (old : Part I O)
         → BoardIs config old (board_history (made_by mid) (front_of turn)) → Relates it ic ot oc old (made_after nested (front_of turn) now x) x
     tick_relates it ic ot oc old was =
         let h = board_history (made_by mid) (front_of turn) in
@@ -126,18 +126,18 @@ module _ {M I O T : Type 0} {g : _} where
     tick_ends old new outcome b same turned sames again ended =
         let h = board_history (made_by mid) (front_of turn) in
         subst (λ (k : List BoardEntry). Ended config turns old new (tick_entry k now calls)) (begins_whole config turns old mid turn same.1 begins)
-        (turn_ends config turns old mid nested new turn (tick_made h now calls) outcome (Tick calls) (max now (last_moment h)) b same turned begins.above sames ends.gained refl refl refl
+        (turn_ends config turns old mid nested new turn (tick_made h now calls) outcome (Tick calls) (max now (board_last_moment h)) b same turned begins.above sames ends.gained refl refl refl
         ends.named again (subst (λ (m : Made). EndsTurn (place_of turn) (front_of turn) m outcome nested new) made_is ended))
 
   -- what is known when the board's turn was taken for a tick, which goes on with this number and moment
   pub record TickBegins (config : Config) (mid : Hand M (Part I O) Made T g) (turn : Turn M (Part I O) Made T) (number moment now : ℕ) : Type 0 where
     pub number_is : number ≡ front_of turn
-    pub moment_is : moment ≡ max now (last_moment (board_history (made_by mid) (front_of turn)))
+    pub moment_is : moment ≡ max now (board_last_moment (board_history (made_by mid) (front_of turn)))
     pub fits : IsFitting config (board_history (made_by mid) (front_of turn))
 
   pub tick_begins : (config : Config) (turns : Turns M (Part I O) Made T) (mid : Hand M (Part I O) Made T g) (turn : Turn M (Part I O) Made T) (number moment now : ℕ)
       (x : Part I O) (was advanced : board.Board) → Begins config turns mid turn → number ≡ front_of turn → x ≡ state_of turn → x ≡ part.Board was
-      → ((config : Config) (v : View) → Shows config was v → Shows config advanced (at_moment v now) × (moment ≡ max now v.moment))
+      → ((config : Config) (v : View) → BoardMatches config was v → BoardMatches config advanced (view_at_moment v now) × (moment ≡ max now v.moment))
       → TickBegins config mid turn number moment now
   tick_begins config turns mid turn number moment now x was advanced begins number_is state_is is advances =
       let h = board_history (made_by mid) (front_of turn) in
@@ -146,26 +146,26 @@ module _ {M I O T : Type 0} {g : _} where
 
   -- the calls that were due have ended
   pub tick_ended : (config : Config) (mid nested left : Hand M (Part I O) Made T g) (turn : Turn M (Part I O) Made T) (number moment now count : ℕ) (new : board.Board)
-      (told : Option (List PortCall)) → TickBegins config mid turn number moment now → nested ≡ left
-      → (calls : List Call) × EndsDue config (board_history (made_by mid) number) number moment mid nested count told calls
+      (log : Option (List PortCall)) → TickBegins config mid turn number moment now → nested ≡ left
+      → (calls : List Call) × EndsDue config (board_history (made_by mid) number) number moment mid nested count log calls
       × BoardFor config new (tick_at moment calls ∷ board_history (made_by mid) number)
-      → (calls : List Call) × EndsDue config (board_history (made_by mid) (front_of turn)) (front_of turn) (max now (last_moment (board_history (made_by mid) (front_of turn)))) mid left
-      count told calls
+      → (calls : List Call) × EndsDue config (board_history (made_by mid) (front_of turn)) (front_of turn) (max now (board_last_moment (board_history (made_by mid) (front_of turn)))) mid left
+      count log calls
       × BoardIs {I = I} {O = O} config (part.Board new) (tick_entry (board_history (made_by mid) (front_of turn)) now calls ∷ board_history (made_by mid) (front_of turn))
-  tick_ended config mid nested left turn number moment now count new told b same ends =
+  tick_ended config mid nested left turn number moment now count new log b same ends =
       let h = board_history (made_by mid) (front_of turn) in
-      let there = subst (λ (k : ℕ). (calls : List Call) × EndsDue config (board_history (made_by mid) k) k moment mid nested count told calls
+      let there = subst (λ (k : ℕ). (calls : List Call) × EndsDue config (board_history (made_by mid) k) k moment mid nested count log calls
       × BoardFor config new (tick_at moment calls ∷ board_history (made_by mid) k)) b.number_is ends in
-      let at = subst (λ (m : ℕ). (calls : List Call) × EndsDue config h (front_of turn) m mid nested count told calls × BoardFor config new (tick_at m calls ∷ h)) b.moment_is there in
-      let owed = subst (λ (hand : Hand M (Part I O) Made T g). EndsDue config h (front_of turn) (max now (last_moment h)) mid hand count told at.0) same at.1 in
+      let at = subst (λ (m : ℕ). (calls : List Call) × EndsDue config h (front_of turn) m mid nested count log calls × BoardFor config new (tick_at m calls ∷ h)) b.moment_is there in
+      let owed = subst (λ (hand : Hand M (Part I O) Made T g). EndsDue config h (front_of turn) (max now (board_last_moment h)) mid hand count log at.0) same at.1 in
       (at.0, owed, ((at.1.named, b.fits), at.2))
 
   -- which calls are due is said of the hand before its turn
   pub due_before_turn : (config : Config) (old mid : Hand M (Part I O) Made T g) (n now : ℕ) (calls : List Call) → IsSameHand old mid → entries mid ≡ entries old
       → board_history (made_by mid) n ≡ board_of (made_by old)
-      → AreDue config (board_history (made_by mid) n) (max now (last_moment (board_history (made_by mid) n))) mid calls
-      → AreDue config (board_of (made_by old)) (max now (last_moment (board_of (made_by old)))) old calls
+      → AreDue config (board_history (made_by mid) n) (max now (board_last_moment (board_history (made_by mid) n))) mid calls
+      → AreDue config (board_of (made_by old)) (max now (board_last_moment (board_of (made_by old)))) old calls
   due_before_turn config old mid n now calls same list whole due all c i =
-      let moment = max now (last_moment (board_of (made_by old))) in
-      let by = subst (λ (h : List BoardEntry). AreDue config h (max now (last_moment h)) mid calls) whole due in
+      let moment = max now (board_last_moment (board_of (made_by old))) in
+      let by = subst (λ (h : List BoardEntry). AreDue config h (max now (board_last_moment h)) mid calls) whole due in
       subst (λ (rows : List (table.Entry Made T)). IsDueBy config (list_of rows) c.cell moment (has (map (λ (d : Call). d.number) calls) c.number)) list (by (same.2 ∙ all) c i)

@@ -6,7 +6,7 @@ use Rattle.std.specs.Prelude.{slice_get, ◌&&◌, if◌then◌else◌}
 use Rattle.std.specs.List.{flat_map}
 use Rattle.relay_outside.specs.declared.settings.Config.{Config}
 use Rattle.relay_outside.specs.declared.ports.PortCall.{PortCall}
-use Rattle.relay_outside.specs.Told.{WhereTold}
+use Rattle.relay_outside.specs.DeviceLogs.{WhereLogged}
 use Rattle.turn_table.specs.declared.hands.Turns.{Turns}
 use Rattle.turn_table.specs.declared.hands.Hand.{Hand}
 use Rattle.turn_table.specs.Hands.{IsSameHand, parts}
@@ -19,8 +19,8 @@ use Rattle.call_board.specs.Calls.{live}
 use Rattle.call_board.specs.Pairs.{Once, held, closed_of, closes_leg}
 use Rattle.call_board.specs.Fits.{IsFitting, named_live}
 use Rattle.call_board.specs.declared.board.Board.{Board}
-use Rattle.call_board.specs.Views.{View, CallView, call_view, view_of, at_moment, last_moment}
-use Rattle.call_board.specs.Boards.{BoardFor, Shows, CellsApart}
+use Rattle.call_board.specs.Views.{View, CallView, call_view, view_of, view_at_moment, board_last_moment}
+use Rattle.call_board.specs.Boards.{BoardFor, BoardMatches, CellsApart}
 use Rattle.call_board.specs.Whole.{with_ended}
 use Rattle.call_board.proofs.Entries.{ended_more, entry_stands}
 use Rattle.call_board.proofs.Found.{ended_calls, cells_while_ending}
@@ -32,20 +32,20 @@ use Rattle.call_board.proofs.Sieves.{is_out}
 use Rattle.relay_core.specs.declared.part.Part.{Part}
 use Rattle.relay_core.specs.Entries.{Entry, board_history, box_of}
 use Rattle.relay_core.specs.Legal.{Orderly}
-use Rattle.relay_core.specs.Made.{Made, list_of}
+use Rattle.relay_core.specs.Records.{Made, list_of}
 use Rattle.relay_core.specs.Scripts.{Owed, in_cell, ending, expiring, script}
-use Rattle.relay_core.specs.Turning.{IsAbove, GainsNested, made_by}
+use Rattle.relay_core.specs.Turns.{IsAbove, GainsNested, made_by}
 use Rattle.relay_core.proofs.Histories.{good_history}
 use Rattle.relay_core.proofs.Turns.{filter_append, nothing_more}
-use Rattle.media_ports.specs.Held.{OpensHeld, TellsHeld}
+use Rattle.media_ports.specs.OpenPorts.{OpensHeld, LogsHeld}
 use Rattle.media_ports.proofs.Leased.{take_next, drop_next}
 use Rattle.board_turns.specs.declared.board_turn.BoardEntryId.{BoardEntryId}
 use Rattle.board_turns.proofs.Nesting.{gains_more}
-use Rattle.board_turns.specs.Acting.{InTurn}
-use Rattle.board_turns.specs.Closing.{pairs_left}
-use Rattle.board_turns.specs.Ending.{CanEnd, leg_pairs}
-use Rattle.board_turns.specs.Stopping.{stop_entry, still_held}
-use Rattle.board_turns.specs.Ticking.{CanExpire, EndsDue, asking_of, tick_at, with_asked, IsDueBy}
+use Rattle.board_turns.specs.Acts.{InTurn}
+use Rattle.board_turns.specs.Closings.{pairs_left}
+use Rattle.board_turns.specs.CallEnds.{CanEnd, leg_pairs}
+use Rattle.board_turns.specs.Stops.{stop_entry, still_held}
+use Rattle.board_turns.specs.Ticks.{CanExpire, EndsDue, asking_of, tick_at, with_asked, IsDueBy}
 use Rattle.board_turns.proofs.Answered.{asked_of, due_of, numbers_of, asked_more, due_more, is_asked, is_due, named, sieve, left_count, spread_asked}
 use Rattle.board_turns.proofs.Closed.{list_gained, placed_by, gains_nothing}
 use Rattle.board_turns.proofs.Expiring.{below, due_before}
@@ -59,13 +59,13 @@ abbrev pub asking : Config → List BoardEntry → Call × Bool → List Owed
 asking config h a = asking_of config a.0 (closed_of h (stop_entry h) a.0) a.1
 
 module _ {M I O T : Type 0} {g : _} where
-  pub record Asked (config : Config) (h : List BoardEntry) (number moment : ℕ) (old now : Hand M (Part I O) Made T g) (board : Board) (told : Option (List PortCall)) (asked ended : ℕ) : Type 0 where
+  pub record Asked (config : Config) (h : List BoardEntry) (number moment : ℕ) (old now : Hand M (Part I O) Made T g) (board : Board) (log : Option (List PortCall)) (asked ended : ℕ) : Type 0 where
     pub answers : List (Call × Bool)
     pub are : asked_of answers ≡ take asked (live h)
     pub count : length (due_of answers) ≡ ended
     pub gained : GainsNested number moment (flat_map (asking config h) answers) old now
-    pub shows : Shows config board (with_ended h (stop_entry h) (due_of answers) (at_moment (view_of config h) moment))
-    pub opens : WhereTold told (λ calls. OpensHeld config calls (still_held h (stop_entry h) (due_of answers)))
+    pub shows : BoardMatches config board (with_ended h (stop_entry h) (due_of answers) (view_at_moment (view_of config h) moment))
+    pub opens : WhereLogged log (λ calls. OpensHeld config calls (still_held h (stop_entry h) (due_of answers)))
     pub due : parts old ≡ 1024 → (a : Call × Bool) → In a answers → IsDueBy config (made_by old) a.0.cell moment a.1
 
 -- Where the next call stands.
@@ -144,30 +144,30 @@ place_of_next config h answers i index of fits are at count =
 -- What the end of one more makes.
 
 shows_more : (config : Config) (h : List BoardEntry) (v0 : View) (gone : List Call) (of : Call) (board : Board) (due : Bool)
-    → Shows config board (with_asked (with_ended h (stop_entry h) gone v0) of.number (closed_of h (stop_entry h) of) due)
-    → Shows config board (with_ended h (stop_entry h) (cond due (gone ++ of ∷ []) gone) v0)
-shows_more config h v0 gone of board true shows = subst (λ (w : View). Shows config board w) (ended_more h (stop_entry h) gone (of ∷ []) v0) shows
+    → BoardMatches config board (with_asked (with_ended h (stop_entry h) gone v0) of.number (closed_of h (stop_entry h) of) due)
+    → BoardMatches config board (with_ended h (stop_entry h) (cond due (gone ++ of ∷ []) gone) v0)
+shows_more config h v0 gone of board true shows = subst (λ (w : View). BoardMatches config board w) (ended_more h (stop_entry h) gone (of ∷ []) v0) shows
 shows_more config h v0 gone of board false shows = shows
 
-opens_more : (config : Config) (h : List BoardEntry) (told : Option (List PortCall)) (gone : List Call) (of : Call) (due : Bool)
-    → WhereTold told (λ calls. OpensHeld config calls (if due then pairs_left (leg_pairs (closed_of h (stop_entry h) of)) (still_held h (stop_entry h) gone) else still_held h (stop_entry h) gone))
-    → WhereTold told (λ calls. OpensHeld config calls (still_held h (stop_entry h) (cond due (gone ++ of ∷ []) gone)))
-opens_more config h told gone of true opens =
+opens_more : (config : Config) (h : List BoardEntry) (log : Option (List PortCall)) (gone : List Call) (of : Call) (due : Bool)
+    → WhereLogged log (λ calls. OpensHeld config calls (if due then pairs_left (leg_pairs (closed_of h (stop_entry h) of)) (still_held h (stop_entry h) gone) else still_held h (stop_entry h) gone))
+    → WhereLogged log (λ calls. OpensHeld config calls (still_held h (stop_entry h) (cond due (gone ++ of ∷ []) gone)))
+opens_more config h log gone of true opens =
     let e = stop_entry h in
     let legs = closed_of h e of in
     let pairs = leg_pairs (flat_map (closed_of h e) gone) in
     let all_pairs : pairs ++ leg_pairs legs ≡ leg_pairs (flat_map (closed_of h e) (gone ++ of ∷ [])) =
     sym (ap leg_pairs (spread_more (closed_of h e) gone of) ∙ map-append (λ (leg : Holder). leg.pair) (flat_map (closed_of h e) gone) legs) in
-    told_alike config told (pairs_left (leg_pairs legs) (pairs_left pairs (leg_pairs (held h)))) (still_held h e (gone ++ of ∷ []))
+    told_alike config log (pairs_left (leg_pairs legs) (pairs_left pairs (leg_pairs (held h)))) (still_held h e (gone ++ of ∷ []))
     (λ q. left_twice pairs (leg_pairs legs) (leg_pairs (held h)) q ∙ ap (λ (ps : List ℕ). has (pairs_left ps (leg_pairs (held h))) q) all_pairs) opens
-opens_more config h told gone of false opens = opens
+opens_more config h log gone of false opens = opens
 
 module _ {M I O T : Type 0} {g : _} where
   -- none has been asked
-  pub none_asked : (config : Config) (turns : Turns M (Part I O) Made T) (hand : Hand M (Part I O) Made T g) (entry_id : BoardEntryId) (board : Board) (told : Option (List PortCall))
-      → InTurn config turns hand entry_id board told
-      → Asked config (board_history (made_by hand) entry_id.number) entry_id.number entry_id.moment hand hand board told 0 0
-  none_asked config turns hand entry_id board told turn =
+  pub none_asked : (config : Config) (turns : Turns M (Part I O) Made T) (hand : Hand M (Part I O) Made T g) (entry_id : BoardEntryId) (board : Board) (log : Option (List PortCall))
+      → InTurn config turns hand entry_id board log
+      → Asked config (board_history (made_by hand) entry_id.number) entry_id.number entry_id.moment hand hand board log 0 0
+  none_asked config turns hand entry_id board log turn =
       let h = board_history (made_by hand) entry_id.number in
       record {
         answers = [];
@@ -175,7 +175,7 @@ module _ {M I O T : Type 0} {g : _} where
         count = refl;
         gained = gains_nothing entry_id.number entry_id.moment hand;
         shows = turn.shows;
-        opens = told_alike config told (leg_pairs (held h)) (pairs_left [] (leg_pairs (held h))) (left_none (leg_pairs (held h))) turn.opens;
+        opens = told_alike config log (leg_pairs (held h)) (pairs_left [] (leg_pairs (held h))) (left_none (leg_pairs (held h))) turn.opens;
         due = λ all a i. elim i [ ];
       }
     where
@@ -184,11 +184,11 @@ module _ {M I O T : Type 0} {g : _} where
       no_calls (c ∷ calls) = refl
 
   -- what came stands elsewhere than the cell of the next one
-  asked_elsewhere : (config : Config) (number moment : ℕ) (old now : Hand M (Part I O) Made T g) (board : Board) (told : Option (List PortCall)) (i ended : ℕ) (of : Call)
+  asked_elsewhere : (config : Config) (number moment : ℕ) (old now : Hand M (Part I O) Made T g) (board : Board) (log : Option (List PortCall)) (i ended : ℕ) (of : Call)
       → Orderly config (made_by old) → slice_get (live (board_history (made_by old) number)) i ≡ Some of
-      → (asked : Asked config (board_history (made_by old) number) number moment old now board told i ended)
+      → (asked : Asked config (board_history (made_by old) number) number moment old now board log i ended)
       → (x : Entry) → In x (list_of asked.gained.rows) → x.place ≡ of.cell → ⊥
-  asked_elsewhere config number moment old now board told i ended of o at asked =
+  asked_elsewhere config number moment old now board log i ended of o at asked =
       let h = board_history (made_by old) number in
       let fits = good_history config (made_by old) o number in
       let answers = asked.answers in
@@ -198,16 +198,16 @@ module _ {M I O T : Type 0} {g : _} where
       (λ j. not_yet config h i of fits at (subst (λ (cs : List Call). In of.number (numbers_of cs)) asked.are j)) w s.has_it)
 
   -- the next one may be asked
-  pub next_asks : (config : Config) (number moment : ℕ) (old now : Hand M (Part I O) Made T g) (board : Board) (told : Option (List PortCall)) (i ended index : ℕ) (of : Call)
+  pub next_asks : (config : Config) (number moment : ℕ) (old now : Hand M (Part I O) Made T g) (board : Board) (log : Option (List PortCall)) (i ended index : ℕ) (of : Call)
       → Orderly config (made_by old) → IsAbove (made_by old) 0 number → slice_get (live (board_history (made_by old) number)) i ≡ Some of
-      → Asked config (board_history (made_by old) number) number moment old now board told i ended → index + ended ≡ i
-      → CanExpire config (made_by now) board told index of (closed_of (board_history (made_by old) number) (stop_entry (board_history (made_by old) number)) of)
-  next_asks config number moment old now board told i ended index of o above at asked place =
+      → Asked config (board_history (made_by old) number) number moment old now board log i ended → index + ended ≡ i
+      → CanExpire config (made_by now) board log index of (closed_of (board_history (made_by old) number) (stop_entry (board_history (made_by old) number)) of)
+  next_asks config number moment old now board log i ended index of o above at asked place =
       let l = made_by old in
       let h = board_history l number in
       let e = stop_entry h in
       let fits = good_history config l o number in
-      let v0 = at_moment (view_of config h) moment in
+      let v0 = view_at_moment (view_of config h) moment in
       let answers = asked.answers in
       let gone = due_of answers in
       let alive = in_at (live h) i of at in
@@ -216,15 +216,15 @@ module _ {M I O T : Type 0} {g : _} where
       λ k. not_yet config h i of fits at (subst (λ (cs : List Call). In of.number (numbers_of cs)) asked.are k) in
       let ns = list_of asked.gained.rows in
       let owed = flat_map (asking config h) answers in
-      let can : CanEnd config (l ++ ns) board told of.number of (closed_of h e of) =
-      next_among config l ns o number e gone of board told above alive alive out
-      (asked_elsewhere config number moment old now board told i ended of o at asked)
+      let can : CanEnd config (l ++ ns) board log of.number of (closed_of h e of) =
+      next_among config l ns o number e gone of board log above alive alive out
+      (asked_elsewhere config number moment old now board log i ended of o at asked)
       (λ leg k. placed_by owed ns (box_of config leg.pair) asked.gained.gained.owes
       (λ w j. let s = spread (asking config h) answers j in
       asked_box config l o number (asked_of answers) of s.from leg (maps (λ (a : Call × Bool). a.0) answers s.is_in) (asked_alive h answers i asked.are s.is_in) not_asked k w s.has_it))
       v0 refl refl refl asked.shows asked.opens in
       record {
-        can = subst (λ (es : List Entry). CanEnd config es board told of.number of (closed_of h e of)) (sym (list_gained number moment owed old now asked.gained)) can;
+        can = subst (λ (es : List Entry). CanEnd config es board log of.number of (closed_of h e of)) (sym (list_gained number moment owed old now asked.gained)) can;
         view = with_ended h e gone v0;
         shows = asked.shows;
         seen = call_view h of;
@@ -235,21 +235,21 @@ module _ {M I O T : Type 0} {g : _} where
       }
 
   -- one more was asked, and ended where it was due
-  pub one_asked : (config : Config) (number moment : ℕ) (old now new : Hand M (Part I O) Made T g) (before after : Board) (told told_new : Option (List PortCall)) (i ended then_ended : ℕ) (of : Call)
+  pub one_asked : (config : Config) (number moment : ℕ) (old now new : Hand M (Part I O) Made T g) (before after : Board) (log told_new : Option (List PortCall)) (i ended then_ended : ℕ) (of : Call)
       (due : Bool) → Orderly config (made_by old) → IsSameHand old now → slice_get (live (board_history (made_by old) number)) i ≡ Some of
-      → Asked config (board_history (made_by old) number) number moment old now before told i ended → then_ended ≡ cond due (ended + 1) ended
+      → Asked config (board_history (made_by old) number) number moment old now before log i ended → then_ended ≡ cond due (ended + 1) ended
       → GainsNested number moment (asking config (board_history (made_by old) number) (of, due)) now new
-      → ((config : Config) (v : View) → Shows config before v → CellsApart v.calls
-      → Shows config after (with_asked v of.number (closed_of (board_history (made_by old) number) (stop_entry (board_history (made_by old) number)) of) due))
-      → ((held : List ℕ) → WhereTold told (λ calls. OpensHeld config calls held)
-      → WhereTold told_new (λ calls. OpensHeld config calls (if due then pairs_left (leg_pairs (closed_of (board_history (made_by old) number) (stop_entry (board_history (made_by old) number)) of)) held else held)))
+      → ((config : Config) (v : View) → BoardMatches config before v → CellsApart v.calls
+      → BoardMatches config after (with_asked v of.number (closed_of (board_history (made_by old) number) (stop_entry (board_history (made_by old) number)) of) due))
+      → ((held : List ℕ) → WhereLogged log (λ calls. OpensHeld config calls held)
+      → WhereLogged told_new (λ calls. OpensHeld config calls (if due then pairs_left (leg_pairs (closed_of (board_history (made_by old) number) (stop_entry (board_history (made_by old) number)) of)) held else held)))
       → (parts now ≡ 1024 → IsDueBy config (made_by now) of.cell moment due)
       → Asked config (board_history (made_by old) number) number moment old new after told_new (i + 1) then_ended
-  one_asked config number moment old now new before after told told_new i ended then_ended of due o same at asked counts gains shown opened is_due_now =
+  one_asked config number moment old now new before after log told_new i ended then_ended of due o same at asked counts gains shown opened is_due_now =
       let fits = good_history config (made_by old) o number in
       let h = board_history (made_by old) number in
       let e = stop_entry h in
-      let v0 = at_moment (view_of config h) moment in
+      let v0 = view_at_moment (view_of config h) moment in
       let gone = due_of asked.answers in
       let more = due_more asked.answers of due in
       record {
@@ -258,9 +258,9 @@ module _ {M I O T : Type 0} {g : _} where
         count = ap length more ∙ counted due ∙ ap (λ (k : ℕ). cond due (k + 1) k) asked.count ∙ sym counts;
         gained = subst (λ (ws : List Owed). GainsNested number moment ws old new) (sym (spread_more (asking config h) asked.answers (of, due)))
             (gains_more number moment (flat_map (asking config h) asked.answers) (asking config h (of, due)) old now new asked.gained gains);
-        shows = subst (λ (cs : List Call). Shows config after (with_ended h e cs v0)) (sym more)
+        shows = subst (λ (cs : List Call). BoardMatches config after (with_ended h e cs v0)) (sym more)
             (shows_more config h v0 gone of after due (shown config (with_ended h e gone v0) asked.shows (cells_while_ending config h e gone v0 fits refl)));
-        opens = subst (λ (cs : List Call). WhereTold told_new (λ calls. OpensHeld config calls (still_held h e cs))) (sym more)
+        opens = subst (λ (cs : List Call). WhereLogged told_new (λ calls. OpensHeld config calls (still_held h e cs))) (sym more)
             (opens_more config h told_new gone of due (opened (still_held h e gone) asked.opens));
         due = λ all a k. by_place all a (in_append asked.answers ((of, due) ∷ []) k);
       }
@@ -268,7 +268,7 @@ module _ {M I O T : Type 0} {g : _} where
       -- what the cell of the one that was asked now returned
       its_due : parts old ≡ 1024 → IsDueBy config (made_by old) of.cell moment due
       its_due all =
-          due_before config (made_by old) (list_of asked.gained.rows) of.cell moment due (asked_elsewhere config number moment old now before told i ended of o at asked)
+          due_before config (made_by old) (list_of asked.gained.rows) of.cell moment due (asked_elsewhere config number moment old now before log i ended of o at asked)
           (subst (λ (l : List Entry). IsDueBy config l of.cell moment due)
           (list_gained number moment (flat_map (asking config (board_history (made_by old) number)) asked.answers) old now asked.gained)
           (is_due_now (same.2 ∙ all)))
@@ -340,12 +340,12 @@ module _ (config : Config) (h : List BoardEntry) (moment : ℕ) (answers : List 
       (λ a i. owed_case config h (tick_at moment (due_of answers)) a.0 a.1 (has (numbers_of (due_of answers)) a.0.number) (named answers a whole_once i)
       (λ t. closes_same h moment (due_of answers) a.0 (each_alive (is_due answers i t)) (is_due answers i t)))
 
-  pub ends_stand : (board : Board) → last_moment h ≤ moment → Shows config board (with_ended h (stop_entry h) (due_of answers) (at_moment (view_of config h) moment))
+  pub ends_stand : (board : Board) → board_last_moment h ≤ moment → BoardMatches config board (with_ended h (stop_entry h) (due_of answers) (view_at_moment (view_of config h) moment))
       → BoardFor config board (tick_at moment (due_of answers) ∷ h)
   ends_stand board timely shows =
       entry_stands config board h (tick_at moment (due_of answers)) fits ends_named timely
-      (subst (λ (w : View). Shows config board w)
-      (ended_alike h (stop_entry h) (tick_at moment (due_of answers)) (due_of answers) (at_moment (view_of config h) moment) (λ c i. each_alive i) (λ c i. i)) shows)
+      (subst (λ (w : View). BoardMatches config board w)
+      (ended_alike h (stop_entry h) (tick_at moment (due_of answers)) (due_of answers) (view_at_moment (view_of config h) moment) (λ c i. each_alive i) (λ c i. i)) shows)
 
   pub ends_due : (l : List Entry) → ((a : Call × Bool) → In a answers → IsDueBy config l a.0.cell moment a.1) → (c : Call) → In c (live h)
       → IsDueBy config l c.cell moment (has (numbers_of (due_of answers)) c.number)
@@ -362,14 +362,14 @@ module _ (config : Config) (h : List BoardEntry) (moment : ℕ) (answers : List 
       (sym (closes_same h moment (due_of answers) c (each_alive (among c (here refl))) (among c (here refl))))
       ∙ ap (λ (legs : List Holder). closed_of h (tick_at moment (due_of answers)) c ++ legs) (same_closed those (λ d i. among d (there i)))
 
-  pub ends_open : (told : Option (List PortCall)) → WhereTold told (λ calls. OpensHeld config calls (still_held h (stop_entry h) (due_of answers)))
-      → TellsHeld config told (leg_pairs (held (tick_at moment (due_of answers) ∷ h)))
-  ends_open told opens =
+  pub ends_open : (log : Option (List PortCall)) → WhereLogged log (λ calls. OpensHeld config calls (still_held h (stop_entry h) (due_of answers)))
+      → LogsHeld config log (leg_pairs (held (tick_at moment (due_of answers) ∷ h)))
+  ends_open log opens =
       let e = tick_at moment (due_of answers) in
       let one = flat_map (closed_of h (stop_entry h)) (due_of answers) in
       let by_call = flat_map (closed_of h e) (due_of answers) in
       let whole = filter (closes_leg e) (held h) in
-      told_alike config told (still_held h (stop_entry h) (due_of answers)) (leg_pairs (held (e ∷ h)))
+      told_alike config log (still_held h (stop_entry h) (due_of answers)) (leg_pairs (held (e ∷ h)))
       (λ q.
       ap (λ (legs : List Holder). has (pairs_left (leg_pairs legs) (leg_pairs (held h))) q) (same_closed (due_of answers) (λ c i. i))
       ∙ has_left (leg_pairs by_call) (leg_pairs (held h)) q
@@ -381,12 +381,12 @@ module _ (config : Config) (h : List BoardEntry) (moment : ℕ) (answers : List 
 
 module _ {M I O T : Type 0} {g : _} where
   -- they are those that the tick ends
-  pub all_asked : (config : Config) (number moment : ℕ) (old new : Hand M (Part I O) Made T g) (board : Board) (told : Option (List PortCall)) (asked ended : ℕ)
-      → IsFitting config (board_history (made_by old) number) → last_moment (board_history (made_by old) number) ≤ moment → asked ≡ length (live (board_history (made_by old) number))
-      → Asked config (board_history (made_by old) number) number moment old new board told asked ended
-      → (calls : List Call) × EndsDue config (board_history (made_by old) number) number moment old new ended told calls
+  pub all_asked : (config : Config) (number moment : ℕ) (old new : Hand M (Part I O) Made T g) (board : Board) (log : Option (List PortCall)) (asked ended : ℕ)
+      → IsFitting config (board_history (made_by old) number) → board_last_moment (board_history (made_by old) number) ≤ moment → asked ≡ length (live (board_history (made_by old) number))
+      → Asked config (board_history (made_by old) number) number moment old new board log asked ended
+      → (calls : List Call) × EndsDue config (board_history (made_by old) number) number moment old new ended log calls
       × BoardFor config board (tick_at moment calls ∷ board_history (made_by old) number)
-  all_asked config number moment old new board told asked ended fits timely over a =
+  all_asked config number moment old new board log asked ended fits timely over a =
       let h = board_history (made_by old) number in
       let all : asked_of a.answers ≡ live h = a.are ∙ ap (λ (k : ℕ). take k (live h)) over ∙ take-length (live h) in (
         due_of a.answers,
@@ -395,7 +395,7 @@ module _ {M I O T : Type 0} {g : _} where
           due = λ whole c i. ends_due config h moment a.answers fits all (made_by old) (a.due whole) c i;
           gained = subst (λ (ws : List Owed). GainsNested number moment ws old new) (sym (ends_owed config h moment a.answers fits all)) a.gained;
           count_is = sym a.count;
-          opens = ends_open config h moment a.answers fits all told a.opens;
+          opens = ends_open config h moment a.answers fits all log a.opens;
         },
         ends_stand config h moment a.answers fits all board timely a.shows,
       )

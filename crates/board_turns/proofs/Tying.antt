@@ -12,7 +12,7 @@ use Rattle.relay_outside.specs.declared.ports.PortCall.{PortCall}
 use Rattle.relay_outside.specs.declared.ports.PortCall.TheVariants as port
 use Rattle.relay_outside.specs.declared.settings.Config.{Config}
 use Rattle.relay_outside.specs.Ports.{joined, same_ip, same_addr, taken_at, sent_at}
-use Rattle.relay_outside.specs.Told.{EndTold, Gained}
+use Rattle.relay_outside.specs.DeviceLogs.{EndLog, Gained}
 use Rattle.relay_outside.proofs.Telling.{gained_none, gained_both, gained_less}
 use Rattle.rtp_packet.specs.declared.head.Half.{Half}
 use Rattle.rtp_packet.specs.declared.head.Half.TheVariants.{Rtp, Rtcp}
@@ -27,29 +27,29 @@ use Rattle.port_pool.specs.declared.holder.Holder.{Holder}
 use Rattle.port_pool.specs.Boxes.{Close}
 use Rattle.port_pool.specs.Ports.{pair_count, pair_port}
 use Rattle.relay_core.specs.Entries.{Event, Board, Cell, Box, Entry, box_of}
-use Rattle.relay_core.specs.Made.{LegLeft, Left, Made, entry_of, list_of}
-use Rattle.relay_core.specs.Scripts.{Owed, owed_by, opening}
+use Rattle.relay_core.specs.Records.{LegLeft, Left, Made, entry_of, list_of}
+use Rattle.relay_core.specs.Scripts.{Owed, owed_by, open_owed}
 use Rattle.relay_core.specs.Steps.{legs_left}
-use Rattle.relay_core.specs.Told.{is_closing, is_parting, in_left, out_left, ins_told, legs_told, outs_told}
-use Rattle.relay_core.specs.Turning.{GainsNested}
+use Rattle.relay_core.specs.EndLogs.{is_closing, is_parting, in_left, out_left, ins_logged, legs_logged, outs_logged}
+use Rattle.relay_core.specs.Turns.{GainsNested}
 use Rattle.media_ports.specs.declared.ends.PairEnds.{PairEnds}
 use Rattle.media_ports.specs.Addresses.{port_at, port_address, HavePorts}
 use Rattle.media_ports.specs.Calls.{ClosesPair}
 use Rattle.media_ports.specs.Ends.{ends_told}
-use Rattle.media_ports.specs.Given.{IsOfPair, Agrees, GivesBackUncalled}
+use Rattle.media_ports.specs.ReturnedEnds.{IsOfPair, SameWhereTold, GivesBackUncalled}
 use Rattle.media_ports.proofs.Given.{joined_to_nothing, first_joined, taken_append, sent_append, agrees_both}
-use Rattle.board_turns.specs.Nesting.{AddsRow, ends_left, gone_left}
-use Rattle.board_turns.specs.Closing.{ClosesLegs, leases_of}
-use Rattle.board_turns.specs.Ties.{AreTakesTied, AreSendsTied, AreTied, Ties, TiesTakes, LegsLeave}
+use Rattle.board_turns.specs.NestedSteps.{AddsRow, ends_left, gone_left}
+use Rattle.board_turns.specs.Closings.{ClosesLegs, leases_of_legs}
+use Rattle.board_turns.specs.Ties.{AreTakesTied, AreSendsTied, AreTied, PortsFollowRows, TiesTakes, LegsLeave}
 
 -- Lists that are told, joined.
 
 module _ {C : Type 0} where
-  pub nothing_joined : (told : Option (List C)) → joined told (Some []) ≡ told
+  pub nothing_joined : (log : Option (List C)) → joined log (Some []) ≡ log
   nothing_joined None = refl
   nothing_joined (Some calls) = ap Some (append-nil calls)
 
-  pub agrees_same : (told shown : Option (List C)) → shown ≡ told → Agrees told shown
+  pub agrees_same : (log shown : Option (List C)) → shown ≡ log → SameWhereTold log shown
   agrees_same None shown same = tt
   agrees_same (Some calls) shown same = same
 
@@ -66,35 +66,35 @@ module _ {C : Type 0} where
 
 module _ {T : Type 0} where
   pub ins_append : (rows more : List (table.Entry Made T)) (place : ℕ) (half : Half)
-      → ins_told (rows ++ more) place half ≡ joined (ins_told rows place half) (ins_told more place half)
-  ins_append [] more place half = sym (joined_to_nothing (ins_told more place half))
+      → ins_logged (rows ++ more) place half ≡ joined (ins_logged rows place half) (ins_logged more place half)
+  ins_append [] more place half = sym (joined_to_nothing (ins_logged more place half))
   ins_append (row ∷ rows) more place half =
-      first_joined (is_closing row.event.event && (row.place == place)) (in_left half row.event.left) (ins_told rows place half) (ins_told more place half)
-      (ins_told (rows ++ more) place half) (ins_append rows more place half)
+      first_joined (is_closing row.event.event && (row.place == place)) (in_left half row.event.left) (ins_logged rows place half) (ins_logged more place half)
+      (ins_logged (rows ++ more) place half) (ins_append rows more place half)
 
   pub outs_append : (rows more : List (table.Entry Made T)) (pair : ℕ) (half : Half)
-      → outs_told (rows ++ more) pair half ≡ joined (outs_told rows pair half) (outs_told more pair half)
-  outs_append [] more pair half = sym (joined_to_nothing (outs_told more pair half))
+      → outs_logged (rows ++ more) pair half ≡ joined (outs_logged rows pair half) (outs_logged more pair half)
+  outs_append [] more pair half = sym (joined_to_nothing (outs_logged more pair half))
   outs_append (row ∷ rows) more pair half =
-      first_joined (is_parting row.event.event) (legs_told row.event.left.legs pair half) (outs_told rows pair half) (outs_told more pair half)
-      (outs_told (rows ++ more) pair half) (outs_append rows more pair half)
+      first_joined (is_parting row.event.event) (legs_logged row.event.left.legs pair half) (outs_logged rows pair half) (outs_logged more pair half)
+      (outs_logged (rows ++ more) pair half) (outs_append rows more pair half)
 
   takes_append : (config : Config) (rows more : List (table.Entry Made T)) (xs ys : List PortCall) → AreTakesTied config rows xs → AreTakesTied config more ys
       → AreTakesTied config (rows ++ more) (xs ++ ys)
   takes_append config rows more xs ys first second pair half low =
       let at = port_address config pair half in
       let place = box_of config pair in
-      subst (λ (told : Option (List InCall)). Agrees told (ins_told (rows ++ more) place half)) (sym (taken_append xs ys at))
-      (subst (λ (shown : Option (List InCall)). Agrees (joined (taken_at xs at) (taken_at ys at)) shown) (sym (ins_append rows more place half))
-      (agrees_both (taken_at xs at) (taken_at ys at) (ins_told rows place half) (ins_told more place half) (first pair half low) (second pair half low)))
+      subst (λ (log : Option (List InCall)). SameWhereTold log (ins_logged (rows ++ more) place half)) (sym (taken_append xs ys at))
+      (subst (λ (shown : Option (List InCall)). SameWhereTold (joined (taken_at xs at) (taken_at ys at)) shown) (sym (ins_append rows more place half))
+      (agrees_both (taken_at xs at) (taken_at ys at) (ins_logged rows place half) (ins_logged more place half) (first pair half low) (second pair half low)))
 
   sends_append : (config : Config) (rows more : List (table.Entry Made T)) (xs ys : List PortCall) → AreSendsTied config rows xs → AreSendsTied config more ys
       → AreSendsTied config (rows ++ more) (xs ++ ys)
   sends_append config rows more xs ys first second pair half low =
       let at = port_address config pair half in
-      subst (λ (told : Option (List OutCall)). Agrees told (outs_told (rows ++ more) pair half)) (sym (sent_append xs ys at))
-      (subst (λ (shown : Option (List OutCall)). Agrees (joined (sent_at xs at) (sent_at ys at)) shown) (sym (outs_append rows more pair half))
-      (agrees_both (sent_at xs at) (sent_at ys at) (outs_told rows pair half) (outs_told more pair half) (first pair half low) (second pair half low)))
+      subst (λ (log : Option (List OutCall)). SameWhereTold log (outs_logged (rows ++ more) pair half)) (sym (sent_append xs ys at))
+      (subst (λ (shown : Option (List OutCall)). SameWhereTold (joined (sent_at xs at) (sent_at ys at)) shown) (sym (outs_append rows more pair half))
+      (agrees_both (sent_at xs at) (sent_at ys at) (outs_logged rows pair half) (outs_logged more pair half) (first pair half low) (second pair half low)))
 
   pub tied_both : (config : Config) (rows more : List (table.Entry Made T)) (xs ys : List PortCall) → AreTied config rows xs → AreTied config more ys
       → AreTied config (rows ++ more) (xs ++ ys)
@@ -108,8 +108,8 @@ module _ {T : Type 0} where
   rows_both r0 r1 r2 a b first second = second ∙ ap (λ (rows : List (table.Entry Made T)). rows ++ b) first ∙ append_assoc r0 a b
 
   -- first these ties, and then those
-  pub ties_both : (config : Config) (t0 t1 t2 : Option (List PortCall)) (r0 r1 r2 : List (table.Entry Made T)) → Ties config t0 t1 r0 r1 → Ties config t1 t2 r1 r2
-      → Ties config t0 t2 r0 r2
+  pub ties_both : (config : Config) (t0 t1 t2 : Option (List PortCall)) (r0 r1 r2 : List (table.Entry Made T)) → PortsFollowRows config t0 t1 r0 r1 → PortsFollowRows config t1 t2 r1 r2
+      → PortsFollowRows config t0 t2 r0 r2
   ties_both config t0 t1 t2 r0 r1 r2 first second = record {
     more = first.more ++ second.more;
     rows_are = rows_both r0 r1 r2 first.more second.more first.rows_are second.rows_are;
@@ -128,8 +128,8 @@ module _ {T : Type 0} where
         (λ calls. All (IsOfPair config) calls × AreTakesTied config (first.more ++ second.more) calls)
         (λ xs ys a b. (All-append (IsOfPair config) xs ys a.0 b.0, takes_append config first.more second.more xs ys a.1 b.1)) first.calls second.calls;
     no_legs = λ pair half. outs_append first.more second.more pair half
-        ∙ ap (λ (x : Option (List OutCall)). joined x (outs_told second.more pair half)) (first.no_legs pair half)
-        ∙ joined_to_nothing (outs_told second.more pair half) ∙ second.no_legs pair half;
+        ∙ ap (λ (x : Option (List OutCall)). joined x (outs_logged second.more pair half)) (first.no_legs pair half)
+        ∙ joined_to_nothing (outs_logged second.more pair half) ∙ second.no_legs pair half;
   }
 
 -- Rows by which nothing leaves.
@@ -141,8 +141,8 @@ pub record NothingLeaves (event : Event) : Type 0 where
 
 -- nothing left by these rows
 pub record NothingLeft {T : Type 0} (rows : List (table.Entry Made T)) : Type 0 where
-  pub no_ends : (place : ℕ) (half : Half) → ins_told rows place half ≡ Some []
-  pub no_legs : (pair : ℕ) (half : Half) → outs_told rows pair half ≡ Some []
+  pub no_ends : (place : ℕ) (half : Half) → ins_logged rows place half ≡ Some []
+  pub no_legs : (pair : ℕ) (half : Half) → outs_logged rows pair half ≡ Some []
 
 module _ {T : Type 0} where
   pub none_left : NothingLeft {T = T} []
@@ -151,17 +151,17 @@ module _ {T : Type 0} where
   pub row_left : (row : table.Entry Made T) → NothingLeaves row.event.event → NothingLeft (row ∷ [])
   row_left row leaves = record {
     no_ends = λ place half. ap (λ (b : Bool). cond (b && (row.place == place)) (joined (in_left half row.event.left) (Some [])) (Some [])) leaves.closing;
-    no_legs = λ pair half. ap (λ (b : Bool). cond b (joined (legs_told row.event.left.legs pair half) (Some [])) (Some [])) leaves.parting;
+    no_legs = λ pair half. ap (λ (b : Bool). cond b (joined (legs_logged row.event.left.legs pair half) (Some [])) (Some [])) leaves.parting;
   }
 
   pub both_left : (rows more : List (table.Entry Made T)) → NothingLeft rows → NothingLeft more → NothingLeft (rows ++ more)
   both_left rows more first second = record {
     no_ends = λ place half. ins_append rows more place half
-        ∙ ap (λ (x : Option (List InCall)). joined x (ins_told more place half)) (first.no_ends place half)
-        ∙ joined_to_nothing (ins_told more place half) ∙ second.no_ends place half;
+        ∙ ap (λ (x : Option (List InCall)). joined x (ins_logged more place half)) (first.no_ends place half)
+        ∙ joined_to_nothing (ins_logged more place half) ∙ second.no_ends place half;
     no_legs = λ pair half. outs_append rows more pair half
-        ∙ ap (λ (x : Option (List OutCall)). joined x (outs_told more pair half)) (first.no_legs pair half)
-        ∙ joined_to_nothing (outs_told more pair half) ∙ second.no_legs pair half;
+        ∙ ap (λ (x : Option (List OutCall)). joined x (outs_logged more pair half)) (first.no_legs pair half)
+        ∙ joined_to_nothing (outs_logged more pair half) ∙ second.no_legs pair half;
   }
 
   rows_left : (rows : List (table.Entry Made T)) → ((e : Entry) → In e (list_of rows) → NothingLeaves e.event) → NothingLeft rows
@@ -169,40 +169,40 @@ module _ {T : Type 0} where
   rows_left (row ∷ rows) leaves = both_left (row ∷ []) rows (row_left row (leaves (entry_of row) (here refl))) (rows_left rows (λ e i. leaves e (there i)))
 
   -- the port maker was not called, and nothing left by the rows
-  pub ties_left : (config : Config) (told : Option (List PortCall)) (r0 r1 more : List (table.Entry Made T)) → r1 ≡ r0 ++ more → NothingLeft more → Ties config told told r0 r1
-  ties_left config told r0 r1 more is left = record {
+  pub ties_left : (config : Config) (log : Option (List PortCall)) (r0 r1 more : List (table.Entry Made T)) → r1 ≡ r0 ++ more → NothingLeft more → PortsFollowRows config log log r0 r1
+  ties_left config log r0 r1 more is left = record {
     more = more;
     rows_are = is;
-    calls = gained_none told (AreTied config more)
+    calls = gained_none log (AreTied config more)
         (record { of_pairs = All-nil (IsOfPair config); takes = λ pair half low. left.no_ends (box_of config pair) half; sends = λ pair half low. left.no_legs pair half });
   }
 
   -- nothing happened
-  pub ties_none : (config : Config) (told : Option (List PortCall)) (rows : List (table.Entry Made T)) → Ties config told told rows rows
-  ties_none config told rows = ties_left config told rows rows [] (sym (append-nil rows)) none_left
+  pub ties_none : (config : Config) (log : Option (List PortCall)) (rows : List (table.Entry Made T)) → PortsFollowRows config log log rows rows
+  ties_none config log rows = ties_left config log rows rows [] (sym (append-nil rows)) none_left
 
-  pub ties_takes_none : (config : Config) (told : Option (List PortCall)) (rows : List (table.Entry Made T)) → TiesTakes config told told rows rows
-  ties_takes_none config told rows = record {
+  pub ties_takes_none : (config : Config) (log : Option (List PortCall)) (rows : List (table.Entry Made T)) → TiesTakes config log log rows rows
+  ties_takes_none config log rows = record {
     more = [];
     rows_are = sym (append-nil rows);
-    calls = gained_none told (λ calls. All (IsOfPair config) calls × AreTakesTied {T = T} config [] calls) (All-nil (IsOfPair config), λ pair half low. refl);
+    calls = gained_none log (λ calls. All (IsOfPair config) calls × AreTakesTied {T = T} config [] calls) (All-nil (IsOfPair config), λ pair half low. refl);
     no_legs = λ pair half. refl;
   }
 
   -- the rows are the same
-  pub ties_same : (config : Config) (told : Option (List PortCall)) (r0 r1 : List (table.Entry Made T)) → r1 ≡ r0 → Ties config told told r0 r1
-  ties_same config told r0 r1 same = ties_left config told r0 r1 [] (same ∙ sym (append-nil r0)) none_left
+  pub ties_same : (config : Config) (log : Option (List PortCall)) (r0 r1 : List (table.Entry Made T)) → r1 ≡ r0 → PortsFollowRows config log log r0 r1
+  ties_same config log r0 r1 same = ties_left config log r0 r1 [] (same ∙ sym (append-nil r0)) none_left
 
   -- and then one more row, by which nothing leaves
   pub ties_row : (config : Config) (t0 t1 : Option (List PortCall)) (r0 r1 : List (table.Entry Made T)) (row : table.Entry Made T) → is_closing row.event.event ≡ false
-      → is_parting row.event.event ≡ false → Ties config t0 t1 r0 r1 → Ties config t0 t1 r0 (r1 ++ row ∷ [])
+      → is_parting row.event.event ≡ false → PortsFollowRows config t0 t1 r0 r1 → PortsFollowRows config t0 t1 r0 (r1 ++ row ∷ [])
   ties_row config t0 t1 r0 r1 row closing parting ties =
       ties_both config t0 t1 t1 r0 r1 (r1 ++ row ∷ []) ties
       (ties_left config t1 r1 (r1 ++ row ∷ []) (row ∷ []) refl (row_left row (record { closing = closing; parting = parting })))
 
   -- ends that were not called were given back, and no row came
   pub ties_uncalled : (config : Config) (t0 t1 : Option (List PortCall)) (rows : List (table.Entry Made T)) → Gained t0 t1 (GivesBackUncalled config)
-      → Ties config t0 t1 rows rows
+      → PortsFollowRows config t0 t1 rows rows
   ties_uncalled config t0 t1 rows gives = record {
     more = [];
     rows_are = sym (append-nil rows);
@@ -217,26 +217,26 @@ module _ {T : Type 0} where
 module _ {M S T : Type 0} {g : _} where
   -- a turn ends with a step by which nothing leaves
   pub ties_ended : (config : Config) (t0 t1 : Option (List PortCall)) (r0 : List (table.Entry Made T)) (place number : ℕ) (made : Made) (outcome : T) (old new : Hand M S Made T g)
-      → is_closing made.event ≡ false → is_parting made.event ≡ false → EndsTurn place number made outcome old new → Ties config t0 t1 r0 (entries old)
-      → Ties config t0 t1 r0 (entries new)
+      → is_closing made.event ≡ false → is_parting made.event ≡ false → EndsTurn place number made outcome old new → PortsFollowRows config t0 t1 r0 (entries old)
+      → PortsFollowRows config t0 t1 r0 (entries new)
   ties_ended config t0 t1 r0 place number made outcome old new closing parting ended ties =
-      subst (λ (rows : List (table.Entry Made T)). Ties config t0 t1 r0 rows) (sym ended.0)
+      subst (λ (rows : List (table.Entry Made T)). PortsFollowRows config t0 t1 r0 rows) (sym ended.0)
       (ties_row config t0 t1 r0 (entries old) (entry place number made outcome) closing parting ties)
 
   -- nested steps by which nothing leaves
-  pub ties_gained : (config : Config) (told : Option (List PortCall)) (number moment : ℕ) (events : List Owed) (old new : Hand M S Made T g)
-      → GainsNested number moment events old new → ((owed : Owed) → In owed events → NothingLeaves owed.event) → Ties config told told (entries old) (entries new)
-  ties_gained config told number moment events old new gains leaves =
-      ties_left config told (entries old) (entries new) gains.rows gains.list_is
+  pub ties_gained : (config : Config) (log : Option (List PortCall)) (number moment : ℕ) (events : List Owed) (old new : Hand M S Made T g)
+      → GainsNested number moment events old new → ((owed : Owed) → In owed events → NothingLeaves owed.event) → PortsFollowRows config log log (entries old) (entries new)
+  ties_gained config log number moment events old new gains leaves =
+      ties_left config log (entries old) (entries new) gains.rows gains.list_is
       (rows_left gains.rows (λ e i. leaves (owed_by e) (subst (λ (l : List Owed). In (owed_by e) l) gains.gained.owes (maps owed_by (list_of gains.rows) i))))
 
   -- of which the openings of boxes are some
-  pub ties_openings : (config : Config) (told : Option (List PortCall)) (number moment : ℕ) (legs : List Holder) (old new : Hand M S Made T g)
-      → GainsNested number moment (map (opening config) legs) old new → Ties config told told (entries old) (entries new)
-  ties_openings config told number moment legs old new gains =
-      ties_gained config told number moment (map (opening config) legs) old new gains
+  pub ties_openings : (config : Config) (log : Option (List PortCall)) (number moment : ℕ) (legs : List Holder) (old new : Hand M S Made T g)
+      → GainsNested number moment (map (open_owed config) legs) old new → PortsFollowRows config log log (entries old) (entries new)
+  ties_openings config log number moment legs old new gains =
+      ties_gained config log number moment (map (open_owed config) legs) old new gains
       (λ owed i.
-      let m = mapped (opening config) legs i in
+      let m = mapped (open_owed config) legs i in
       subst (λ (w : Owed). NothingLeaves w.event) m.makes (record { closing = refl; parting = refl }))
 
 -- Which closing is of which port.
@@ -319,14 +319,14 @@ of_lease config lease rtp rtcp rtp_out rtcp_out low is =
 module _ {T : Type 0} where
   -- what the row of a closing says at the box of a pair
   ins_of_row : (config : Config) (row : table.Entry Made T) (one : ℕ) (left : Left) → row.place ≡ box_of config one → row.event.event ≡ Box Close → row.event.left ≡ left
-      → (pair : ℕ) (half : Half) → ins_told (row ∷ []) (box_of config pair) half ≡ cond (one == pair) (joined (of_half half left.rtp left.rtcp) (Some [])) (Some [])
+      → (pair : ℕ) (half : Half) → ins_logged (row ∷ []) (box_of config pair) half ≡ cond (one == pair) (joined (of_half half left.rtp left.rtcp) (Some [])) (Some [])
   ins_of_row config row one left place event is pair half =
       ap (λ (e : Event). cond (is_closing e && (row.place == box_of config pair)) (joined (in_left half row.event.left) (Some [])) (Some [])) event
       ∙ ap (λ (k : ℕ). cond (k == box_of config pair) (joined (in_left half row.event.left) (Some [])) (Some [])) place
       ∙ ap (λ (b : Bool). cond b (joined (in_left half row.event.left) (Some [])) (Some [])) (same_box config one pair)
-      ∙ ap (λ (told : Option (List InCall)). cond (one == pair) (joined told (Some [])) (Some [])) (ap (in_left half) is ∙ in_of_half half left)
+      ∙ ap (λ (log : Option (List InCall)). cond (one == pair) (joined log (Some [])) (Some [])) (ap (in_left half) is ∙ in_of_half half left)
 
-module _ {M S T I O : Type 0} {g : _} (taken : I → EndTold InCall) (sent : O → EndTold OutCall) where
+module _ {M S T I O : Type 0} {g : _} (taken : I → EndLog InCall) (sent : O → EndLog OutCall) where
   -- the box of a leased pair was shut, and its two ports were closed with the ends that it gave
   pub takes_closed : (config : Config) (t0 t1 : Option (List PortCall)) (old new : Hand M S Made T g) (lease : Lease) (ends : PairEnds I O) → lease.pair < pair_count config
       → lease.rtp_port ≡ pair_port config lease.pair → AddsRow (box_of config lease.pair) (Box Close) (ends_left taken (ends.rtp_in, ends.rtcp_in)) old new
@@ -337,7 +337,7 @@ module _ {M S T I O : Type 0} {g : _} (taken : I → EndTold InCall) (sent : O �
     calls = gained_less t0 t1 (ClosesPair config.interface lease (ends_told taken sent ends)) (λ calls. All (IsOfPair config) calls × AreTakesTied config (adds.row ∷ []) calls)
         (λ calls are. subst (λ (cs : List PortCall). All (IsOfPair config) cs × AreTakesTied config (adds.row ∷ []) cs) (sym are)
         (of_lease config lease (taken ends.rtp_in).calls (taken ends.rtcp_in).calls (sent ends.rtp_out).calls (sent ends.rtcp_out).calls low is, tied)) closes;
-    no_legs = λ pair half. ap (λ (e : Event). cond (is_parting e) (joined (legs_told adds.row.event.left.legs pair half) (Some [])) (Some [])) adds.event_is;
+    no_legs = λ pair half. ap (λ (e : Event). cond (is_parting e) (joined (legs_logged adds.row.event.left.legs pair half) (Some [])) (Some [])) adds.event_is;
   }
     where
       these : List PortCall
@@ -346,7 +346,7 @@ module _ {M S T I O : Type 0} {g : _} (taken : I → EndTold InCall) (sent : O �
 
       tied : AreTakesTied config (adds.row ∷ []) these
       tied pair half below =
-          agrees_same (taken_at these (port_address config pair half)) (ins_told (adds.row ∷ []) (box_of config pair) half)
+          agrees_same (taken_at these (port_address config pair half)) (ins_logged (adds.row ∷ []) (box_of config pair) half)
           (ins_of_row config adds.row lease.pair (ends_left taken (ends.rtp_in, ends.rtcp_in)) adds.place_is adds.event_is adds.left_is pair half
           ∙ sym (pick_half config lease is pair half (taken ends.rtp_in).calls (taken ends.rtcp_in).calls (Some [])))
 
@@ -361,10 +361,10 @@ out_of_half : (half : Half) (leg : LegLeft) → out_left half leg ≡ of_half ha
 out_of_half Rtp leg = refl
 out_of_half Rtcp leg = refl
 
-module _ {M S T O : Type 0} {g : _} (told : O → EndTold OutCall) where
+module _ {M S T O : Type 0} {g : _} (log : O → EndLog OutCall) where
   -- the row of a cell's step by which legs go
   pub legs_leave : (gone : List (Lease × O × O)) (place : ℕ) (event : Event) (old new : Hand M S Made T g) → is_parting event ≡ true
-      → AddsRow place event (gone_left told gone) old new → LegsLeave told gone (entries old) (entries new)
+      → AddsRow place event (gone_left log gone) old new → LegsLeave log gone (entries old) (entries new)
   legs_leave gone place event old new parts adds =
       let row = adds.row in
       record {
@@ -372,19 +372,19 @@ module _ {M S T O : Type 0} {g : _} (told : O → EndTold OutCall) where
         rows_are = adds.list_is;
         no_ends = λ at half. ap (λ (b : Bool). cond (b && (row.place == at)) (joined (in_left half row.event.left) (Some [])) (Some []))
             (ap is_closing adds.event_is ∙ parts_alone event parts);
-        legs = λ pair half. ap (λ (b : Bool). cond b (joined (legs_told row.event.left.legs pair half) (Some [])) (Some [])) (ap is_parting adds.event_is ∙ parts)
-            ∙ nothing_joined (legs_told row.event.left.legs pair half) ∙ ap (λ (left : Left). legs_told left.legs pair half) adds.left_is;
+        legs = λ pair half. ap (λ (b : Bool). cond b (joined (legs_logged row.event.left.legs pair half) (Some [])) (Some [])) (ap is_parting adds.event_is ∙ parts)
+            ∙ nothing_joined (legs_logged row.event.left.legs pair half) ∙ ap (λ (left : Left). legs_logged left.legs pair half) adds.left_is;
       }
 
-module _ {O : Type 0} (sent : O → EndTold OutCall) where
+module _ {O : Type 0} (sent : O → EndLog OutCall) where
   -- what the closings of legs give back is what the legs left with
-  legs_closed : (config : Config) (gone : List (Lease × O × O)) (calls : List PortCall) (pair : ℕ) (half : Half) → HavePorts config (leases_of gone)
-      → ClosesLegs sent config.interface gone calls → sent_at calls (port_address config pair half) ≡ legs_told (legs_left sent gone) pair half
+  legs_closed : (config : Config) (gone : List (Lease × O × O)) (calls : List PortCall) (pair : ℕ) (half : Half) → HavePorts config (leases_of_legs gone)
+      → ClosesLegs sent config.interface gone calls → sent_at calls (port_address config pair half) ≡ legs_logged (legs_left sent gone) pair half
   legs_closed config [] calls pair half ports closes = ap (λ (cs : List PortCall). sent_at cs (port_address config pair half)) closes
   legs_closed config (leg ∷ gone) calls pair half ports closes =
       ap (λ (cs : List PortCall). sent_at cs (port_address config pair half)) closes.3
       ∙ pick_half config leg.0 ports.0 pair half (sent leg.1).calls (sent leg.2).calls (sent_at closes.2 (port_address config pair half))
-      ∙ ap (λ (told : Option (List OutCall)). cond (leg.0.pair == pair) (joined told (sent_at closes.2 (port_address config pair half))) (sent_at closes.2 (port_address config pair half)))
+      ∙ ap (λ (log : Option (List OutCall)). cond (leg.0.pair == pair) (joined log (sent_at closes.2 (port_address config pair half))) (sent_at closes.2 (port_address config pair half)))
       (sym (out_of_half half (record { lease = leg.0; rtp = (sent leg.1).calls; rtcp = (sent leg.2).calls })))
       ∙ ap (λ (rest : Option (List OutCall)). cond (leg.0.pair == pair) (joined (out_left half (record { lease = leg.0; rtp = (sent leg.1).calls; rtcp = (sent leg.2).calls })) rest) rest)
       (legs_closed config gone closes.2 pair half ports.1 closes.4)
@@ -396,9 +396,9 @@ gained_and (Some old) (Some new) P Q first second =
     (first.0, first.1, (first.2, subst Q (append_cancel_left old second.0 first.0 (sym second.1 ∙ first.1)) second.2))
 
 -- legs went from a cell, and then they were closed
-pub ties_gone : {T O : Type 0} (sent : O → EndTold OutCall) (config : Config) (t0 t1 : Option (List PortCall)) (r0 r1 r2 : List (table.Entry Made T))
-    (gone : List (Lease × O × O)) → HavePorts config (leases_of gone) → LegsLeave sent gone r0 r1 → TiesTakes config t0 t1 r1 r2
-    → Gained t0 t1 (ClosesLegs sent config.interface gone) → Ties config t0 t1 r0 r2
+pub ties_gone : {T O : Type 0} (sent : O → EndLog OutCall) (config : Config) (t0 t1 : Option (List PortCall)) (r0 r1 r2 : List (table.Entry Made T))
+    (gone : List (Lease × O × O)) → HavePorts config (leases_of_legs gone) → LegsLeave sent gone r0 r1 → TiesTakes config t0 t1 r1 r2
+    → Gained t0 t1 (ClosesLegs sent config.interface gone) → PortsFollowRows config t0 t1 r0 r2
 ties_gone {T} sent config t0 t1 r0 r1 r2 gone ports leave takes closes = record {
   more = leave.more ++ takes.more;
   rows_are = takes.rows_are ∙ ap (λ (rows : List (table.Entry Made T)). rows ++ takes.more) leave.rows_are ∙ append_assoc r0 leave.more takes.more;
@@ -413,15 +413,15 @@ ties_gone {T} sent config t0 t1 r0 r1 r2 gone ports leave takes closes = record 
       of_pairs = these.0.0;
       takes = λ pair half low.
           let place = box_of config pair in
-          subst (λ (shown : Option (List InCall)). Agrees (taken_at calls (port_address config pair half)) shown)
+          subst (λ (shown : Option (List InCall)). SameWhereTold (taken_at calls (port_address config pair half)) shown)
           (sym (ins_append leave.more takes.more place half
-          ∙ ap (λ (x : Option (List InCall)). joined x (ins_told takes.more place half)) (leave.no_ends place half)
-          ∙ joined_to_nothing (ins_told takes.more place half)))
+          ∙ ap (λ (x : Option (List InCall)). joined x (ins_logged takes.more place half)) (leave.no_ends place half)
+          ∙ joined_to_nothing (ins_logged takes.more place half)))
           (these.0.1 pair half low);
-      sends = λ pair half low. agrees_same (sent_at calls (port_address config pair half)) (outs_told (leave.more ++ takes.more) pair half)
+      sends = λ pair half low. agrees_same (sent_at calls (port_address config pair half)) (outs_logged (leave.more ++ takes.more) pair half)
           (outs_append leave.more takes.more pair half
-          ∙ ap (λ (x : Option (List OutCall)). joined x (outs_told takes.more pair half)) (leave.legs pair half)
-          ∙ ap (λ (x : Option (List OutCall)). joined (legs_told (legs_left sent gone) pair half) x) (takes.no_legs pair half)
-          ∙ nothing_joined (legs_told (legs_left sent gone) pair half)
+          ∙ ap (λ (x : Option (List OutCall)). joined x (outs_logged takes.more pair half)) (leave.legs pair half)
+          ∙ ap (λ (x : Option (List OutCall)). joined (legs_logged (legs_left sent gone) pair half) x) (takes.no_legs pair half)
+          ∙ nothing_joined (legs_logged (legs_left sent gone) pair half)
           ∙ sym (legs_closed sent config gone calls pair half ports these.1));
     }

@@ -12,8 +12,8 @@ use Rattle.call_board.specs.Fits.{IsFitting}
 use Rattle.call_board.specs.Pairs.{held, closed_of, closes_leg, closes_leg_act}
 use Rattle.call_board.proofs.Held.{held_live, closes_held}
 use Rattle.relay_core.proofs.Turns.{filter_none, nothing_more}
-use Rattle.board_turns.specs.Ending.{leg_pairs}
-use Rattle.board_turns.specs.Stopping.{stop_entry, still_held}
+use Rattle.board_turns.specs.CallEnds.{leg_pairs}
+use Rattle.board_turns.specs.Stops.{stop_entry, still_held}
 
 -- a stop closes each leg that is held
 stop_closes : (config : Config) (h : List BoardEntry) (a : Holder) → IsFitting config h → In a (held h) → closes_leg (stop_entry h) a ≡ true

@@ -9,12 +9,12 @@ use Rattle.call_board.specs.Acts.{BoardEntry}
 use Rattle.relay_core.specs.declared.part.Part.{Part}
 use Rattle.relay_core.specs.Entries.{Entry, board_entry, board_history, front}
 use Rattle.relay_core.specs.Legal.{Orderly}
-use Rattle.relay_core.specs.Made.{Made, entry_of, list_of}
-use Rattle.relay_core.specs.Handed.{IsHanded}
-use Rattle.relay_core.specs.Recorded.{AreReturned}
-use Rattle.relay_core.specs.Beginning.{AreParts}
-use Rattle.relay_core.specs.Joining.{TakesOwnPairs}
-use Rattle.relay_core.specs.Turning.{Numbered, IsTurn, IsReceiving, made_by}
+use Rattle.relay_core.specs.Records.{Made, entry_of, list_of}
+use Rattle.relay_core.specs.NestedMoments.{IsHanded}
+use Rattle.relay_core.specs.ReturnedPairs.{AreReturned}
+use Rattle.relay_core.specs.FirstPlaces.{AreParts}
+use Rattle.relay_core.specs.Joins.{TakesOwnPairs}
+use Rattle.relay_core.specs.Turns.{Numbered, IsTurn, IsReceiving, made_by}
 
 -- the board's whole history, by the list
 abbrev pub board_of : List Entry → List BoardEntry

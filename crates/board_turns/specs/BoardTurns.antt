@@ -10,25 +10,25 @@ use Rattle.call_board.specs.Boards.{KeepsReplies}
 use Rattle.call_board.specs.Pairs.{held}
 use Rattle.relay_core.specs.Entries.{Entry, board_history}
 use Rattle.relay_core.specs.Scripts.{Owed}
-use Rattle.relay_core.specs.Turning.{GainsNested, made_by}
+use Rattle.relay_core.specs.Turns.{GainsNested, made_by}
 use Rattle.board_turns.specs.declared.board_turn.MainHand.{MainHand}
 use Rattle.board_turns.specs.declared.board_turn.BoardTurn.{BoardTurn}
 use Rattle.board_turns.specs.declared.board_turn.Between.{Between}
 use Rattle.board_turns.specs.Between.{IsBetween, board_of}
-use Rattle.board_turns.specs.Nesting.{MayNest}
-use Rattle.board_turns.specs.Acting.{InTurn, DoesAct}
-use Rattle.board_turns.specs.Carrying.{Carries}
-use Rattle.board_turns.specs.Controls.{Hearing}
-use Rattle.board_turns.specs.Ties.{Ties}
-use Rattle.board_turns.specs.Closing.{CanClose}
-use Rattle.board_turns.specs.Ending.{CanEnd, leg_pairs}
-use Rattle.board_turns.specs.Ticking.{CanExpire}
-use Rattle.media_ports.specs.Held.{TellsHeld}
+use Rattle.board_turns.specs.NestedSteps.{MayNest}
+use Rattle.board_turns.specs.Acts.{InTurn, DoesAct}
+use Rattle.board_turns.specs.Commands.{ExecutesCommand}
+use Rattle.board_turns.specs.Controls.{RequestRecord}
+use Rattle.board_turns.specs.Ties.{PortsFollowRows}
+use Rattle.board_turns.specs.Closings.{CanClose}
+use Rattle.board_turns.specs.CallEnds.{CanEnd, leg_pairs}
+use Rattle.board_turns.specs.Ticks.{CanExpire}
+use Rattle.media_ports.specs.OpenPorts.{LogsHeld}
 
 module _ {I O : Type 0} {g : _} where
   -- the list of the hand
-  abbrev pub list_in : MainHand I O g → List Entry
-  list_in main = made_by main.hand.now
+  abbrev pub hand_list : MainHand I O g → List Entry
+  hand_list main = made_by main.hand.now
 
   -- the board's history before the turn
   abbrev pub past_of : MainHand I O g → List BoardEntry
@@ -49,8 +49,8 @@ module _ {I O : Type 0} {g : _} where
     pub may : MayNest old.config.now old.turns.now new.hand.now
 
   -- the hand's list gained just these nested steps
-  abbrev pub Makes : List Owed → (old new : MainHand I O g) → Type 0
-  Makes owed old new = GainsNested old.entry_id.number old.entry_id.moment owed old.hand.now new.hand.now
+  abbrev pub MakesNested : List Owed → (old new : MainHand I O g) → Type 0
+  MakesNested owed old new = GainsNested old.entry_id.number old.entry_id.moment owed old.hand.now new.hand.now
 
 module _ {P I O : Type 0} {g : _} where
   -- the same board, port maker and list of legs
@@ -59,34 +59,34 @@ module _ {P I O : Type 0} {g : _} where
     pub ports_are : new.ports.ghost_name ≡ old.ports.ghost_name
     pub gone_is : new.gone.ghost_name ≡ old.gone.ghost_name
 
-module _ {P I O : Type 0} {g : _} (told : P → Option (List PortCall)) where
+module _ {P I O : Type 0} {g : _} (log : P → Option (List PortCall)) where
   -- The main hand has the board's turn and has made no step in it, and no leg has gone
   pub record Begins (turn : BoardTurn P I O g) : Type 0 where
-    pub in_turn : InTurn turn.main.config.now turn.main.turns.now turn.main.hand.now turn.main.entry_id turn.board.now (told turn.ports.now)
+    pub in_turn : InTurn turn.main.config.now turn.main.turns.now turn.main.hand.now turn.main.entry_id turn.board.now (log turn.ports.now)
     pub empty : turn.gone.now ≡ []
 
   -- these legs may be closed, the call of this number may be ended, and the one at this place may be asked whether it is due
   abbrev pub MayClose : BoardTurn P I O g → List (Lease × O × O) → Type 0
-  MayClose turn gone = CanClose turn.main.config.now (list_in turn.main) turn.board.now (told turn.ports.now) gone
+  MayClose turn gone = CanClose turn.main.config.now (hand_list turn.main) turn.board.now (log turn.ports.now) gone
 
   abbrev pub MayEnd : BoardTurn P I O g → ℕ → Call → List Holder → Type 0
-  MayEnd turn call of legs = CanEnd turn.main.config.now (list_in turn.main) turn.board.now (told turn.ports.now) call of legs
+  MayEnd turn call of legs = CanEnd turn.main.config.now (hand_list turn.main) turn.board.now (log turn.ports.now) call of legs
 
   abbrev pub MayExpire : BoardTurn P I O g → ℕ → Call → List Holder → Type 0
-  MayExpire turn index of legs = CanExpire turn.main.config.now (list_in turn.main) turn.board.now (told turn.ports.now) index of legs
+  MayExpire turn index of legs = CanExpire turn.main.config.now (hand_list turn.main) turn.board.now (log turn.ports.now) index of legs
 
   -- the turn did what the entry owes
   abbrev pub Does : (old new : BoardTurn P I O g) → BoardEntry → Type 0
-  Does old new e = DoesAct old.main.config.now old.main.hand.now new.main.hand.now old.main.entry_id e new.board.now (told new.ports.now)
+  Does old new e = DoesAct old.main.config.now old.main.hand.now new.main.hand.now old.main.entry_id e new.board.now (log new.ports.now)
 
   -- a command was carried out, for which no reply is kept
-  abbrev pub CarriesOut : (old new : BoardTurn P I O g) → Hearing → Option (Room ℕ) → Type 0
-  CarriesOut old new x reply = Carries old.main.config.now old.main.hand.now new.main.hand.now old.main.entry_id x reply new.board.now (told new.ports.now)
+  abbrev pub CarriesOut : (old new : BoardTurn P I O g) → RequestRecord → Option (Room ℕ) → Type 0
+  CarriesOut old new x reply = ExecutesCommand old.main.config.now old.main.hand.now new.main.hand.now old.main.entry_id x reply new.board.now (log new.ports.now)
 
   -- The main hand holds no turn, just the ports of the held pairs are open, and no leg has gone
   pub record Rests (at : Between P I O g) : Type 0 where
     pub between : IsBetween at.config.now at.turns.now at.hand.now
-    pub opens : TellsHeld at.config.now (told at.ports.now) (leg_pairs (held (board_of (made_by at.hand.now))))
+    pub opens : LogsHeld at.config.now (log at.ports.now) (leg_pairs (held (board_of (made_by at.hand.now))))
     pub empty : at.gone.now ≡ []
 
   module _ (faults : P → ℕ) where
@@ -100,7 +100,7 @@ module _ {P I O : Type 0} {g : _} (told : P → Option (List PortCall)) where
       pub gone_is : new.gone.ghost_name ≡ old.gone.ghost_name
       pub same : IsSameHand old.hand.now new.hand.now
       pub rests : Rests new
-      pub ties : Ties old.config.now (told old.ports.now) (told new.ports.now) (entries old.hand.now) (entries new.hand.now)
+      pub ties : PortsFollowRows old.config.now (log old.ports.now) (log new.ports.now) (entries old.hand.now) (entries new.hand.now)
       pub later : faults old.ports.now ≤ faults new.ports.now
 
     -- It is the same turn, with the same board, port maker and list of legs; the kept replies stay, and no count of faults fell
@@ -113,5 +113,5 @@ module _ {P I O : Type 0} {g : _} (told : P → Option (List PortCall)) where
     -- The same, what the port maker was given is what left boxes and cells, and no leg is left
     pub record Works (old new : BoardTurn P I O g) : Type 0 where
       pub stays : StaysInTurn old new
-      pub ties : Ties old.main.config.now (told old.ports.now) (told new.ports.now) (entries old.main.hand.now) (entries new.main.hand.now)
+      pub ties : PortsFollowRows old.main.config.now (log old.ports.now) (log new.ports.now) (entries old.main.hand.now) (entries new.main.hand.now)
       pub empty : new.gone.now ≡ []

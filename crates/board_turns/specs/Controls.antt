@@ -8,13 +8,13 @@ use Rattle.sdes_lines.specs.declared.crypto_line.CryptoLine.{CryptoLine}
 use Rattle.call_board.specs.Acts.{Given, Told, Control, Turn, BoardEntry}
 use Rattle.call_board.specs.Answers.{Answered, answering_unless}
 use Rattle.call_board.specs.Futures.{closed_pairs}
-use Rattle.call_board.specs.Kept.{kept}
-use Rattle.call_board.specs.Views.{last_moment}
+use Rattle.call_board.specs.KeptReplies.{kept_reply}
+use Rattle.call_board.specs.Views.{board_last_moment}
 use Rattle.relay_core.specs.Entries.{Board}
-use Rattle.relay_core.specs.Made.{Made, nothing_left}
+use Rattle.relay_core.specs.Records.{Made, nothing_left}
 
 -- what is recorded of a datagram with a frame, and what the devices returned in its turn
-pub record Hearing : Type 0 where
+pub record RequestRecord : Type 0 where
   pub source : Addr
   pub cookie : List ℕ
   pub body : List ℕ
@@ -24,7 +24,7 @@ pub record Hearing : Type 0 where
   pub given : Given
 
 -- the datagram before its reply
-abbrev pub unanswered : Hearing → Control
+abbrev pub unanswered : RequestRecord → Control
 unanswered x = record {
   source = x.source;
   cookie = x.cookie;
@@ -38,7 +38,7 @@ unanswered x = record {
 }
 
 -- with its reply and what it does
-abbrev pub with_answer : Hearing → Answered → Control
+abbrev pub with_answer : RequestRecord → Answered → Control
 with_answer x a = record {
   source = x.source;
   cookie = x.cookie;
@@ -52,22 +52,22 @@ with_answer x a = record {
 }
 
 -- the datagram as that history demands it at that moment
-abbrev pub control_of : Config → List BoardEntry → ℕ → Hearing → Control
-control_of config h moment x = with_answer x (answering_unless config h (unanswered x) (kept h x.source x.cookie moment))
+abbrev pub control_of : Config → List BoardEntry → ℕ → RequestRecord → Control
+control_of config h moment x = with_answer x (answering_unless config h (unanswered x) (kept_reply h x.source x.cookie moment))
 
 -- the moment of a datagram that is handed this one
 abbrev pub moment_at : List BoardEntry → ℕ → ℕ
-moment_at h now = max now (last_moment h)
+moment_at h now = max now (board_last_moment h)
 
 -- the board's entry of a datagram with this reply and act
-abbrev pub entry_with : ℕ → Hearing → Answered → BoardEntry
+abbrev pub entry_with : ℕ → RequestRecord → Answered → BoardEntry
 entry_with moment x a = record { moment = moment; event = Turn (with_answer x a) }
 
-abbrev pub entry_at : Config → List BoardEntry → ℕ → Hearing → BoardEntry
-entry_at config h moment x = entry_with moment x (answering_unless config h (unanswered x) (kept h x.source x.cookie moment))
+abbrev pub entry_at : Config → List BoardEntry → ℕ → RequestRecord → BoardEntry
+entry_at config h moment x = entry_with moment x (answering_unless config h (unanswered x) (kept_reply h x.source x.cookie moment))
 
 -- the step that the table records of a datagram that is handed this moment
-abbrev pub control_made : Config → List BoardEntry → ℕ → Hearing → Made
+abbrev pub control_made : Config → List BoardEntry → ℕ → RequestRecord → Made
 control_made config h now x = record {
   handed = now;
   moment = moment_at h now;

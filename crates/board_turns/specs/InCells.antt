@@ -3,7 +3,7 @@ use Rattle.std.specs.Prelude.{◌≡◌, ◌≤◌, ℕ, Bool, List, ◌⊎◌}
 use Rattle.relay_outside.specs.declared.settings.Config.{Config}
 use Rattle.relay_outside.specs.declared.ports.InCall.{InCall}
 use Rattle.relay_outside.specs.declared.ports.OutCall.{OutCall}
-use Rattle.relay_outside.specs.Told.{EndTold}
+use Rattle.relay_outside.specs.DeviceLogs.{EndLog}
 use Rattle.turn_table.specs.declared.hands.Hand.{Hand}
 use Rattle.port_pool.specs.declared.pairs.Lease.{Lease}
 use Rattle.turn_table.specs.Hands.{IsGiven}
@@ -14,21 +14,21 @@ use Rattle.call_cell.specs.declared.prepare.Prepare as prepared
 use Rattle.call_cell.specs.Cells.{CellEvent, CellEntry, Prepare, since_end}
 use Rattle.port_pool.specs.declared.holder.Holder.{Holder}
 use Rattle.port_pool.specs.declared.reports.LegReport.{LegReport}
-use Rattle.call_cell.specs.Preparing.{PrepareFor, CanCome, CellPrepares}
-use Rattle.call_cell.specs.Committing.{NamesKeys, CellCommits, contexts_due_after, inbound_keys}
-use Rattle.call_cell.specs.CellStanding.{CellFor}
-use Rattle.call_cell.specs.Ending.{CellEnds}
-use Rattle.call_cell.specs.Expiring.{CellExpires}
-use Rattle.call_cell.specs.Asked.{CountsBelow}
-use Rattle.call_cell.specs.Reading.{CellReads}
+use Rattle.call_cell.specs.Preparations.{PrepareFor, CanCome, CellPrepares}
+use Rattle.call_cell.specs.Commits.{NamesKeys, CellCommits, contexts_due_after, inbound_keys}
+use Rattle.call_cell.specs.CellHistories.{CellFor}
+use Rattle.call_cell.specs.CellEnds.{CellEnds}
+use Rattle.call_cell.specs.Expiries.{CellExpires}
+use Rattle.call_cell.specs.Demands.{CountsBelow}
+use Rattle.call_cell.specs.LegReports.{CellReads}
 use Rattle.relay_core.specs.declared.part.Part.{Part}
 use Rattle.relay_core.specs.declared.part.Part.TheVariants as part
 use Rattle.relay_core.specs.Entries.{Cell, Entry, cell_history}
 use Rattle.relay_core.specs.Scripts.{Owed}
-use Rattle.relay_core.specs.Made.{Made}
-use Rattle.relay_core.specs.Standing.{BringsNewKeys, nested_of}
+use Rattle.relay_core.specs.Records.{Made}
+use Rattle.relay_core.specs.PlaceHistories.{BringsNewKeys, nested_of}
 use Rattle.relay_core.specs.Steps.{Relates, IsReserved, AreOpened}
-use Rattle.relay_core.specs.Turning.{IsAbove, made_by}
+use Rattle.relay_core.specs.Turns.{IsAbove, made_by}
 
 -- an event of a cell
 abbrev pub in_cell_of : ℕ → CellEvent → Owed
@@ -51,12 +51,12 @@ abbrev pub CanCommit : List Entry → ℕ → List SectionSignal → Type 0
 CanCommit l cell signal = (n : ℕ) → IsAbove l cell n → NamesKeys (since_end (cell_history l cell n)) signal
 
 -- by the list, the answer makes no more inbound contexts than there is room for
-abbrev pub HasRoom : List Entry → ℕ → List SectionSignal → ℕ → Type 0
-HasRoom l cell signal contexts = (n : ℕ) → IsAbove l cell n → contexts_due_after (since_end (cell_history l cell n)) signal ≤ contexts
+abbrev pub HasRoomForContexts : List Entry → ℕ → List SectionSignal → ℕ → Type 0
+HasRoomForContexts l cell signal contexts = (n : ℕ) → IsAbove l cell n → contexts_due_after (since_end (cell_history l cell n)) signal ≤ contexts
 
 -- or for as many as it names inbound keys, which are no fewer
 abbrev pub HasSpace : List Entry → ℕ → List SectionSignal → ℕ → Type 0
-HasSpace l cell signal contexts = HasRoom l cell signal contexts ⊎ (inbound_keys signal ≤ contexts)
+HasSpace l cell signal contexts = HasRoomForContexts l cell signal contexts ⊎ (inbound_keys signal ≤ contexts)
 
 -- the cell stands for a history after which the offer can come
 pub record OfferComes {O : Type 0} (cell : cell.Cell O) (signal : prepared.Prepare O) (call : ℕ) (keys : List NewKey) (dropped : List ℕ) : Type 0 where
@@ -87,9 +87,9 @@ module _ {I O : Type 0} where
   TakesOffer _ signal call keys dropped = ⊥
 
   -- what the offer adds has the out ends that were opened for it by the cell's configuration, and not called since
-  abbrev pub OpenedFor : (O → EndTold OutCall) → Part I O → prepared.Prepare O → Type 0
-  OpenedFor told (part.Cell cell) signal = AreOpened told cell.config signal
-  OpenedFor told _ signal = ⊥
+  abbrev pub OpenedFor : (O → EndLog OutCall) → Part I O → prepared.Prepare O → Type 0
+  OpenedFor log (part.Cell cell) signal = AreOpened log cell.config signal
+  OpenedFor log _ signal = ⊥
 
   abbrev pub TakesAnswer : Part I O → List SectionSignal → ℕ → Type 0
   TakesAnswer (part.Cell cell) signal contexts = AnswerComes cell signal contexts
@@ -100,9 +100,9 @@ module _ {I O : Type 0} where
   TakesReading _ = ⊥
 
   -- the last moment of a cell
-  abbrev pub moment_in : Part I O → ℕ
-  moment_in (part.Cell cell) = cell.moment
-  moment_in _ = 0
+  abbrev pub moment_of_cell : Part I O → ℕ
+  moment_of_cell (part.Cell cell) = cell.moment
+  moment_of_cell _ = 0
 
   -- the call of the cell ended, whatever history the cell stands for, and these legs went
   abbrev pub EndsPart : Part I O → Part I O → List (Lease × O × O) → Type 0
@@ -116,8 +116,8 @@ module _ {I O : Type 0} where
 
   -- the cell told this of its legs
   abbrev pub ReadsPart : Part I O → List LegReport → Type 0
-  ReadsPart (part.Cell cell) told = (config : Config) (h : List CellEntry) → CellFor config cell h → CellReads config cell h told
-  ReadsPart _ told = ⊥
+  ReadsPart (part.Cell cell) log = (config : Config) (h : List CellEntry) → CellFor config cell h → CellReads config cell h log
+  ReadsPart _ log = ⊥
 
   -- the cell took the offer at that moment, and these legs went
   abbrev pub PreparesPart : Part I O → Part I O → prepared.Prepare O → ℕ → List NewKey → List ℕ → ℕ → List (Lease × O × O) → Type 0
@@ -131,7 +131,7 @@ module _ {I O : Type 0} where
       → NamesKeys (since_end h) signal → CellCommits config old new h signal now gone
   CommitsPart _ new signal now gone = ⊥
 
-module _ {I O : Type 0} (in_told : I → EndTold InCall) (in_faults : I → ℕ) (out_told : O → EndTold OutCall) (out_faults : O → ℕ) where
+module _ {I O : Type 0} (in_told : I → EndLog InCall) (in_faults : I → ℕ) (out_told : O → EndLog OutCall) (out_faults : O → ℕ) where
   -- The cell that the hand's turn gave. It stands for a history, of which the hand's list has all but the relays
   pub record IsCellAt {M T : Type 0} {g : _} (config : Config) (hand : Hand M (Part I O) Made T g) (place : ℕ) (cell : cell.Cell O) (history : List CellEntry) : Type 0 where
     pub number : ℕ
@@ -156,11 +156,11 @@ module _ {I O : Type 0} (in_told : I → EndTold InCall) (in_faults : I → ℕ)
     pub expires : CellExpires config old new history now due
 
   -- the cell told this of its legs
-  pub record Reads {M T : Type 0} {g : _} (config : Config) (hand : Hand M (Part I O) Made T g) (place : ℕ) (told : List LegReport) : Type 0 where
+  pub record Reads {M T : Type 0} {g : _} (config : Config) (hand : Hand M (Part I O) Made T g) (place : ℕ) (all_reports : List LegReport) : Type 0 where
     pub cell : cell.Cell O
     pub history : List CellEntry
     pub was : IsCellAt config hand place cell history
-    pub reads : CellReads config cell history told
+    pub reads : CellReads config cell history all_reports
 
   -- the cell took the offer at that moment, and these legs went
   pub record Prepares {M T : Type 0} {g : _} (config : Config) (hand : Hand M (Part I O) Made T g) (place : ℕ) (signal : prepared.Prepare O) (call : ℕ) (keys : List NewKey)

@@ -4,9 +4,9 @@ use Rattle.turn_table.specs.declared.hands.Turns.{Turns}
 use Rattle.turn_table.specs.declared.hands.Hand.{Hand}
 use Rattle.turn_table.specs.Hands.{IsHandOf, IsMain, HasNoTurn, starts, entries}
 use Rattle.relay_core.specs.declared.part.Part.{Part}
-use Rattle.relay_core.specs.Made.{Made}
-use Rattle.relay_core.specs.Beginning.{AreParts}
-use Rattle.relay_core.specs.Joining.{IsSound}
+use Rattle.relay_core.specs.Records.{Made}
+use Rattle.relay_core.specs.FirstPlaces.{AreParts}
+use Rattle.relay_core.specs.Joins.{IsSound}
 
 module _ {M I O T : Type 0} {g : _} where
   -- The main hand of a relay with this configuration holds no turn, and its list is what the board's turns so far have made of it, with

@@ -1,15 +1,15 @@
 //! The box of a port pair, opened and shut.
 ghost use Rattle.std.specs.Prelude.{◌≡◌, ◌≤◌, ◌<◌, ℕ, [], ◌∷◌};
-ghost use Rattle.relay_outside.specs.Told.{IsOpenedFor};
+ghost use Rattle.relay_outside.specs.DeviceLogs.{IsOpenedFor};
 ghost use Rattle.rtp_packet.specs.declared.head.Half.TheVariants.{Rtp, Rtcp};
-ghost use Rattle.board_turns.specs.BoardTurns.{CanNest, Makes, Nests, list_in};
+ghost use Rattle.board_turns.specs.BoardTurns.{CanNest, MakesNested, Nests, hand_list};
 ghost use Rattle.port_pool.specs.Boxes.{Open, Close};
 ghost use Rattle.port_pool.specs.Ports.{pair_count, port_address, AreOfPair};
 ghost use Rattle.relay_core.specs.Entries.{Box, box_of};
-ghost use Rattle.relay_core.specs.Scripts.{opening};
+ghost use Rattle.relay_core.specs.Scripts.{open_owed};
 ghost use Rattle.relay_core.specs.Steps.{Relates};
-ghost use Rattle.board_turns.specs.Nesting.{nested, leaving, ends_left, AddsRow, IsShut, IsOpen, closing_of, Opens, Shuts};
-ghost use Rattle.board_turns.specs.Taken.{CanShut, HasEnds};
+ghost use Rattle.board_turns.specs.NestedSteps.{nested, leaving, ends_left, AddsRow, IsShut, IsTurnOpen, closing_of, OpensBox, Shuts};
+ghost use Rattle.board_turns.specs.BoxStates.{CanShut, HasEnds};
 
 use crate::board_turn::MainHand;
 use crate::puts::put_step;
@@ -28,7 +28,7 @@ fn box_place(config: &Config, pair: u32) -> usize
 
 fn shut_part<I: InEnd, O: OutEnd>(part: &mut Part<I, O>) -> (I, I)
     requires { CanShut part.old }
-    ensures step { (number handed : ℕ) → Relates I.told I.faults O.told O.faults part.old (leaving number handed 0 (Box Close) (ends_left I.told result)) part.new }
+    ensures step { (number handed : ℕ) → Relates I.log I.faults O.log O.faults part.old (leaving number handed 0 (Box Close) (ends_left I.log result)) part.new }
     ensures ends { HasEnds part.old result }
 {
     match part {
@@ -51,11 +51,11 @@ pub fn open_box<I: InEnd, O: OutEnd, R: Wait>(
     requires may { CanNest main.old }
     requires pair { holder.pair < pair_count main.old.config.now }
     requires cell { (1 ≤ holder.cell) × (holder.cell ≤ main.old.config.now.max_sessions) }
-    requires shut { IsShut (list_in main.old) (box_of main.old.config.now holder.pair) }
-    requires ends { IsOpenedFor (port_address main.old.config.now holder.pair Rtp) (I.told rtp_end) × IsOpenedFor (port_address main.old.config.now holder.pair Rtcp) (I.told rtcp_end) }
+    requires shut { IsShut (hand_list main.old) (box_of main.old.config.now holder.pair) }
+    requires ends { IsOpenedFor (port_address main.old.config.now holder.pair Rtp) (I.log rtp_end) × IsOpenedFor (port_address main.old.config.now holder.pair Rtcp) (I.log rtcp_end) }
     ensures nests { Nests main.old main.new }
-    ensures gained { Makes (opening main.old.config.now holder ∷ []) main.old main.new }
-    ensures ends { Opens I.told I.faults O.told O.faults main.old.hand.now (box_of main.old.config.now holder.pair) (nested main.old.entry_id.number main.old.entry_id.moment 0 (Box (Open holder))) (rtp_end, rtcp_end) }
+    ensures gained { MakesNested (open_owed main.old.config.now holder ∷ []) main.old main.new }
+    ensures ends { OpensBox I.log I.faults O.log O.faults main.old.hand.now (box_of main.old.config.now holder.pair) (nested main.old.entry_id.number main.old.entry_id.moment 0 (Box (Open holder))) (rtp_end, rtcp_end) }
 {
     let mut step = main
         .turns
@@ -77,12 +77,12 @@ pub fn shut_box<I: InEnd, O: OutEnd, R: Wait>(
 ) -> (I, I)
     requires may { CanNest main.old }
     requires pair { pair < pair_count main.old.config.now }
-    requires open { IsOpen (list_in main.old) (box_of main.old.config.now pair) }
+    requires open { IsTurnOpen (hand_list main.old) (box_of main.old.config.now pair) }
     ensures nests { Nests main.old main.new }
-    ensures gained { Makes (closing_of main.old.config.now pair ∷ []) main.old main.new }
-    ensures row { AddsRow (box_of main.old.config.now pair) (Box Close) (ends_left I.told result) main.old.hand.now main.new.hand.now }
-    ensures home { AreOfPair I.told (port_address main.old.config.now pair Rtp) result.0 result.1 }
-    ensures ends { Shuts I.told I.faults O.told O.faults main.old.hand.now (box_of main.old.config.now pair) (leaving main.old.entry_id.number main.old.entry_id.moment 0 (Box Close) (ends_left I.told result)) result }
+    ensures gained { MakesNested (closing_of main.old.config.now pair ∷ []) main.old main.new }
+    ensures row { AddsRow (box_of main.old.config.now pair) (Box Close) (ends_left I.log result) main.old.hand.now main.new.hand.now }
+    ensures home { AreOfPair I.log (port_address main.old.config.now pair Rtp) result.0 result.1 }
+    ensures ends { Shuts I.log I.faults O.log O.faults main.old.hand.now (box_of main.old.config.now pair) (leaving main.old.entry_id.number main.old.entry_id.moment 0 (Box Close) (ends_left I.log result)) result }
 {
     let mut step = main.turns.turn(rt, main.hand, box_place(main.config, pair));
     let ends = shut_part(step.state());

@@ -1,15 +1,15 @@
 //! The cell of a call: asked whether its call is due, asked what is told of its legs, and ended.
 ghost use Rattle.std.specs.Prelude.{◌≡◌, ◌≤◌, [], ◌∷◌};
-ghost use Rattle.board_turns.specs.BoardTurns.{CanNest, Makes, Nests, list_in};
+ghost use Rattle.board_turns.specs.BoardTurns.{CanNest, MakesNested, Nests, hand_list};
 ghost use Rattle.histories.specs.Words.{In};
 ghost use Rattle.port_pool.specs.declared.reports.LegReport.{LegReport};
 ghost use Rattle.port_pool.specs.Reports.{CountsFit};
 ghost use Rattle.call_cell.specs.Cells.{Expire, Read, End};
 ghost use Rattle.relay_core.specs.Entries.{Cell};
-ghost use Rattle.relay_core.specs.Standing.{GoneHome};
-ghost use Rattle.board_turns.specs.Nesting.{gone_left, AddsRow};
+ghost use Rattle.relay_core.specs.PlaceHistories.{GoneHome};
+ghost use Rattle.board_turns.specs.NestedSteps.{gone_left, AddsRow};
 ghost use Rattle.board_turns.specs.InCells.{HasNewKeys, in_cell_of, Ends, Expires, Reads};
-ghost use Rattle.board_turns.specs.Leaving.{AllWent};
+ghost use Rattle.board_turns.specs.Departures.{AllRemoved};
 
 use crate::board_turn::MainHand;
 use crate::puts::put_step;
@@ -37,14 +37,14 @@ pub fn end_cell<I: InEnd, O: OutEnd, R: Wait>(
 )
     requires may { CanNest main.old }
     requires cell { (1 ≤ cell) × (cell ≤ main.old.config.now.max_sessions) }
-    requires keys { HasNewKeys (list_in main.old) cell }
+    requires keys { HasNewKeys (hand_list main.old) cell }
     requires empty { gone.old ≡ [] }
     ensures nests { Nests main.old main.new }
-    ensures gained { Makes (in_cell_of cell End ∷ []) main.old main.new }
-    ensures row { AddsRow cell (Cell End) (gone_left O.told gone.new) main.old.hand.now main.new.hand.now }
-    ensures ended { Ends I.told I.faults O.told O.faults main.old.config.now main.old.hand.now cell gone.new }
-    ensures went { AllWent main.old.config.now (list_in main.old) cell gone.new }
-    ensures home { GoneHome O.told main.old.config.now gone.new }
+    ensures gained { MakesNested (in_cell_of cell End ∷ []) main.old main.new }
+    ensures row { AddsRow cell (Cell End) (gone_left O.log gone.new) main.old.hand.now main.new.hand.now }
+    ensures ended { Ends I.log I.faults O.log O.faults main.old.config.now main.old.hand.now cell gone.new }
+    ensures went { AllRemoved main.old.config.now (hand_list main.old) cell gone.new }
+    ensures home { GoneHome O.log main.old.config.now gone.new }
 {
     let mut step = main
         .turns
@@ -67,10 +67,10 @@ pub fn expire_cell<I: InEnd, O: OutEnd, R: Wait>(
 ) -> bool
     requires may { CanNest main.old }
     requires cell { (1 ≤ cell) × (cell ≤ main.old.config.now.max_sessions) }
-    requires keys { HasNewKeys (list_in main.old) cell }
+    requires keys { HasNewKeys (hand_list main.old) cell }
     ensures nests { Nests main.old main.new }
-    ensures gained { Makes (in_cell_of cell (Expire result) ∷ []) main.old main.new }
-    ensures asked { Expires I.told I.faults O.told O.faults main.old.config.now main.old.hand.now cell main.old.entry_id.moment result }
+    ensures gained { MakesNested (in_cell_of cell (Expire result) ∷ []) main.old main.new }
+    ensures asked { Expires I.log I.faults O.log O.faults main.old.config.now main.old.hand.now cell main.old.entry_id.moment result }
 {
     let mut step = main
         .turns
@@ -95,10 +95,10 @@ pub fn read_cell<I: InEnd, O: OutEnd, R: Wait>(
 )
     requires may { CanNest main.old }
     requires cell { (1 ≤ cell) × (cell ≤ main.old.config.now.max_sessions) }
-    requires keys { HasNewKeys (list_in main.old) cell }
+    requires keys { HasNewKeys (hand_list main.old) cell }
     ensures nests { Nests main.old main.new }
-    ensures gained { Makes (in_cell_of cell (Read out.new) ∷ []) main.old main.new }
-    ensures told { Reads I.told I.faults O.told O.faults main.old.config.now main.old.hand.now cell out.new }
+    ensures gained { MakesNested (in_cell_of cell (Read out.new) ∷ []) main.old main.new }
+    ensures log { Reads I.log I.faults O.log O.faults main.old.config.now main.old.hand.now cell out.new }
     ensures counts { (report : LegReport) → In report out.new → CountsFit report }
 {
     let mut step = main

@@ -1,12 +1,12 @@
 //! A command whose description is refused, and one that the board doesn't plan.
 ghost use Rattle.std.specs.Prelude.{◌≡◌, []};
 ghost use Rattle.cookie_cache.specs.Keepings.{IsCookie};
-ghost use Rattle.call_board.specs.Planned.{code_of};
-ghost use Rattle.board_turns.specs.Giving.{IsUnasked};
-ghost use Rattle.board_turns.specs.Telling.{Refuses, error_in};
+ghost use Rattle.call_board.specs.Plans.{board_code};
+ghost use Rattle.board_turns.specs.DeviceAnswers.{IsUnasked};
+ghost use Rattle.board_turns.specs.PlainReplies.{RefusesRequest, error_in};
 
 use crate::command_outcome::CommandOutcome;
-use crate::refusing::{refused, short};
+use crate::refusals::{refused, short};
 use call_board::BoardFault;
 use control_messages::{DescriptionFault, Request};
 use ng_reply::ErrorCode;
@@ -15,7 +15,7 @@ use std::alloc::Global;
 
 /// The error of a fault. None: out of memory.
 fn code_of(fault: BoardFault) -> Option<ErrorCode>
-    ensures { result ≡ code_of fault }
+    ensures { result ≡ board_code fault }
 {
     match fault {
         BoardFault::UnknownCall => Some(ErrorCode::E9),
@@ -37,7 +37,7 @@ pub fn unplanned(
     chosen_lines: ChosenLines,
 ) -> CommandOutcome
     requires { IsCookie request.now.cookie.now }
-    ensures refuses { Refuses request.now.cookie.now request.now.body.now chosen_lines (code_of fault) result }
+    ensures refuses { RefusesRequest request.now.cookie.now request.now.body.now chosen_lines (board_code fault) result }
     ensures unasked { IsUnasked result.device_answers }
 {
     match code_of(fault) {
@@ -49,7 +49,7 @@ pub fn unplanned(
 /// The outcome when the description is refused: the reply tells the error, or that memory ran out. No crypto line is chosen in it.
 pub fn misdescribed(alloc: Global, request: &Request, fault: DescriptionFault) -> CommandOutcome
     requires { IsCookie request.now.cookie.now }
-    ensures refuses { Refuses request.now.cookie.now request.now.body.now [] (error_in fault) result }
+    ensures refuses { RefusesRequest request.now.cookie.now request.now.body.now [] (error_in fault) result }
     ensures unasked { IsUnasked result.device_answers }
 {
     match fault {

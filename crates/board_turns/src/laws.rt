@@ -1,8 +1,8 @@
 //! What the main hand keeps when hands of lanes are split from it and taken in again.
 ghost use Rattle.std.specs.Prelude.{◌≡◌};
 ghost use Rattle.turn_table.specs.Hands.{IsLeft, IsJoined, IsUnchanged, KnowsAll, entries};
-ghost use Rattle.relay_core.specs.Joining.{IsLane};
-ghost use Rattle.relay_core.specs.Turning.{made_by};
+ghost use Rattle.relay_core.specs.Joins.{IsLaneRows};
+ghost use Rattle.relay_core.specs.Turns.{made_by};
 ghost use Rattle.board_turns.specs.Between.{board_of, IsBetween};
 ghost use Rattle.board_turns.specs.Joins.{IsBetweenJoins};
 
@@ -20,9 +20,9 @@ pub fn main_hand_stays<I: InEnd, O: OutEnd>(
 )
     ensures split { (old : _) → IsBetween config.now turns.now old → IsLeft old hand.now → IsBetween config.now turns.now hand.now }
     ensures begun { IsBetween config.now turns.now hand.now → IsBetweenJoins config.now turns.now hand.now }
-    ensures joined { (old other : _) → IsBetweenJoins config.now turns.now old → IsLane config.now (entries other) → IsJoined old other hand.now
+    ensures joined { (old other : _) → IsBetweenJoins config.now turns.now old → IsLaneRows config.now (entries other) → IsJoined old other hand.now
         → IsBetweenJoins config.now turns.now hand.now }
     ensures surveyed { (old : _) → IsBetweenJoins config.now turns.now old → IsUnchanged old hand.now → KnowsAll hand.now
         → IsBetween config.now turns.now hand.now }
-    ensures history { (old other : _) → IsLane config.now (entries other) → IsJoined old other hand.now → board_of (made_by hand.now) ≡ board_of (made_by old) }
+    ensures history { (old other : _) → IsLaneRows config.now (entries other) → IsJoined old other hand.now → board_of (made_by hand.now) ≡ board_of (made_by old) }
 {}

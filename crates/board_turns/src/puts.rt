@@ -7,18 +7,18 @@ use relay_core::{Relay, Says, Told};
 use relay_outside::{InEnd, OutEnd};
 use turn_table::{Hand, Turn, Turns};
 
-/// Ends a turn of the main hand with the step that X says. `told` is what the step's event tells, and `left` what left the place by it.
+/// Ends a turn of the main hand with the step that X says. `data` is what the step's event tells, and `left` what left the place by it.
 pub(crate) fn put_step<I: InEnd, O: OutEnd, D, L, X: Says>(
     turns: &Turns<Relay<I, O>>,
     hand: &mut Hand<Relay<I, O>>,
     turn: Turn<Relay<I, O>>,
     entry_id: BoardEntryId,
-    told: &D,
+    data: &D,
     left: &L,
 )
     requires table { IsHandOf turns.now hand.old × IsMain hand.old }
     requires turn { HasTurn hand.old turn }
-    requires step { Relates I.told I.faults O.told O.faults (taken_of turn) X.made (state_of turn) }
+    requires step { Relates I.log I.faults O.log O.faults (taken_of turn) X.made (state_of turn) }
     ensures same { IsSameHand hand.old hand.new }
     ensures entry { EndsTurn (place_of turn) (front_of turn) X.made tt hand.old hand.new }
 {

@@ -1,15 +1,15 @@
 //! The cell of a call: prepared by an offer, and committed by an answer.
 ghost use Rattle.std.specs.Prelude.{◌≡◌, ◌≤◌, [], ◌∷◌};
-ghost use Rattle.board_turns.specs.BoardTurns.{CanNest, Makes, Nests, list_in};
+ghost use Rattle.board_turns.specs.BoardTurns.{CanNest, MakesNested, Nests, hand_list};
 ghost use Rattle.call_cell.specs.Cells.{Commit};
-ghost use Rattle.call_cell.specs.Preparing.{IsReady, PrepareFor, keys_of, drops_of};
+ghost use Rattle.call_cell.specs.Preparations.{IsReady, PrepareFor, prepared_keys, drops_of};
 ghost use Rattle.relay_core.specs.Entries.{Cell};
-ghost use Rattle.relay_core.specs.Standing.{GoneHome};
+ghost use Rattle.relay_core.specs.PlaceHistories.{GoneHome};
 ghost use Rattle.relay_core.specs.Steps.{AreOpened};
-ghost use Rattle.board_turns.specs.Nesting.{gone_left, AddsRow};
-ghost use Rattle.board_turns.specs.Bringing.{brings};
+ghost use Rattle.board_turns.specs.NestedSteps.{gone_left, AddsRow};
+ghost use Rattle.board_turns.specs.OfferEvents.{brings};
 ghost use Rattle.board_turns.specs.InCells.{HasNewKeys, in_cell_of, CanPrepare, CanCommit, HasSpace, Prepares, Commits};
-ghost use Rattle.board_turns.specs.Leaving.{DroppedWent, RejectedWent};
+ghost use Rattle.board_turns.specs.Departures.{DroppedRemoved, RejectedRemoved};
 
 use crate::board_turn::MainHand;
 use crate::cells::cell_place;
@@ -35,18 +35,18 @@ pub fn prepare_cell<I: InEnd, O: OutEnd, R: Wait>(
 )
     requires may { CanNest main.old }
     requires cell { (1 ≤ cell) × (cell ≤ main.old.config.now.max_sessions) }
-    requires keys { HasNewKeys (list_in main.old) cell }
-    requires tells { PrepareFor signal (keys_of signal) (drops_of signal) }
-    requires comes { CanPrepare main.old.config.now (list_in main.old) cell signal call (keys_of signal) (drops_of signal) }
+    requires keys { HasNewKeys (hand_list main.old) cell }
+    requires tells { PrepareFor signal (prepared_keys signal) (drops_of signal) }
+    requires comes { CanPrepare main.old.config.now (hand_list main.old) cell signal call (prepared_keys signal) (drops_of signal) }
     requires ready { IsReady signal }
-    requires opened { AreOpened O.told main.old.config.now signal }
+    requires opened { AreOpened O.log main.old.config.now signal }
     requires empty { gone.old ≡ [] }
     ensures nests { Nests main.old main.new }
-    ensures gained { Makes (in_cell_of cell (brings call signal) ∷ []) main.old main.new }
-    ensures row { AddsRow cell (Cell (brings call signal)) (gone_left O.told gone.new) main.old.hand.now main.new.hand.now }
-    ensures prepared { Prepares I.told I.faults O.told O.faults main.old.config.now main.old.hand.now cell signal call (keys_of signal) (drops_of signal) main.old.entry_id.moment gone.new }
-    ensures went { DroppedWent main.old.config.now (list_in main.old) cell (drops_of signal) gone.new }
-    ensures home { GoneHome O.told main.old.config.now gone.new }
+    ensures gained { MakesNested (in_cell_of cell (brings call signal) ∷ []) main.old main.new }
+    ensures row { AddsRow cell (Cell (brings call signal)) (gone_left O.log gone.new) main.old.hand.now main.new.hand.now }
+    ensures prepared { Prepares I.log I.faults O.log O.faults main.old.config.now main.old.hand.now cell signal call (prepared_keys signal) (drops_of signal) main.old.entry_id.moment gone.new }
+    ensures went { DroppedRemoved main.old.config.now (hand_list main.old) cell (drops_of signal) gone.new }
+    ensures home { GoneHome O.log main.old.config.now gone.new }
 {
     let brought = Snapshot::of(&signal);
     let mut step = main
@@ -81,16 +81,16 @@ pub fn commit_cell<I: InEnd, O: OutEnd, R: Wait>(
 )
     requires may { CanNest main.old }
     requires cell { (1 ≤ cell) × (cell ≤ main.old.config.now.max_sessions) }
-    requires keys { HasNewKeys (list_in main.old) cell }
-    requires names { CanCommit (list_in main.old) cell signal.now }
-    requires room { HasSpace (list_in main.old) cell signal.now contexts }
+    requires keys { HasNewKeys (hand_list main.old) cell }
+    requires names { CanCommit (hand_list main.old) cell signal.now }
+    requires room { HasSpace (hand_list main.old) cell signal.now contexts }
     requires empty { gone.old ≡ [] }
     ensures nests { Nests main.old main.new }
-    ensures gained { Makes (in_cell_of cell (Commit signal.now) ∷ []) main.old main.new }
-    ensures row { AddsRow cell (Cell (Commit signal.now)) (gone_left O.told gone.new) main.old.hand.now main.new.hand.now }
-    ensures committed { Commits I.told I.faults O.told O.faults main.old.config.now main.old.hand.now cell signal.now main.old.entry_id.moment gone.new }
-    ensures went { RejectedWent main.old.config.now (list_in main.old) cell signal.now gone.new }
-    ensures home { GoneHome O.told main.old.config.now gone.new }
+    ensures gained { MakesNested (in_cell_of cell (Commit signal.now) ∷ []) main.old main.new }
+    ensures row { AddsRow cell (Cell (Commit signal.now)) (gone_left O.log gone.new) main.old.hand.now main.new.hand.now }
+    ensures committed { Commits I.log I.faults O.log O.faults main.old.config.now main.old.hand.now cell signal.now main.old.entry_id.moment gone.new }
+    ensures went { RejectedRemoved main.old.config.now (hand_list main.old) cell signal.now gone.new }
+    ensures home { GoneHome O.log main.old.config.now gone.new }
 {
     let mut step = main
         .turns

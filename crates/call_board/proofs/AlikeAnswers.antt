@@ -4,8 +4,8 @@ use Rattle.std.specs.List.{list_any}
 use Rattle.relay_outside.specs.declared.settings.Config.{Config}
 use Rattle.histories.specs.Words.{In, here, there, numbers}
 use Rattle.ng_bencode.specs.Tree.{Tree, Dict, Bytes, Items, entry, no_entries, items_of}
-use Rattle.ng_command.specs.Said as said
-use Rattle.ng_command.specs.Said.{Said}
+use Rattle.ng_command.specs.Meanings as said
+use Rattle.ng_command.specs.Meanings.{Said}
 use Rattle.ng_reply.specs.declared.code.ErrorCode.{ErrorCode}
 use Rattle.ng_reply.specs.declared.code.ErrorCode.TheVariants.{E10, E13, E14, E15, E16, E17}
 use Rattle.sdp_text.specs.declared.proto.Proto.{Proto}
@@ -23,14 +23,14 @@ use Rattle.offer_answer.proofs.AlikePlans.{tag_alike, side_alike, protocol_alike
 use Rattle.call_board.specs.Acts as act
 use Rattle.call_board.specs.Acts.{Call, Act, Given, Control, Lease, BoardEntry}
 use Rattle.call_board.specs.Calls.{live, find_call, new_call, rounds, rounds_of_call, first_moment, latest_moment}
-use Rattle.call_board.specs.Pairs.{free_in, fronts, is_short, lease_of, new_legs, new_keys, next_generation, drawn, family_eq, pair_family}
+use Rattle.call_board.specs.Pairs.{free_in, fronts, is_short, next_lease, leased_new_legs, drawn_keys_from, next_generation, drawn, family_eq, pair_family}
 use Rattle.call_board.specs.Replies.{Described, Reported, Listed, Done, Fault, reply_datagram, reply_text}
-use Rattle.call_board.specs.Dialects.{is_json, text_in}
-use Rattle.call_board.specs.Reports.{report_tree, whole, moment_value, counts, endpoint_value, leg_value, leg_at, tags_by, profile_text}
-use Rattle.call_board.specs.Asked.{asked}
-use Rattle.call_board.specs.Answers.{Answering, Answered, failing, telling, offer_ask, answer_ask, leased_pairs, undoing, offering, offer_leased, offer_planned, offer_unless, offer_to, answer_unless, answer_to, names_side, missing, delete_of, legs_told, query_of, answering_asked, spelled, answering_unless}
-use Rattle.call_board.specs.Kept.{kept}
-use Rattle.call_board.specs.Fits.{IsFitting, demanded, demanded_by, HearsAnswer, Hears, asks_after}
+use Rattle.call_board.specs.Dialects.{is_json, written_in}
+use Rattle.call_board.specs.Reports.{report_tree, whole, moment_value, counts_tree, endpoint_value, leg_value, leg_report_at, tags_by, profile_text}
+use Rattle.call_board.specs.Requests.{asked}
+use Rattle.call_board.specs.Answers.{Answering, Answered, failing, telling, offer_ask, answer_ask, leased_pairs, undoing, offering, offer_leased, offer_planned, offer_unless, offer_to, answer_unless, answer_to, names_side, nothing_to_end, delete_of, reported_legs, query_of, answering_asked, spelled, answering_unless}
+use Rattle.call_board.specs.KeptReplies.{kept_reply}
+use Rattle.call_board.specs.Fits.{IsFitting, demanded, demanded_by, ReadsAnswerOf, ReadsRequest, asks_after}
 use Rattle.call_board.proofs.Calls.{found_live}
 use Rattle.call_board.proofs.Bounds.{offer_sound}
 use Rattle.call_board.proofs.CallsAfter.{map_alike}
@@ -40,16 +40,16 @@ use Rattle.call_board.proofs.AlikeHistories.{AlikeHistories, found_alike, new_al
 -- Reports: they tell what the rounds come to.
 
 abbrev leg_told : LegReport → Option Proto → Tree
-leg_told told profile = Dict (
-    entry (codes "RTCP") (counts told.rtcp_accepted told.rtcp_sent) (
-    entry (codes "RTP") (counts told.rtp_accepted told.rtp_sent) (
-    entry (codes "endpoint") (endpoint_value told.endpoint) (
-    entry (codes "index") (whole (told.section + 1)) (
-    entry (codes "local port") (whole told.port) (
+leg_told report profile = Dict (
+    entry (codes "RTCP") (counts_tree report.rtcp_accepted report.rtcp_sent) (
+    entry (codes "RTP") (counts_tree report.rtp_accepted report.rtp_sent) (
+    entry (codes "endpoint") (endpoint_value report.endpoint) (
+    entry (codes "index") (whole (report.section + 1)) (
+    entry (codes "local port") (whole report.port) (
     entry (codes "protocol") (Bytes (profile_text profile)) no_entries))))))
 
 abbrev side_told : List LegReport → Side → (LegReport → Tree) → Tree
-side_told legs side value = Dict (entry (codes "medias") (Items (items_of (map value (filter_map (leg_at legs side) (numbers 0 8))))) no_entries)
+side_told legs side value = Dict (entry (codes "medias") (Items (items_of (map value (filter_map (leg_report_at legs side) (numbers 0 8))))) no_entries)
 
 abbrev report_told : ℕ → ℕ → List LegReport → Option (List ℕ) → Option (List ℕ) → (LegReport → Tree) → Tree
 report_told created last legs a b value = Dict (
@@ -65,15 +65,15 @@ unfolding report_tree
 report_alike config created last before others legs a =
     let of_a : plan.tag before A ≡ plan.tag others A = tag_alike config before others A a in
     let of_b : plan.tag before B ≡ plan.tag others B = tag_alike config before others B a in
-    let value : (told : LegReport) → leg_value before told ≡ leg_value others told =
-    (λ told. ap (leg_told told) (protocol_alike config before others told.section told.side a)) in
-    λ i. report_told created last legs (of_a i) (of_b i) (λ told. value told i)
+    let value : (report : LegReport) → leg_value before report ≡ leg_value others report =
+    (λ report. ap (leg_told report) (protocol_alike config before others report.section report.side a)) in
+    λ i. report_told created last legs (of_a i) (of_b i) (λ report. value report i)
 
 text_alike : (config : Config) (body : List ℕ) (created last : ℕ) (before others : List Round) (legs : List LegReport) → Alike config before others →
     reply_text config body (Reported (record { created = created; last_signal = last; rounds = before; legs = legs }))
     ≡ reply_text config body (Reported (record { created = created; last_signal = last; rounds = others; legs = legs }))
 unfolding reply_text
-text_alike config body created last before others legs a = ap (text_in (is_json body)) (report_alike config created last before others legs a)
+text_alike config body created last before others legs a = ap (written_in (is_json body)) (report_alike config created last before others legs a)
 
 -- Offers.
 
@@ -81,7 +81,7 @@ free_in_alike : (config : Config) (g h : List BoardEntry) → AlikeHistories con
 free_in_alike config g h s = λ i family. filter (λ p. family_eq (pair_family config p) family) (s.free_is i)
 
 legs_alike : (g h : List BoardEntry) (of : Call) (pairs : List ℕ) (legs : List NewLeg) → ((p : ℕ) → In p pairs → next_generation g p ≡ next_generation h p) →
-    new_legs g of pairs legs ≡ new_legs h of pairs legs
+    leased_new_legs g of pairs legs ≡ leased_new_legs h of pairs legs
 legs_alike g h of [] legs same = refl
 legs_alike g h of (p ∷ pairs) [] same = refl
 legs_alike g h of (p ∷ pairs) (leg ∷ legs) same =
@@ -98,7 +98,7 @@ module _ (config : Config) (g h : List BoardEntry) (s : AlikeHistories config g 
       undoing g code pairs draws ≡ undoing h code pairs draws
   undoing_alike code pairs draws same =
       ap (λ (leases : List Lease). record { reply = Fault code; act = act.Undone code leases draws })
-      (map_alike (lease_of g) (lease_of h) pairs (λ p i. ap (λ n. record { pair = p; generation = n }) (same p i)))
+      (map_alike (next_lease g) (next_lease h) pairs (λ p i. ap (λ n. record { pair = p; generation = n }) (same p i)))
 
   leased_alike : (given : Given) (ask : OfferAsk) (of : Call) (begins : Bool) (before others : List Round) (pairs : List ℕ) → Alike config before others →
       section_count ask.sdp ≤ most_sections → ((p : ℕ) → In p pairs → next_generation g p ≡ next_generation h p) →
@@ -116,23 +116,23 @@ module _ (config : Config) (g h : List BoardEntry) (s : AlikeHistories config g 
         of = of;
         begins = begins;
         ask = ask;
-        legs = new_legs x of pairs (plan.demand rs ask).pairs;
-        keys = new_keys (length (drawn x)) given.draws (plan.demand rs ask).keys;
+        legs = leased_new_legs x of pairs (plan.demand rs ask).pairs;
+        keys = drawn_keys_from (length (drawn x)) given.draws (plan.demand rs ask).keys;
         dropped = (plan.demand rs ask).dropped;
       }
 
       made_same : made g before ≡ made h others
       made_same =
           let demands : plan.demand before ask ≡ plan.demand others ask = demand_alike config before others ask a few in
-          let legs : new_legs g of pairs (plan.demand before ask).pairs ≡ new_legs h of pairs (plan.demand others ask).pairs =
-          ap (λ (d : Demand). new_legs g of pairs d.pairs) demands ∙ legs_alike g h of pairs (plan.demand others ask).pairs same in
+          let legs : leased_new_legs g of pairs (plan.demand before ask).pairs ≡ leased_new_legs h of pairs (plan.demand others ask).pairs =
+          ap (λ (d : Demand). leased_new_legs g of pairs d.pairs) demands ∙ legs_alike g h of pairs (plan.demand others ask).pairs same in
           let count : length (drawn g) ≡ length (drawn h) = s.drawn_is in
           λ i. record {
             of = of;
             begins = begins;
             ask = ask;
             legs = legs i;
-            keys = new_keys (count i) given.draws (demands i).keys;
+            keys = drawn_keys_from (count i) given.draws (demands i).keys;
             dropped = (demands i).dropped;
           }
 
@@ -187,7 +187,7 @@ module _ (config : Config) (g h : List BoardEntry) (s : AlikeHistories config g 
   delete_case : (id : List ℕ) (tag : Option (List ℕ)) (fatal : Bool) (found : Option Call) → find_call h id ≡ found → delete_of g tag fatal found ≡ delete_of h tag fatal found
   delete_case id tag fatal None is = refl
   delete_case id tag fatal (Some of) is =
-      ap (λ (b : Bool). if b then record { reply = Done; act = act.Deleted of } else missing fatal E10)
+      ap (λ (b : Bool). if b then record { reply = Done; act = act.Deleted of } else nothing_to_end fatal E10)
       (names_case (rounds g of.number) (rounds h of.number) tag (rounds_alike config g h id of s is))
 
   -- Queries.
@@ -200,8 +200,8 @@ module _ (config : Config) (g h : List BoardEntry) (s : AlikeHistories config g 
       let begun : first_moment g of.number ≡ first_moment h of.number = a.first_is in
       let latest : latest_moment g of.number ≡ latest_moment h of.number = a.last_is in
       ap (λ (text : List ℕ). record { bytes = cookie ++ 32 ∷ text; act = act.Queried of })
-      ((λ i. reply_text config body (Reported (record { created = begun i; last_signal = latest i; rounds = rounds g of.number; legs = legs_told given.report })))
-      ∙ text_alike config body (first_moment h of.number) (latest_moment h of.number) (rounds g of.number) (rounds h of.number) (legs_told given.report) a.rounds_are)
+      ((λ i. reply_text config body (Reported (record { created = begun i; last_signal = latest i; rounds = rounds g of.number; legs = reported_legs given.report })))
+      ∙ text_alike config body (first_moment h of.number) (latest_moment h of.number) (rounds g of.number) (rounds h of.number) (reported_legs given.report) a.rounds_are)
 
   -- Any command.
 
@@ -225,7 +225,7 @@ module _ (config : Config) (g h : List BoardEntry) (s : AlikeHistories config g 
   command_case old c (Ok (said.Listing limit)) is =
       ap (λ (calls : List Call). spelled config c.cookie c.body (telling (Listed (take limit (map (λ (call : Call). call.id) calls))))) s.live_is
 
-  unless_kept : (old : IsFitting config g) (c : Control) (kept : Option (List ℕ)) → answering_unless config g c kept ≡ answering_unless config h c kept
+  unless_kept : (old : IsFitting config g) (c : Control) (kept_reply : Option (List ℕ)) → answering_unless config g c kept_reply ≡ answering_unless config h c kept_reply
   unless_kept old c (Some bytes) = refl
   unless_kept old c None =
       ap (λ (x : Answered). if c.given.out_of_memory then record { bytes = reply_datagram config c.cookie c.body (Fault E17); act = act.OutOfMemory } else x)
@@ -233,8 +233,8 @@ module _ (config : Config) (g h : List BoardEntry) (s : AlikeHistories config g 
 
   -- a datagram gets the same reply, and does the same
   pub answers_alike : (old : IsFitting config g) (now : ℕ) (c : Control) →
-      answering_unless config g c (kept g c.source c.cookie now) ≡ answering_unless config h c (kept h c.source c.cookie now)
-  answers_alike old now c = ap (answering_unless config g c) (s.kept_is c.source c.cookie now) ∙ unless_kept old c (kept h c.source c.cookie now)
+      answering_unless config g c (kept_reply g c.source c.cookie now) ≡ answering_unless config h c (kept_reply h c.source c.cookie now)
+  answers_alike old now c = ap (answering_unless config g c) (s.kept_is c.source c.cookie now) ∙ unless_kept old c (kept_reply h c.source c.cookie now)
 
   -- What it demands.
 
@@ -261,17 +261,17 @@ module _ (config : Config) (g h : List BoardEntry) (s : AlikeHistories config g 
 
   -- The crypto lines that are chosen in it.
 
-  hears_case : (id : List ℕ) (ask : AnswerAsk) (found : Option Call) → find_call h id ≡ found → HearsAnswer g ask found → HearsAnswer h ask found
+  hears_case : (id : List ℕ) (ask : AnswerAsk) (found : Option Call) → find_call h id ≡ found → ReadsAnswerOf g ask found → ReadsAnswerOf h ask found
   hears_case id ask None is heard = tt
   hears_case id ask (Some of) is heard = heard_alike config (rounds g of.number) (rounds h of.number) ask (rounds_alike config g h id of s is) heard
 
-  pub hears_alike : (c : Control) (r : Result Said ErrorCode) → Hears g c r → Hears h c r
+  pub hears_alike : (c : Control) (r : Result Said ErrorCode) → ReadsRequest g c r → ReadsRequest h c r
   hears_alike c (Err code) heard = tt
   hears_alike c (Ok said.Ping) heard = tt
   hears_alike c (Ok (said.Offer id from_tag sdp options)) heard = heard
   hears_alike c (Ok (said.Answer id from_tag to_tag sdp options)) heard =
       hears_case id (answer_ask from_tag to_tag sdp options c.chosen) (find_call h id) refl
-      (subst (HearsAnswer g (answer_ask from_tag to_tag sdp options c.chosen)) (found_alike config g h id s) heard)
+      (subst (ReadsAnswerOf g (answer_ask from_tag to_tag sdp options c.chosen)) (found_alike config g h id s) heard)
   hears_alike c (Ok (said.Delete id from_tag fatal)) heard = tt
   hears_alike c (Ok (said.Query id)) heard = tt
   hears_alike c (Ok (said.Listing limit)) heard = tt

@@ -9,7 +9,7 @@ use Rattle.offer_answer.proofs.Alike.{Alike}
 use Rattle.call_board.specs.Acts.{Call, BoardEntry}
 use Rattle.call_board.specs.Calls.{begun, live, find_call, new_call, lowest_but, rounds}
 use Rattle.call_board.specs.Pairs.{free, next_generation, drawn}
-use Rattle.call_board.specs.Kept.{kept, keepings}
+use Rattle.call_board.specs.KeptReplies.{kept_reply, keepings}
 use Rattle.call_board.specs.Views.{call_view, view_of}
 use Rattle.call_board.proofs.Calls.{found_live}
 use Rattle.call_board.proofs.AlikeKeepings.{kept_alike}
@@ -22,7 +22,7 @@ pub record AlikeHistories (config : Config) (g h : List BoardEntry) : Type 0 whe
   pub free_is : free config g ≡ free config h
   pub leases_are : (pair : ℕ) → pair < pair_count config → next_generation g pair ≡ next_generation h pair
   pub calls_are : (of : Call) → In of (live g) → AlikeCalls config (call_view g of) (call_view h of)
-  pub kept_is : (source : Addr) (cookie : List ℕ) (now : ℕ) → kept g source cookie now ≡ kept h source cookie now
+  pub kept_is : (source : Addr) (cookie : List ℕ) (now : ℕ) → kept_reply g source cookie now ≡ kept_reply h source cookie now
 
 calls_same : (config : Config) (g h : List BoardEntry) (xs ys : List Call) → AllAlike config (map (call_view g) xs) (map (call_view h) ys) → xs ≡ ys
 calls_same config g h [] [] s = refl

@@ -4,10 +4,10 @@ use Rattle.std.proofs.Math.Nat.{mod-add-mod}
 use Rattle.std.proofs.lemmas.List.Elements.{All-nil, All-cons, All-head, All-tail}
 use Rattle.relay_outside.specs.declared.address.Addr.{Addr}
 use Rattle.cookie_cache.specs.declared.cache.CookieCache.{CookieCache}
-use Rattle.cookie_cache.specs.Keepings.{Keeping, kept, last_moment}
-use Rattle.cookie_cache.specs.Entries.{Entry, entries, entry_of, key_of, numbered, has_other_key}
+use Rattle.cookie_cache.specs.Keepings.{Keeping, kept, last_keeping_moment}
+use Rattle.cookie_cache.specs.Entries.{CacheEntry, cache_entries, keeping_entry, cache_key, numbered_keepings, has_other_key}
 use Rattle.cookie_cache.specs.Oldest.{without_gone}
-use Rattle.cookie_cache.specs.Caches.{IsSource, NeverGoesBack, StandsFor}
+use Rattle.cookie_cache.specs.Caches.{IsSource, NeverGoesBack, CacheStandsFor}
 use Rattle.cookie_cache.proofs.InOrder.{in_order, in_order-more, find-in_order, is_under}
 use Rattle.cookie_cache.proofs.Ages.{without_gone-in_order}
 use Rattle.cookie_cache.proofs.Kept.{kept_under, reply_at}
@@ -19,13 +19,13 @@ pub record AreKeepings (ks : List Keeping) : Type 0 where
   pub from_sources : All (λ k. IsSource k.source) ks
 
 pub record AlikeKeepings (ks others : List Keeping) : Type 0 where
-  pub entries_are : entries ks ≡ entries others
+  pub entries_are : cache_entries ks ≡ cache_entries others
   pub count_is : length ks % 2 ^ 64 ≡ length others % 2 ^ 64
-  pub moment_is : last_moment ks ≡ last_moment others
+  pub moment_is : last_keeping_moment ks ≡ last_keeping_moment others
   pub these : AreKeepings ks
   pub those : AreKeepings others
 
-pub keepings_of_one : (cache : CookieCache) (ks others : List Keeping) → StandsFor cache ks → StandsFor cache others → AlikeKeepings ks others
+pub keepings_of_one : (cache : CookieCache) (ks others : List Keeping) → CacheStandsFor cache ks → CacheStandsFor cache others → AlikeKeepings ks others
 keepings_of_one cache ks others a b = record {
   entries_are = sym a.entries_are ∙ b.entries_are;
   count_is = sym a.count_is ∙ b.count_is;
@@ -34,7 +34,7 @@ keepings_of_one cache ks others a b = record {
   those = record { in_time = b.in_time; from_sources = b.from_sources };
 }
 
-pub stands_for_others : (cache : CookieCache) (ks others : List Keeping) → AlikeKeepings ks others → StandsFor cache ks → StandsFor cache others
+pub stands_for_others : (cache : CookieCache) (ks others : List Keeping) → AlikeKeepings ks others → CacheStandsFor cache ks → CacheStandsFor cache others
 stands_for_others cache ks others s a = record {
   entries_are = a.entries_are ∙ s.entries_are;
   count_is = a.count_is ∙ s.count_is;
@@ -53,21 +53,21 @@ count_after ks others keeping other same = next ks keeping ∙ ap (λ n. (n + 1)
     next xs x = let one : suc (length xs) ≡ length xs + 1 = omega arith in ap (λ n. n % 2 ^ 64) one ∙ sym (mod-add-mod (length xs) (2 ^ 64) 1)
 
 entries_next : (ks : List Keeping) (keeping : Keeping) →
-    entries (keeping ∷ ks) ≡ without_gone (length (keeping ∷ ks) % 2 ^ 64) (in_order (entry_of keeping (length ks) ∷ take 4096 (numbered ks)))
-unfolding entries
+    cache_entries (keeping ∷ ks) ≡ without_gone (length (keeping ∷ ks) % 2 ^ 64) (in_order (keeping_entry keeping (length ks) ∷ take 4096 (numbered_keepings ks)))
+unfolding cache_entries
 entries_next ks keeping = sym (without_gone-in_order (keeping ∷ ks))
 
 -- the entry of one more, by the count of those before it
-abbrev entry_at : Keeping → ℕ → Entry
-entry_at keeping number = record { key = key_of keeping.source keeping.cookie; number = number; reply = keeping.reply; moment = keeping.moment }
+abbrev entry_at : Keeping → ℕ → CacheEntry
+entry_at keeping number = record { key = cache_key keeping.source keeping.cookie; number = number; reply = keeping.reply; moment = keeping.moment }
 
-entries_after : (ks others : List Keeping) (keeping : Keeping) → entries ks ≡ entries others → length ks % 2 ^ 64 ≡ length others % 2 ^ 64 →
-    in_order (entry_of keeping (length ks) ∷ take 4096 (numbered ks)) ≡ in_order (entry_of keeping (length others) ∷ take 4096 (numbered others))
-unfolding entries
+entries_after : (ks others : List Keeping) (keeping : Keeping) → cache_entries ks ≡ cache_entries others → length ks % 2 ^ 64 ≡ length others % 2 ^ 64 →
+    in_order (keeping_entry keeping (length ks) ∷ take 4096 (numbered_keepings ks)) ≡ in_order (keeping_entry keeping (length others) ∷ take 4096 (numbered_keepings others))
+unfolding cache_entries
 entries_after ks others keeping same count =
-    in_order-more (entry_of keeping (length ks)) (take 4096 (numbered ks))
+    in_order-more (keeping_entry keeping (length ks)) (take 4096 (numbered_keepings ks))
     ∙ (λ i. filter (has_other_key (entry_at keeping (count i))) (same i) ++ entry_at keeping (count i) ∷ [])
-    ∙ sym (in_order-more (entry_of keeping (length others)) (take 4096 (numbered others)))
+    ∙ sym (in_order-more (keeping_entry keeping (length others)) (take 4096 (numbered_keepings others)))
 
 pub keepings_go_on : (ks others : List Keeping) (keeping : Keeping) → AlikeKeepings ks others → AreKeepings (keeping ∷ ks) → AlikeKeepings (keeping ∷ ks) (keeping ∷ others)
 keepings_go_on ks others keeping s now = record {
@@ -86,16 +86,16 @@ keepings_go_on ks others keeping s now = record {
 
 -- What is kept.
 
-found_alike : (ks others : List Keeping) (key : List ℕ) → entries ks ≡ entries others → find (is_under key) (take 4096 (numbered ks)) ≡ find (is_under key) (take 4096 (numbered others))
-unfolding entries
+found_alike : (ks others : List Keeping) (key : List ℕ) → cache_entries ks ≡ cache_entries others → find (is_under key) (take 4096 (numbered_keepings ks)) ≡ find (is_under key) (take 4096 (numbered_keepings others))
+unfolding cache_entries
 found_alike ks others key same =
-    sym (find-in_order key (take 4096 (numbered ks))) ∙ ap (find (is_under key)) same ∙ find-in_order key (take 4096 (numbered others))
+    sym (find-in_order key (take 4096 (numbered_keepings ks))) ∙ ap (find (is_under key)) same ∙ find-in_order key (take 4096 (numbered_keepings others))
 
 kept_of_source : (ks others : List Keeping) (source : Addr) (cookie : List ℕ) (at : ℕ) → AlikeKeepings ks others → IsSource source → kept ks source cookie at ≡ kept others source cookie at
 unfolding kept
 kept_of_source ks others source cookie at s from =
     kept_under source cookie at from 4096 ks s.these.in_time s.these.from_sources
-    ∙ ap (reply_at at) (found_alike ks others (key_of source cookie) s.entries_are)
+    ∙ ap (reply_at at) (found_alike ks others (cache_key source cookie) s.entries_are)
     ∙ sym (kept_under source cookie at from 4096 others s.those.in_time s.those.from_sources)
 
 all_taken : (P : Keeping → Type 0) (n : ℕ) (ks : List Keeping) → All P ks → All P (take n ks)

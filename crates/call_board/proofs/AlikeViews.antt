@@ -16,9 +16,9 @@ use Rattle.call_board.specs.declared.board.Board.{Board}
 use Rattle.call_board.specs.Acts as act
 use Rattle.call_board.specs.Acts.{Call, Lease, Offer, Answer, Act, Control, BoardEvent, Turn, Tick, Stop, BoardEntry}
 use Rattle.call_board.specs.Pairs.{closed_of}
-use Rattle.call_board.specs.Views.{CallView, View, at_moment, with_leases, with_returned, without, goes_on, with_round, is_numbered}
-use Rattle.call_board.specs.Boards.{CallFor, CallsFor, Shows}
-use Rattle.call_board.specs.Whole.{with_draws, with_reply, with_closed, with_more, with_first, with_ended, after}
+use Rattle.call_board.specs.Views.{CallView, View, view_at_moment, with_leases, with_returned, without, goes_on, with_round, is_call_numbered}
+use Rattle.call_board.specs.Boards.{CallFor, CallsFor, BoardMatches}
+use Rattle.call_board.specs.Whole.{with_draws, with_reply, with_closed, with_more, with_first, with_ended, view_after}
 use Rattle.call_board.specs.Futures.{closed_pairs}
 use Rattle.call_board.proofs.CallsAfter.{cleared}
 use Rattle.call_board.proofs.Entries.{ended_view, ended_are}
@@ -69,7 +69,7 @@ calls_of_one config (call ∷ calls) [] ds a b = elim a [ ]
 calls_of_one config (call ∷ calls) (c ∷ cs) [] a b = elim b [ ]
 calls_of_one config (call ∷ calls) (c ∷ cs) (d ∷ ds) a b = (call_of_one config call c d a.0 b.0, calls_of_one config calls cs ds a.1 b.1)
 
-pub views_of_one : (config : Config) (board : Board) (v w : View) → Shows config board v → Shows config board w → AlikeViews config v w
+pub views_of_one : (config : Config) (board : Board) (v w : View) → BoardMatches config board v → BoardMatches config board w → AlikeViews config v w
 views_of_one config board v w a b = record {
   moment_is = sym a.moment_is ∙ b.moment_is;
   begun_is = sym a.begun_is ∙ b.begun_is;
@@ -109,7 +109,7 @@ cells_alike config (c ∷ cs) (d ∷ ds) s =
     let more = cells_alike config cs ds s.1 in
     λ i. (here i).cell ∷ more i
 
-pub shows_alike : (config : Config) (board : Board) (v w : View) → AlikeViews config v w → Shows config board v → Shows config board w
+pub shows_alike : (config : Config) (board : Board) (v w : View) → AlikeViews config v w → BoardMatches config board v → BoardMatches config board w
 shows_alike config board v w s a = record {
   config_is = a.config_is;
   moment_is = a.moment_is ∙ s.moment_is;
@@ -131,7 +131,7 @@ shows_alike config board v w s a = record {
 
 -- Steps that several acts have.
 
-moment_alike : (config : Config) (v w : View) (now : ℕ) → AlikeViews config v w → AlikeViews config (at_moment v now) (at_moment w now)
+moment_alike : (config : Config) (v w : View) (now : ℕ) → AlikeViews config v w → AlikeViews config (view_at_moment v now) (view_at_moment w now)
 moment_alike config v w now s = record {
   moment_is = ap (max now) s.moment_is;
   begun_is = s.begun_is;
@@ -192,7 +192,7 @@ reply_alike config v w now c s are = record {
       (keepings_go_on v.keepings w.keepings (kept (moment_used v.keepings now)) s.keepings_are are);
 }
 
-pub are_keepings : (config : Config) (board : Board) (v : View) → Shows config board v → AreKeepings v.keepings
+pub are_keepings : (config : Config) (board : Board) (v : View) → BoardMatches config board v → AreKeepings v.keepings
 are_keepings config board v s = record { in_time = s.replies_for.in_time; from_sources = s.replies_for.from_sources }
 
 -- Calls that go on, begin and end.
@@ -222,7 +222,7 @@ went_alike config number made now calls (c ∷ cs) [] s shown = elim s [ ]
 went_alike config number made now calls (c ∷ cs) (d ∷ ds) s shown =
     subst (λ (b : Bool). AllAlike config (goes_on number made now (c ∷ cs)) (cond b (with_round made now d ∷ ds) (d ∷ goes_on number made now ds)))
     (ap (λ (of : Call). of.number == number) s.0.of_is)
-    (goes_case config number made now calls c d cs ds s.0 s.1 (λ more shown. went_alike config number made now more cs ds s.1 shown) (is_numbered number c) shown)
+    (goes_case config number made now calls c d cs ds s.0 s.1 (λ more shown. went_alike config number made now more cs ds s.1 shown) (is_call_numbered number c) shown)
 
 more_alike : (config : Config) (of : Call) (made : Round) (now : ℕ) (calls : List LiveCall) (v w : View) → AlikeViews config v w → CallsFor config calls (goes_on of.number made now v.calls) →
     AlikeViews config (with_more of made now v) (with_more of made now w)
@@ -269,7 +269,7 @@ without_alike config number (c ∷ cs) [] s = elim s [ ]
 without_alike config number (c ∷ cs) (d ∷ ds) s =
     subst (λ (b : Bool). AllAlike config (without number (c ∷ cs)) (cond b ds (d ∷ without number ds)))
     (ap (λ (of : Call). of.number == number) s.0.of_is)
-    (without_case config c d cs ds (without number cs) (without number ds) s.0 s.1 (without_alike config number cs ds s.1) (is_numbered number c))
+    (without_case config c d cs ds (without number cs) (without number ds) s.0 s.1 (without_alike config number cs ds s.1) (is_call_numbered number c))
 
 cleared_alike : (config : Config) (gone : List Call) (cs ds : List CallView) → AllAlike config cs ds → AllAlike config (cleared gone cs) (cleared gone ds)
 cleared_alike config [] cs ds s = s
@@ -309,32 +309,32 @@ module _ (config : Config) (board : Board) (g h : List BoardEntry) (now : ℕ) (
   taken_alike o true x y t shown = first_alike config o.of (round.Offered o.ask o.legs o.keys) now board.calls.list x y t shown
   taken_alike o false x y t shown = more_alike config o.of (round.Offered o.ask o.legs o.keys) now board.calls.list x y t shown
 
-  turned_alike : (a : Act) → closed_pairs g (turn now c a) ≡ closed_pairs h (turn now c a) → Shows config board (after g (turn now c a) v) →
-      AlikeViews config (after g (turn now c a) v) (after h (turn now c a) w)
+  turned_alike : (a : Act) → closed_pairs g (turn now c a) ≡ closed_pairs h (turn now c a) → BoardMatches config board (view_after g (turn now c a) v) →
+      AlikeViews config (view_after g (turn now c a) v) (view_after h (turn now c a) w)
   turned_alike act.Repeated same shown = moment_alike config v w now s
   turned_alike act.OutOfMemory same shown = moment_alike config v w now s
   turned_alike (act.Failed code) same shown =
-      reply_alike config (at_moment v now) (at_moment w now) now c (moment_alike config v w now s) (are_keepings config board (with_reply now c (at_moment v now)) shown)
+      reply_alike config (view_at_moment v now) (view_at_moment w now) now c (moment_alike config v w now s) (are_keepings config board (with_reply now c (view_at_moment v now)) shown)
   turned_alike (act.Queried of) same shown =
-      reply_alike config (at_moment v now) (at_moment w now) now c (moment_alike config v w now s) (are_keepings config board (with_reply now c (at_moment v now)) shown)
+      reply_alike config (view_at_moment v now) (view_at_moment w now) now c (moment_alike config v w now s) (are_keepings config board (with_reply now c (view_at_moment v now)) shown)
   turned_alike act.Told same shown =
-      reply_alike config (at_moment v now) (at_moment w now) now c (moment_alike config v w now s) (are_keepings config board (with_reply now c (at_moment v now)) shown)
+      reply_alike config (view_at_moment v now) (view_at_moment w now) now c (moment_alike config v w now s) (are_keepings config board (with_reply now c (view_at_moment v now)) shown)
   turned_alike (act.Undone code leases draws) same shown =
       let pairs : List ℕ = map (λ (lease : Lease). lease.pair) leases in
-      let leased = λ (x : View). with_draws (with_leases (at_moment x now) (length leases)) (length draws) in
+      let leased = λ (x : View). with_draws (with_leases (view_at_moment x now) (length leases)) (length draws) in
       let drawn : AlikeViews config (leased v) (leased w) =
-      draws_alike config (with_leases (at_moment v now) (length leases)) (with_leases (at_moment w now) (length leases)) (length draws)
-      (leases_alike config (at_moment v now) (at_moment w now) (length leases) (moment_alike config v w now s)) in
+      draws_alike config (with_leases (view_at_moment v now) (length leases)) (with_leases (view_at_moment w now) (length leases)) (length draws)
+      (leases_alike config (view_at_moment v now) (view_at_moment w now) (length leases) (moment_alike config v w now s)) in
       reply_alike config (with_returned (leased v) pairs) (with_returned (leased w) pairs) now c (returned_alike config (leased v) (leased w) pairs pairs refl drawn)
       (are_keepings config board (with_reply now c (with_returned (leased v) pairs)) shown)
   turned_alike (act.Offered o) same shown =
       let e = turn now c (act.Offered o) in
       let made : Round = round.Offered o.ask o.legs o.keys in
-      let leased = λ (x : View). with_draws (with_leases (at_moment x now) (length o.legs)) (length o.keys) in
+      let leased = λ (x : View). with_draws (with_leases (view_at_moment x now) (length o.legs)) (length o.keys) in
       let taken = λ (x : View). cond o.begins (with_first o.of made now (leased x)) (with_more o.of made now (leased x)) in
       let drawn : AlikeViews config (leased v) (leased w) =
-      draws_alike config (with_leases (at_moment v now) (length o.legs)) (with_leases (at_moment w now) (length o.legs)) (length o.keys)
-      (leases_alike config (at_moment v now) (at_moment w now) (length o.legs) (moment_alike config v w now s)) in
+      draws_alike config (with_leases (view_at_moment v now) (length o.legs)) (with_leases (view_at_moment w now) (length o.legs)) (length o.keys)
+      (leases_alike config (view_at_moment v now) (view_at_moment w now) (length o.legs) (moment_alike config v w now s)) in
       reply_alike config (with_closed g e o.of (taken v)) (with_closed h e o.of (taken w)) now c
       (returned_alike config (taken v) (taken w) (map (λ (leg : Holder). leg.pair) (closed_of g e o.of)) (map (λ (leg : Holder). leg.pair) (closed_of h e o.of)) (closed_one g h e o.of same)
       (taken_alike o o.begins (leased v) (leased w) drawn shown.calls_for))
@@ -342,27 +342,27 @@ module _ (config : Config) (board : Board) (g h : List BoardEntry) (now : ℕ) (
   turned_alike (act.Answered a) same shown =
       let e = turn now c (act.Answered a) in
       let made : Round = round.Answered a.ask in
-      let taken = λ (x : View). with_more a.of made now (at_moment x now) in
+      let taken = λ (x : View). with_more a.of made now (view_at_moment x now) in
       reply_alike config (with_closed g e a.of (taken v)) (with_closed h e a.of (taken w)) now c
       (returned_alike config (taken v) (taken w) (map (λ (leg : Holder). leg.pair) (closed_of g e a.of)) (map (λ (leg : Holder). leg.pair) (closed_of h e a.of)) (closed_one g h e a.of same)
-      (more_alike config a.of made now board.calls.list (at_moment v now) (at_moment w now) (moment_alike config v w now s) shown.calls_for))
+      (more_alike config a.of made now board.calls.list (view_at_moment v now) (view_at_moment w now) (moment_alike config v w now s) shown.calls_for))
       (are_keepings config board (with_reply now c (with_closed g e a.of (taken v))) shown)
   turned_alike (act.Deleted of) same shown =
       let e = turn now c (act.Deleted of) in
-      reply_alike config (with_ended g e (of ∷ []) (at_moment v now)) (with_ended h e (of ∷ []) (at_moment w now)) now c
-      (ended_alike config g h e (of ∷ []) (at_moment v now) (at_moment w now) same (moment_alike config v w now s))
-      (are_keepings config board (with_reply now c (with_ended g e (of ∷ []) (at_moment v now))) shown)
+      reply_alike config (with_ended g e (of ∷ []) (view_at_moment v now)) (with_ended h e (of ∷ []) (view_at_moment w now)) now c
+      (ended_alike config g h e (of ∷ []) (view_at_moment v now) (view_at_moment w now) same (moment_alike config v w now s))
+      (are_keepings config board (with_reply now c (with_ended g e (of ∷ []) (view_at_moment v now))) shown)
 
 happened_alike : (config : Config) (board : Board) (g h : List BoardEntry) (now : ℕ) (event : BoardEvent) (v w : View) → AlikeViews config v w →
     closed_pairs g (record { moment = now; event = event }) ≡ closed_pairs h (record { moment = now; event = event }) →
-    Shows config board (after g (record { moment = now; event = event }) v) →
-    AlikeViews config (after g (record { moment = now; event = event }) v) (after h (record { moment = now; event = event }) w)
+    BoardMatches config board (view_after g (record { moment = now; event = event }) v) →
+    AlikeViews config (view_after g (record { moment = now; event = event }) v) (view_after h (record { moment = now; event = event }) w)
 happened_alike config board g h now (Turn c) v w s same shown = turned_alike config board g h now c v w s c.act same shown
 happened_alike config board g h now (Tick calls) v w s same shown =
-    ended_alike config g h (record { moment = now; event = Tick calls }) calls (at_moment v now) (at_moment w now) same (moment_alike config v w now s)
+    ended_alike config g h (record { moment = now; event = Tick calls }) calls (view_at_moment v now) (view_at_moment w now) same (moment_alike config v w now s)
 happened_alike config board g h now (Stop calls) v w s same shown = ended_alike config g h (record { moment = now; event = Stop calls }) calls v w same s
 
 -- views of which a board keeps the same stay so by an entry that gives back the same pairs
 pub after_alike : (config : Config) (board : Board) (g h : List BoardEntry) (e : BoardEntry) (v w : View) → AlikeViews config v w → closed_pairs g e ≡ closed_pairs h e →
-    Shows config board (after g e v) → AlikeViews config (after g e v) (after h e w)
+    BoardMatches config board (view_after g e v) → AlikeViews config (view_after g e v) (view_after h e w)
 after_alike config board g h e v w s same shown = happened_alike config board g h e.moment e.event v w s same shown

@@ -10,15 +10,15 @@ use Rattle.port_pool.specs.declared.holder.Holder.{Holder}
 use Rattle.port_pool.specs.Signals.{NewKey}
 use Rattle.offer_answer.specs.Rounds.{Round, Offered, Answered, OfferAsk, AnswerAsk}
 use Rattle.offer_answer.specs.Sides.{is_begun}
-use Rattle.offer_answer.specs.Filled.{AreLeased}
+use Rattle.offer_answer.specs.PortsAndKeys.{AreDemandedLegs}
 use Rattle.offer_answer.specs.Plans.{OfferFilled, AnswerNext}
 use Rattle.offer_answer.specs.Dialogs.{DialogFor, Awaits}
 use Rattle.offer_answer.specs.declared.dialog.Dialog.{Dialog}
 use Rattle.offer_answer.specs.declared.plan.Plan.{Plan}
 use Rattle.call_board.specs.declared.live_call.LiveCall.{LiveCall}
-use Rattle.call_board.specs.Views.{CallView, is_numbered, with_round, goes_on}
+use Rattle.call_board.specs.Views.{CallView, is_call_numbered, with_round, goes_on}
 use Rattle.call_board.specs.Boards.{CallFor, CallsFor, CellsFor}
-use Rattle.call_board.specs.Applied.{IsPlanOf, BeginsBy}
+use Rattle.call_board.specs.NextBoards.{IsPlanOf, BeginsBy}
 use Rattle.call_board.specs.declared.board_plan.NewCall.{NewCall}
 
 abbrev pub AwaitsRound : Dialog → Round → Type 0
@@ -32,7 +32,7 @@ begun_awaits config dialog rounds (Answered ask) d e = _
 -- a dialog that takes the plan in stands for the rounds with this one
 pub applied : (config : Config) (old new : Dialog) (plan : Plan) (rounds : List Round) (round : Round) →
     ((config : Config) (rounds : List Round) (ask : OfferAsk) (ports : List ℕ) (keys : List NewKey) (legs : List Holder) → DialogFor config old rounds → Awaits old ask.from_tag →
-    OfferFilled config rounds ask ports keys plan.next → AreLeased config rounds ask ports legs → DialogFor config new (Offered ask legs keys ∷ rounds)) →
+    OfferFilled config rounds ask ports keys plan.next → AreDemandedLegs config rounds ask ports legs → DialogFor config new (Offered ask legs keys ∷ rounds)) →
     ((config : Config) (rounds : List Round) (ask : AnswerAsk) → DialogFor config old rounds → AnswerNext config rounds ask plan.next → DialogFor config new (Answered ask ∷ rounds)) →
     DialogFor config old rounds → AwaitsRound old round → IsPlanOf config rounds round plan → DialogFor config new (round ∷ rounds)
 applied config old new plan rounds (Offered ask legs keys) o a d w p = o config rounds ask p.0 keys legs d w p.1 p.2
@@ -40,25 +40,25 @@ applied config old new plan rounds (Answered ask) o a d w p = a config rounds as
 
 went_on_at : (config : Config) (number : ℕ) (round : Round) (now : ℕ) (calls : List LiveCall) (cs : List CallView) (i : ℕ) (d new : LiveCall) → CallsFor config calls cs → i < length calls →
     ((get_or calls i d).number == number) ≡ true → ((k : ℕ) → k < i → ((get_or calls k d).number == number) ≡ false) →
-    ((c : CallView) → first (filter (is_numbered number) cs) ≡ Some c → CallFor config new (with_round round now c)) → CallsFor config (set calls i new) (goes_on number round now cs)
+    ((c : CallView) → first (filter (is_call_numbered number) cs) ≡ Some c → CallFor config new (with_round round now c)) → CallsFor config (set calls i new) (goes_on number round now cs)
 went_on_at config number round now [] cs i d new s below is_so is_not step = absurd (omega (arith, below))
 went_on_at config number round now (call ∷ calls) [] i d new s below is_so is_not step = elim s [ ]
 went_on_at config number round now (call ∷ calls) (c ∷ cs) zero d new s below is_so is_not step =
-    let is : is_numbered number c ≡ true = ap (λ n. n == number) (sym s.0.number_is) ∙ is_so in
+    let is : is_call_numbered number c ≡ true = ap (λ n. n == number) (sym s.0.number_is) ∙ is_so in
     subst (λ (b : Bool). CallsFor config (new ∷ calls) (cond b (with_round round now c ∷ cs) (c ∷ goes_on number round now cs))) (sym is)
-    (step c (ap (λ (b : Bool). first (cond b (c ∷ filter (is_numbered number) cs) (filter (is_numbered number) cs))) is), s.1)
+    (step c (ap (λ (b : Bool). first (cond b (c ∷ filter (is_call_numbered number) cs) (filter (is_call_numbered number) cs))) is), s.1)
 went_on_at config number round now (call ∷ calls) (c ∷ cs) (suc i) d new s below is_so is_not step =
-    let is : is_numbered number c ≡ false = ap (λ n. n == number) (sym s.0.number_is) ∙ is_not zero (omega arith) in
+    let is : is_call_numbered number c ≡ false = ap (λ n. n == number) (sym s.0.number_is) ∙ is_not zero (omega arith) in
     subst (λ (b : Bool). CallsFor config (call ∷ set calls i new) (cond b (with_round round now c ∷ cs) (c ∷ goes_on number round now cs))) (sym is) (
       s.0,
       went_on_at config number round now calls cs i d new s.1 (omega (arith, below)) is_so (λ k lt. is_not (suc k) (omega (arith, lt)))
-          (λ e f. step e (ap (λ (b : Bool). first (cond b (c ∷ filter (is_numbered number) cs) (filter (is_numbered number) cs))) is ∙ f)),
+          (λ e f. step e (ap (λ (b : Bool). first (cond b (c ∷ filter (is_call_numbered number) cs) (filter (is_call_numbered number) cs))) is ∙ f)),
     )
 
 -- the other calls are kept as before
 pub went_on : (config : Config) (number : ℕ) (round : Round) (now : ℕ) (calls : List LiveCall) (cs : List CallView) (i : ℕ) (d new : LiveCall) → CallsFor config calls cs →
     position (λ (call : LiveCall). call.number == number) calls ≡ Some i →
-    ((c : CallView) → first (filter (is_numbered number) cs) ≡ Some c → CallFor config new (with_round round now c)) → CallsFor config (set calls i new) (goes_on number round now cs)
+    ((c : CallView) → first (filter (is_call_numbered number) cs) ≡ Some c → CallFor config new (with_round round now c)) → CallsFor config (set calls i new) (goes_on number round now cs)
 went_on config number round now calls cs i d new s e step =
     let f = position-Some (λ (call : LiveCall). call.number == number) calls i d e in went_on_at config number round now calls cs i d new s f.0 f.1 f.2 step
 
@@ -67,7 +67,7 @@ cells cs = map (λ (c : CallView). c.of.cell) cs
 
 same_cells : (number : ℕ) (round : Round) (now : ℕ) (cs : List CallView) → cells (goes_on number round now cs) ≡ cells cs
 same_cells number round now [] = refl
-same_cells number round now (c ∷ cs) = go (is_numbered number c) (same_cells number round now cs)
+same_cells number round now (c ∷ cs) = go (is_call_numbered number c) (same_cells number round now cs)
   where
     go : (b : Bool) → cells (goes_on number round now cs) ≡ cells cs → cells (cond b (with_round round now c ∷ cs) (c ∷ goes_on number round now cs)) ≡ c.of.cell ∷ cells cs
     go true more = refl
@@ -107,11 +107,11 @@ pub cells_more : (config : Config) (taken : List Bool) (cs : List CallView) (c :
     CellsFor config (set taken (c.of.cell - 1) true) (cs ++ c ∷ [])
 cells_more config taken cs c s low high = record {
   count_is = length-set taken (c.of.cell - 1) true ∙ s.count_is;
-  taken_are = λ k d below. at k d (omega (arith, below, length-set taken (c.of.cell - 1) true)) (c.of.cell == 1 + k) refl ∙ sym (told k);
+  taken_are = λ k d below. at k d (omega (arith, below, length-set taken (c.of.cell - 1) true)) (c.of.cell == 1 + k) refl ∙ sym (log k);
 }
   where
-    told : (k : ℕ) → has (cells (cs ++ c ∷ [])) (1 + k) ≡ cond (c.of.cell == 1 + k) true (has (cells cs) (1 + k))
-    told k = ap (λ (ns : List ℕ). has ns (1 + k)) (map_push (λ (d : CallView). d.of.cell) cs c) ∙ has-push (cells cs) c.of.cell (1 + k)
+    log : (k : ℕ) → has (cells (cs ++ c ∷ [])) (1 + k) ≡ cond (c.of.cell == 1 + k) true (has (cells cs) (1 + k))
+    log k = ap (λ (ns : List ℕ). has ns (1 + k)) (map_push (λ (d : CallView). d.of.cell) cs c) ∙ has-push (cells cs) c.of.cell (1 + k)
 
     at : (k : ℕ) (d : Bool) → k < length taken → (b : Bool) → (c.of.cell == 1 + k) ≡ b → get_or (set taken (c.of.cell - 1) true) k d ≡ cond (c.of.cell == 1 + k) true (has (cells cs) (1 + k))
     at k d below true is =

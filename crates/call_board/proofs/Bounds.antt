@@ -7,12 +7,12 @@ use Rattle.std.proofs.lemmas.List.Sums.{sum_by-append}
 use Rattle.std.proofs.lemmas.Bool.Decides.{nat_tests}
 use Rattle.relay_outside.specs.declared.settings.Config.{Config}
 use Rattle.sdp_text.specs.Lines.{lines_of}
-use Rattle.sdp_text.specs.Reading.{fault_in, v6_line_in}
+use Rattle.sdp_text.specs.Descriptions.{fault_in, v6_line_in}
 use Rattle.sdp_text.specs.declared.fault.SdpFault.{SdpFault}
 use Rattle.ng_bencode.specs.Tree.{Entries}
 use Rattle.ng_command.specs.declared.command.Options.{Options}
-use Rattle.ng_command.specs.Said as said
-use Rattle.ng_command.specs.Said.{Said}
+use Rattle.ng_command.specs.Meanings as said
+use Rattle.ng_command.specs.Meanings.{Said}
 use Rattle.ng_reply.specs.declared.code.ErrorCode.{ErrorCode}
 use Rattle.sdes_lines.specs.declared.crypto_line.Suite.{Suite}
 use Rattle.sdes_lines.specs.declared.crypto_line.Suite.TheVariants.{Tag80, Tag32}
@@ -26,20 +26,20 @@ use Rattle.port_pool.specs.Signals.{other_side}
 use Rattle.offer_answer.specs.Rounds.{Round, OfferAsk, Demand}
 use Rattle.offer_answer.specs.Sides.{offerer}
 use Rattle.offer_answer.specs.Sections.{section_in, section_count, all_sections, active_sections, is_active_in, has_pairs}
-use Rattle.offer_answer.specs.Profiles.{is_srtp, written}
-use Rattle.offer_answer.specs.Keys.{leg_key, key_in_force, place_of, section_keys, missing_keys, offerers_suites, others_suites, suite_of, chosen_in}
+use Rattle.offer_answer.specs.Profiles.{is_srtp, written_profile}
+use Rattle.offer_answer.specs.Keys.{leg_key, key_in_force, key_place_of, section_keys, missing_keys, offerers_suites, others_suites, suite_of, chosen_in}
 use Rattle.offer_answer.specs.Demands.{legs_for, new_active_sections}
 use Rattle.offer_answer.specs.Plan.{demand}
 use Rattle.offer_answer.proofs.Demanded.{few_sections}
 use Rattle.call_board.specs.Acts as act
 use Rattle.call_board.specs.Acts.{Act, Given, Control, BoardEvent, Turn, Tick, Stop, BoardEntry, act}
 use Rattle.call_board.specs.Calls.{begun, begun_by_act, find_call, rounds_of_call}
-use Rattle.call_board.specs.Pairs.{leased, leased_by_act, drawn, draws_of_act}
-use Rattle.call_board.specs.Asked.{asked, asked_by, unless, command_in, description_error, sdp_error, code_if, v6_error}
+use Rattle.call_board.specs.Pairs.{all_leased, leased_by_act, drawn, draws_of_act}
+use Rattle.call_board.specs.Requests.{asked, asked_by, unless, command_in, description_error, sdp_error, code_if, v6_error}
 use Rattle.call_board.specs.Answers.{offer_ask}
 use Rattle.call_board.specs.Fits.{FitsAt, IsFitting, GivesFor, GivesUndone, demanded, demanded_by}
 use Rattle.call_board.specs.Views.{View, times_leased}
-use Rattle.call_board.specs.Boards.{Shows}
+use Rattle.call_board.specs.Boards.{BoardMatches}
 use Rattle.call_board.specs.declared.board.Board.{Board}
 use Rattle.call_board.proofs.Once.{Once, filter_less}
 use Rattle.call_board.proofs.Sieves.{is_out}
@@ -72,7 +72,7 @@ few_leases config [] pair fits = omega arith
 few_leases config (e ∷ h) pair fits =
     let rest = few_leases config h pair fits.1 in
     let one = once_count pair (leased_by_act (act e)) (leases_once config h e fits.0) in
-    let sum = sum_by-append (λ (q : ℕ). cond (q == pair) 1 0) (leased_by_act (act e)) (leased h) in omega (arith, rest, one, sum)
+    let sum = sum_by-append (λ (q : ℕ). cond (q == pair) 1 0) (leased_by_act (act e)) (all_leased h) in omega (arith, rest, one, sum)
 
 -- Calls.
 
@@ -114,7 +114,7 @@ few_missing : (rounds : List Round) (section : ℕ) (side : Side) (suites : List
 few_missing rounds section side suites =
     let has_none = λ (suite : Suite). is_none (leg_key rounds section side suite) in
     let less = filter_less has_none suites in
-    let count = length-map (filter has_none suites) (place_of section side) in omega (arith, less, count)
+    let count = length-map (filter has_none suites) (key_place_of section side) in omega (arith, less, count)
 
 offerers_few : (b : Bool) (o : Option CryptoLine) → length (cond b (suite_of o) []) ≤ 1
 offerers_few true None = omega arith
@@ -128,7 +128,7 @@ others_few false one two = omega arith
 few_keys_of : (rounds : List Round) (ask : OfferAsk) (section : ℕ) → length (section_keys rounds ask section) ≤ 3
 few_keys_of rounds ask section =
     let one = offerers_few (is_srtp (section_in ask.sdp section).proto) (chosen_in ask.chosen section) in
-    let two = others_few (is_srtp (written rounds ask section) && is_none (key_in_force rounds section (other_side (offerer rounds ask)))) Tag80 Tag32 in
+    let two = others_few (is_srtp (written_profile rounds ask section) && is_none (key_in_force rounds section (other_side (offerer rounds ask)))) Tag80 Tag32 in
     let first = few_missing rounds section (offerer rounds ask) (offerers_suites ask section) in
     let second = few_missing rounds section (other_side (offerer rounds ask)) (others_suites rounds ask section) in
     let sum = length-append (missing_keys rounds section (offerer rounds ask) (offerers_suites ask section))
@@ -237,13 +237,13 @@ low_or_high n m = go (nat_lt n m) refl
     go true is = inl (grind (arith, nat_tests))
     go false is = inr (grind (arith, nat_tests))
 
-generation_case : (config : Config) (board : Board) (v : View) (pair most : ℕ) → Shows config board v → v.leases pair ≤ most → (pair < pair_count config) ⊎ (pair_count config ≤ pair) → generation board.pool pair ≤ most
+generation_case : (config : Config) (board : Board) (v : View) (pair most : ℕ) → BoardMatches config board v → v.leases pair ≤ most → (pair < pair_count config) ⊎ (pair_count config ≤ pair) → generation board.pool pair ≤ most
 generation_case config board v pair most s few (inl below) = let is = s.pool_for.leases_are pair below in omega (arith, few, is)
 generation_case config board v pair most s few (inr past) =
     let none : generation board.pool pair ≡ 0 = get_or_past board.pool.generations pair 0 (let count = s.pool_for.count_is in omega (arith, past, count)) in omega (arith, none)
 
 -- no pair was leased so often that an offer's leases reach the end of their count
-pub may_lease : (config : Config) (h : List BoardEntry) (board : Board) (v : View) (count pair : ℕ) → IsFitting config h → Shows config board v → v.leases ≡ times_leased h → length h < 2 ^ 56 → count ≤ 16 →
+pub may_lease : (config : Config) (h : List BoardEntry) (board : Board) (v : View) (count pair : ℕ) → IsFitting config h → BoardMatches config board v → v.leases ≡ times_leased h → length h < 2 ^ 56 → count ≤ 16 →
     generation board.pool pair + count ≤ 2 ^ 63
 may_lease config h board v count pair fits s leases short few =
     let most = few_leases config h pair fits in
@@ -252,7 +252,7 @@ may_lease config h board v count pair fits s leases short few =
     omega (arith, bound, short, few)
 
 -- nor do the calls that began
-pub may_begin : (config : Config) (h : List BoardEntry) (board : Board) (v : View) → Shows config board v → v.begun ≡ length (begun h) → length h < 2 ^ 56 → board.begun < 2 ^ 63
+pub may_begin : (config : Config) (h : List BoardEntry) (board : Board) (v : View) → BoardMatches config board v → v.begun ≡ length (begun h) → length h < 2 ^ 56 → board.begun < 2 ^ 63
 may_begin config h board v s begun_is short =
     let most = few_begun h in
     let here = s.begun_is in omega (arith, most, here, begun_is, short)

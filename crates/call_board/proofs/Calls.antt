@@ -26,15 +26,15 @@ begins_case config h id o (begins is_new of_is none room) = a_call o.of id (ap (
 begins_case config h id o (goes_on is_old found is_live) = nothing (ap (λ b. cond b (o.of ∷ []) []) is_old)
 
 begins_by : (config : Config) (h : List BoardEntry) (e : BoardEntry) (a : Act) → Tells config h e a → Begins config h (begun_by_act a)
-begins_by config h e (act.Offered o) told = begins_case config h told.id o told.call_is
-begins_by config h e act.Repeated told = nothing refl
-begins_by config h e act.OutOfMemory told = nothing refl
-begins_by config h e (act.Failed code) told = nothing refl
-begins_by config h e (act.Undone code leases draws) told = nothing refl
-begins_by config h e (act.Answered a) told = nothing refl
-begins_by config h e (act.Deleted of) told = nothing refl
-begins_by config h e (act.Queried of) told = nothing refl
-begins_by config h e act.Told told = nothing refl
+begins_by config h e (act.Offered o) shown = begins_case config h shown.id o shown.call_is
+begins_by config h e act.Repeated shown = nothing refl
+begins_by config h e act.OutOfMemory shown = nothing refl
+begins_by config h e (act.Failed code) shown = nothing refl
+begins_by config h e (act.Undone code leases draws) shown = nothing refl
+begins_by config h e (act.Answered a) shown = nothing refl
+begins_by config h e (act.Deleted of) shown = nothing refl
+begins_by config h e (act.Queried of) shown = nothing refl
+begins_by config h e act.Told shown = nothing refl
 
 pub entry_begins : (config : Config) (h : List BoardEntry) (e : BoardEntry) → FitsBoard config h e → Begins config h (begun_by_act (act e))
 entry_begins config h e fits = begins_by config h e (act e) (tells config h e fits)
@@ -153,8 +153,8 @@ offered_case config h e o id old is not_ended (begins is_new of_is none room) =
 -- the call of an accepted offer is live after it
 pub offered_live : (config : Config) (h : List BoardEntry) (e : BoardEntry) (o : Offer) → IsFitting config h → FitsBoard config h e → act e ≡ act.Offered o → In o.of (live (e ∷ h))
 offered_live config h e o old fits is =
-    let told = offer_told config h e o fits is in
-    offered_case config h e o told.id old is (ap (λ xs. has (map number_of xs) o.of.number) (ended_by_turn e (act.Offered o) told.turn)) told.call_is
+    let shown = offer_told config h e o fits is in
+    offered_case config h e o shown.id old is (ap (λ xs. has (map number_of xs) o.of.number) (ended_by_turn e (act.Offered o) shown.turn)) shown.call_is
 
 here_case : (h : List BoardEntry) (e : BoardEntry) (c : Call) → In c (live h) → (b : Bool) → has (map number_of (ended_by e)) c.number ≡ b
     → In c (live (e ∷ h)) ⊎ In c.number (map number_of (ended_by e))

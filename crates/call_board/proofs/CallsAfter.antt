@@ -31,8 +31,8 @@ round_case config h e n (act.Offered o) old fits is same =
     let below = begun_below config (e ∷ h) o.of (fits, old) i in
     let number = equal_if o.of.number n same in omega (arith, below, number)
 round_case config h e n (act.Answered a) old fits is same =
-    let told = answer_told config h e a fits is in
-    let below = begun_below config h a.of old (live_begun h a.of told.is_live) in
+    let shown = answer_told config h e a fits is in
+    let below = begun_below config h a.of old (live_begun h a.of shown.is_live) in
     let number = equal_if a.of.number n same in
     let more = begun_more h e in omega (arith, below, number, more)
 round_case config h e n act.Repeated old fits is same = absurd (let q = same in cc)

@@ -11,7 +11,7 @@ use Rattle.port_pool.specs.declared.holder.Holder.{Holder}
 use Rattle.port_pool.specs.Signals.{NewKey}
 use Rattle.offer_answer.specs.Rounds.{NewLeg, KeyPlace}
 use Rattle.call_board.specs.Acts.{Call, Offer, BoardEntry}
-use Rattle.call_board.specs.Pairs.{family_eq, first_of, without_front, fronts, is_short, is_short_of, free_in, new_legs, new_keys}
+use Rattle.call_board.specs.Pairs.{family_eq, first_of, without_front, fronts, is_short, is_short_of, free_in, leased_new_legs, drawn_keys_from}
 use Rattle.call_board.proofs.Told.{IsOffer}
 
 abbrev as_one : Bool → ℕ
@@ -87,26 +87,26 @@ of_key key = record { section = key.section; side = key.side }
 abbrev pub of_new_key : KeyPlace → Place
 of_new_key place = record { section = place.section; side = place.side }
 
-legs_places : (h : List BoardEntry) (c : Call) (pairs : List ℕ) (legs : List NewLeg) → length pairs ≡ length legs → map of_leg (new_legs h c pairs legs) ≡ map of_new_leg legs
+legs_places : (h : List BoardEntry) (c : Call) (pairs : List ℕ) (legs : List NewLeg) → length pairs ≡ length legs → map of_leg (leased_new_legs h c pairs legs) ≡ map of_new_leg legs
 legs_places h c [] [] same = refl
 legs_places h c [] (leg ∷ legs) same = absurd (let e = same in omega (arith, e))
 legs_places h c (p ∷ pairs) [] same = absurd (let e = same in omega (arith, e))
 legs_places h c (p ∷ pairs) (leg ∷ legs) same = ap (λ rest. of_new_leg leg ∷ rest) (legs_places h c pairs legs (let e = same in omega (arith, e)))
 
-keys_places : (n : ℕ) (draws : List (List ℕ)) (places : List KeyPlace) → length draws ≡ length places → map of_key (new_keys n draws places) ≡ map of_new_key places
+keys_places : (n : ℕ) (draws : List (List ℕ)) (places : List KeyPlace) → length draws ≡ length places → map of_key (drawn_keys_from n draws places) ≡ map of_new_key places
 keys_places n [] [] same = refl
 keys_places n [] (place ∷ places) same = absurd (let e = same in omega (arith, e))
 keys_places n (bytes ∷ draws) [] same = absurd (let e = same in omega (arith, e))
 keys_places n (bytes ∷ draws) (place ∷ places) same = ap (λ rest. of_new_key place ∷ rest) (keys_places (n + 1) draws places (let e = same in omega (arith, e)))
 
 -- the new legs of an offer are those that its plan demands, in order
-pub legs_demanded : (config : Config) (h : List BoardEntry) (e : BoardEntry) (o : Offer) → (told : IsOffer config h e o) → map of_leg o.legs ≡ map of_new_leg told.demand.pairs
-legs_demanded config h e o told =
-    ap (map of_leg) told.legs_are
-    ∙ legs_places h o.of (fronts (free_in config h) told.demand.pairs) told.demand.pairs
-    (fronts_length (free_in config h) told.demand.pairs (enough_of (free_in config h) told.demand.pairs told.enough))
+pub legs_demanded : (config : Config) (h : List BoardEntry) (e : BoardEntry) (o : Offer) → (shown : IsOffer config h e o) → map of_leg o.legs ≡ map of_new_leg shown.demand.pairs
+legs_demanded config h e o shown =
+    ap (map of_leg) shown.legs_are
+    ∙ legs_places h o.of (fronts (free_in config h) shown.demand.pairs) shown.demand.pairs
+    (fronts_length (free_in config h) shown.demand.pairs (enough_of (free_in config h) shown.demand.pairs shown.enough))
 
-legs_length : (h : List BoardEntry) (c : Call) (pairs : List ℕ) (legs : List NewLeg) → length pairs ≡ length legs → length (new_legs h c pairs legs) ≡ length legs
+legs_length : (h : List BoardEntry) (c : Call) (pairs : List ℕ) (legs : List NewLeg) → length pairs ≡ length legs → length (leased_new_legs h c pairs legs) ≡ length legs
 legs_length h c [] [] same = refl
 legs_length h c [] (leg ∷ legs) same = absurd (let e = same in omega (arith, e))
 legs_length h c (p ∷ pairs) [] same = absurd (let e = same in omega (arith, e))
@@ -114,6 +114,6 @@ legs_length h c (p ∷ pairs) (leg ∷ legs) same = let rest = legs_length h c p
 
 -- where no family is short of pairs there is a leg with a pair for each new leg
 pub legs_count : (config : Config) (h : List BoardEntry) (c : Call) (legs : List NewLeg) → is_short (free_in config h) legs ≡ false
-    → length (new_legs h c (fronts (free_in config h) legs) legs) ≡ length legs
+    → length (leased_new_legs h c (fronts (free_in config h) legs) legs) ≡ length legs
 legs_count config h c legs enough =
     legs_length h c (fronts (free_in config h) legs) legs (fronts_length (free_in config h) legs (enough_of (free_in config h) legs enough))

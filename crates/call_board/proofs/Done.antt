@@ -4,8 +4,8 @@ use Rattle.std.specs.Prelude.{nat_lt}
 use Rattle.std.specs.List.{list_any}
 use Rattle.relay_outside.specs.declared.settings.Config.{Config}
 use Rattle.ng_frame.specs.Frame.{frame}
-use Rattle.ng_command.specs.Said as said
-use Rattle.ng_command.specs.Said.{Said}
+use Rattle.ng_command.specs.Meanings as said
+use Rattle.ng_command.specs.Meanings.{Said}
 use Rattle.ng_reply.specs.declared.code.ErrorCode.{ErrorCode}
 use Rattle.ng_reply.specs.declared.code.ErrorCode.TheVariants.{E9, E10, E13, E14, E15, E16, E17}
 use Rattle.sdes_lines.specs.declared.crypto_line.CryptoLine.{CryptoLine}
@@ -15,15 +15,15 @@ use Rattle.offer_answer.specs.Plan as plan
 use Rattle.call_board.specs.Acts as act
 use Rattle.call_board.specs.Acts.{Act, Call, Control, BoardEntry}
 use Rattle.call_board.specs.Calls.{live, find_call, rounds, first_moment, latest_moment}
-use Rattle.call_board.specs.Pairs.{free, lease_of}
-use Rattle.call_board.specs.Kept.{kept}
-use Rattle.call_board.specs.Asked.{Reads, asked}
+use Rattle.call_board.specs.Pairs.{free, next_lease}
+use Rattle.call_board.specs.KeptReplies.{kept_reply}
+use Rattle.call_board.specs.Requests.{ReadsBody, asked}
 use Rattle.call_board.specs.Replies.{Reply, Pong, Done, Warned, Described, Reported, Listed, Fault, reply_datagram}
 use Rattle.call_board.specs.Reports.{Report}
-use Rattle.call_board.specs.Answers.{Answering, Answered, failing, telling, offering, leased_pairs, offer_ask, answer_ask, offer_leased, offer_to, answer_to, delete_of, missing, names_side, legs_told, query_of, answering, answering_asked, answering_unless, spelled}
-use Rattle.call_board.specs.Fits.{FitsControl, GivesFor, Hears, asks_after, demanded, demanded_by, is_read, is_heard}
+use Rattle.call_board.specs.Answers.{Answering, Answered, failing, telling, offering, leased_pairs, offer_ask, answer_ask, offer_leased, offer_to, answer_to, delete_of, nothing_to_end, names_side, reported_legs, query_of, answering, answering_asked, answering_unless, spelled}
+use Rattle.call_board.specs.Fits.{FitsControl, GivesFor, ReadsRequest, asks_after, demanded, demanded_by, is_read, is_request_read}
 use Rattle.call_board.specs.Views.{view_of}
-use Rattle.call_board.specs.Planned.{PlansOffer, target}
+use Rattle.call_board.specs.Plans.{PlansOffer, target}
 use Rattle.call_board.specs.declared.board_plan.BoardPlan.{BoardPlan}
 use Rattle.call_board.proofs.Dues.{IsAnswerDue, offer_leases}
 use Rattle.call_board.proofs.Fixed.{unless_out_of_memory}
@@ -34,7 +34,7 @@ use Rattle.call_board.proofs.Tells.{leased_case}
 
 -- this is the reply to the datagram and what it does at that moment; of the datagram its reply and its act are left out
 abbrev pub IsDue : Config → List BoardEntry → (now : ℕ) → Control → Answered → Type 0
-IsDue config h now c due = answering_unless config h c (kept h c.source c.cookie now) ≡ due
+IsDue config h now c due = answering_unless config h c (kept_reply h c.source c.cookie now) ≡ due
 
 -- an act, with the datagram of its reply
 abbrev pub with_reply : Config → Control → Reply → Act → Answered
@@ -42,7 +42,7 @@ with_reply config c reply does = record { bytes = reply_datagram config c.cookie
 
 -- nothing is kept for the datagram, memory doesn't run out, and this is what it asks
 pub record Asks (config : Config) (h : List BoardEntry) (now : ℕ) (c : Control) (r : Result Said ErrorCode) : Type 0 where
-  pub nothing_kept : kept h c.source c.cookie now ≡ None
+  pub nothing_kept : kept_reply h c.source c.cookie now ≡ None
   pub not_out_of_memory : c.given.out_of_memory ≡ false
   pub is_asked : asked config c.too_long c.pairs ≡ r
 
@@ -69,9 +69,9 @@ same_due config h c due None = ap (unless_out_of_memory config c.cookie c.body c
 
 -- what is due, is due whatever stands for the reply and the act
 pub due_as : (config : Config) (h : List BoardEntry) (now : ℕ) (c : Control) (due other : Answered) → IsDue config h now c due → IsDue config h now (answered_as c other) due
-due_as config h now c due other is = same_due config h c other (kept h c.source c.cookie now) ∙ is
+due_as config h now c due other is = same_due config h c other (kept_reply h c.source c.cookie now) ∙ is
 
-same_hears : (h : List BoardEntry) (c : Control) (due : Answered) (r : Result Said ErrorCode) → Hears h c r → Hears h (answered_as c due) r
+same_hears : (h : List BoardEntry) (c : Control) (due : Answered) (r : Result Said ErrorCode) → ReadsRequest h c r → ReadsRequest h (answered_as c due) r
 same_hears h c due (Err code) hears = tt
 same_hears h c due (Ok said.Ping) hears = tt
 same_hears h c due (Ok (said.Offer id from_tag sdp options)) hears = hears
@@ -92,8 +92,8 @@ same_demand h c due (Ok (said.Listing limit)) = refl
 -- the turn of a datagram with the answer that is due is one that the board's history demands
 pub due_fits : (config : Config) (h : List BoardEntry) (now : ℕ) (c : Control) (due : Answered) → IsDue config h now c due
     → frame (c.cookie ++ 32 ∷ c.body) ≡ Some (c.cookie, c.body) → c.too_long ≡ nat_lt 16384 (length (c.cookie ++ 32 ∷ c.body))
-    → (is_read (answered_as c due) ≡ true → Reads c.body c.pairs)
-    → (is_heard due.act ≡ true → Hears h c (asked config c.too_long c.pairs))
+    → (is_read (answered_as c due) ≡ true → ReadsBody c.body c.pairs)
+    → (is_request_read due.act ≡ true → ReadsRequest h c (asked config c.too_long c.pairs))
     → GivesFor (demanded config h c) c.given due.act
     → (due.act ≡ act.OutOfMemory → asks_after h (asked config c.too_long c.pairs) ≡ false → c.given.report ≡ None)
     → FitsControl config h now (answered_as c due)
@@ -109,11 +109,11 @@ due_fits config h now c due is framed length_is reads hears gives reports = reco
 
 -- Before a command is carried out.
 
-pub repeated_due : (config : Config) (h : List BoardEntry) (now : ℕ) (c : Control) (bytes : List ℕ) → kept h c.source c.cookie now ≡ Some bytes
+pub repeated_due : (config : Config) (h : List BoardEntry) (now : ℕ) (c : Control) (bytes : List ℕ) → kept_reply h c.source c.cookie now ≡ Some bytes
     → IsDue config h now c (record { bytes = bytes; act = act.Repeated })
 repeated_due config h now c bytes is = ap (answering_unless config h c) is
 
-pub out_of_memory_due : (config : Config) (h : List BoardEntry) (now : ℕ) (c : Control) → kept h c.source c.cookie now ≡ None → c.given.out_of_memory ≡ true
+pub out_of_memory_due : (config : Config) (h : List BoardEntry) (now : ℕ) (c : Control) → kept_reply h c.source c.cookie now ≡ None → c.given.out_of_memory ≡ true
     → IsDue config h now c (with_reply config c (Fault E17) act.OutOfMemory)
 out_of_memory_due config h now c none out_of_memory =
     ap (answering_unless config h c) none ∙ ap (λ b. unless_out_of_memory config c.cookie c.body b (answering config h c)) out_of_memory
@@ -144,16 +144,16 @@ query_unknown_due config h now c id asks none = query_due config h now c id (fai
 
 -- what is told of a call with these reports of its legs
 abbrev pub report_of_call : List BoardEntry → Call → List LegReport → Report
-report_of_call h of told = record { created = first_moment h of.number; last_signal = latest_moment h of.number; rounds = rounds h of.number; legs = told }
+report_of_call h of log = record { created = first_moment h of.number; last_signal = latest_moment h of.number; rounds = rounds h of.number; legs = log }
 
 -- the call was read
-pub queried_due : (config : Config) (h : List BoardEntry) (now : ℕ) (c : Control) (id : List ℕ) (of : Call) (told : List LegReport)
-    → Asks config h now c (Ok (said.Query id)) → find_call h id ≡ Some of → c.given.report ≡ Some told
-    → IsDue config h now c (with_reply config c (Reported (report_of_call h of told)) (act.Queried of))
-queried_due config h now c id of told asks found read =
-    query_due config h now c id (record { reply = Reported (report_of_call h of told); act = act.Queried of }) asks
+pub queried_due : (config : Config) (h : List BoardEntry) (now : ℕ) (c : Control) (id : List ℕ) (of : Call) (all_reports : List LegReport)
+    → Asks config h now c (Ok (said.Query id)) → find_call h id ≡ Some of → c.given.report ≡ Some all_reports
+    → IsDue config h now c (with_reply config c (Reported (report_of_call h of all_reports)) (act.Queried of))
+queried_due config h now c id of all_reports asks found read =
+    query_due config h now c id (record { reply = Reported (report_of_call h of all_reports); act = act.Queried of }) asks
     (ap (query_of h c.given) found
-    ∙ ap (λ (o : Option (List LegReport)). record { reply = Reported (report_of_call h of (legs_told o)); act = act.Queried of }) read)
+    ∙ ap (λ (o : Option (List LegReport)). record { reply = Reported (report_of_call h of (reported_legs o)); act = act.Queried of }) read)
 
 pub listed_due : (config : Config) (h : List BoardEntry) (now : ℕ) (c : Control) (limit : ℕ) → Asks config h now c (Ok (said.Listing limit))
     → IsDue config h now c (with_reply config c (Listed (take limit (map (λ (call : Call). call.id) (live h)))) act.Told)
@@ -169,30 +169,30 @@ delete_due config h now c id tag fatal due asks is = asked_due config h now c (O
 pub delete_unknown_due : (config : Config) (h : List BoardEntry) (now : ℕ) (c : Control) (id : List ℕ) (tag : Option (List ℕ)) (fatal : Bool)
     → Asks config h now c (Ok (said.Delete id tag fatal)) → find_call h id ≡ None → fatal ≡ true → IsDue config h now c (with_reply config c (Fault E9) (act.Failed E9))
 delete_unknown_due config h now c id tag fatal asks none is =
-    delete_due config h now c id tag fatal (failing E9) asks (ap (delete_of h tag fatal) none ∙ ap (λ b. missing b E9) is)
+    delete_due config h now c id tag fatal (failing E9) asks (ap (delete_of h tag fatal) none ∙ ap (λ b. nothing_to_end b E9) is)
 
 pub delete_unknown_warned : (config : Config) (h : List BoardEntry) (now : ℕ) (c : Control) (id : List ℕ) (tag : Option (List ℕ)) (fatal : Bool)
     → Asks config h now c (Ok (said.Delete id tag fatal)) → find_call h id ≡ None → fatal ≡ false → IsDue config h now c (with_reply config c (Warned E9) act.Told)
 delete_unknown_warned config h now c id tag fatal asks none is =
-    delete_due config h now c id tag fatal (telling (Warned E9)) asks (ap (delete_of h tag fatal) none ∙ ap (λ b. missing b E9) is)
+    delete_due config h now c id tag fatal (telling (Warned E9)) asks (ap (delete_of h tag fatal) none ∙ ap (λ b. nothing_to_end b E9) is)
 
 delete_found : (h : List BoardEntry) (tag : Option (List ℕ)) (fatal : Bool) (of : Call) (names : Bool) (found : Option Call) → found ≡ Some of → names_side (rounds h of.number) tag ≡ names
-    → delete_of h tag fatal found ≡ cond names (record { reply = Done; act = act.Deleted of }) (missing fatal E10)
+    → delete_of h tag fatal found ≡ cond names (record { reply = Done; act = act.Deleted of }) (nothing_to_end fatal E10)
 delete_found h tag fatal of names found is named =
-    ap (delete_of h tag fatal) is ∙ ap (λ b. cond b (record { reply = Done; act = act.Deleted of }) (missing fatal E10)) named
+    ap (delete_of h tag fatal) is ∙ ap (λ b. cond b (record { reply = Done; act = act.Deleted of }) (nothing_to_end fatal E10)) named
 
 -- the tag is of no side of the call
 pub delete_stranger_due : (config : Config) (h : List BoardEntry) (now : ℕ) (c : Control) (id : List ℕ) (tag : Option (List ℕ)) (fatal : Bool) (of : Call)
     → Asks config h now c (Ok (said.Delete id tag fatal)) → find_call h id ≡ Some of → names_side (rounds h of.number) tag ≡ false → fatal ≡ true
     → IsDue config h now c (with_reply config c (Fault E10) (act.Failed E10))
 delete_stranger_due config h now c id tag fatal of asks found names is =
-    delete_due config h now c id tag fatal (failing E10) asks (delete_found h tag fatal of false (find_call h id) found names ∙ ap (λ b. missing b E10) is)
+    delete_due config h now c id tag fatal (failing E10) asks (delete_found h tag fatal of false (find_call h id) found names ∙ ap (λ b. nothing_to_end b E10) is)
 
 pub delete_stranger_warned : (config : Config) (h : List BoardEntry) (now : ℕ) (c : Control) (id : List ℕ) (tag : Option (List ℕ)) (fatal : Bool) (of : Call)
     → Asks config h now c (Ok (said.Delete id tag fatal)) → find_call h id ≡ Some of → names_side (rounds h of.number) tag ≡ false → fatal ≡ false
     → IsDue config h now c (with_reply config c (Warned E10) act.Told)
 delete_stranger_warned config h now c id tag fatal of asks found names is =
-    delete_due config h now c id tag fatal (telling (Warned E10)) asks (delete_found h tag fatal of false (find_call h id) found names ∙ ap (λ b. missing b E10) is)
+    delete_due config h now c id tag fatal (telling (Warned E10)) asks (delete_found h tag fatal of false (find_call h id) found names ∙ ap (λ b. nothing_to_end b E10) is)
 
 -- the call ends
 pub deleted_due : (config : Config) (h : List BoardEntry) (now : ℕ) (c : Control) (id : List ℕ) (tag : Option (List ℕ)) (fatal : Bool) (of : Call)
@@ -267,7 +267,7 @@ leased_due config h now c id ask of begins before pairs failed drew asks heard l
 -- an open failed
 pub offer_ports_due : (config : Config) (h : List BoardEntry) (now : ℕ) (c : Control) (id : List ℕ) (ask : OfferAsk) (of : Call) (begins : Bool) (before : List Round) (pairs : List ℕ)
     → Asks config h now c (Ok (says_offer id ask)) → ask.chosen ≡ c.chosen → IsLeasing config h c id ask of begins before pairs
-    → list_any not c.given.opens ≡ true → IsDue config h now c (with_reply config c (Fault E15) (act.Undone E15 (map (lease_of h) pairs) []))
+    → list_any not c.given.opens ≡ true → IsDue config h now c (with_reply config c (Fault E15) (act.Undone E15 (map (next_lease h) pairs) []))
 offer_ports_due config h now c id ask of begins before pairs asks heard leased opened =
     leased_due config h now c id ask of begins before pairs true c.given.draw_failed asks heard leased opened refl
 
@@ -275,7 +275,7 @@ offer_ports_due config h now c id ask of begins before pairs asks heard leased o
 pub offer_keys_due : (config : Config) (h : List BoardEntry) (now : ℕ) (c : Control) (id : List ℕ) (ask : OfferAsk) (of : Call) (begins : Bool) (before : List Round) (pairs : List ℕ)
     → Asks config h now c (Ok (says_offer id ask)) → ask.chosen ≡ c.chosen → IsLeasing config h c id ask of begins before pairs
     → list_any not c.given.opens ≡ false → c.given.draw_failed ≡ true
-    → IsDue config h now c (with_reply config c (Fault E16) (act.Undone E16 (map (lease_of h) pairs) c.given.draws))
+    → IsDue config h now c (with_reply config c (Fault E16) (act.Undone E16 (map (next_lease h) pairs) c.given.draws))
 offer_keys_due config h now c id ask of begins before pairs asks heard leased opened drew =
     leased_due config h now c id ask of begins before pairs false true asks heard leased opened drew
 

@@ -6,7 +6,7 @@ use Rattle.port_pool.specs.Signals.{NewKey}
 use Rattle.offer_answer.specs.Rounds.{KeyPlace}
 use Rattle.call_board.specs.Acts as act
 use Rattle.call_board.specs.Acts.{Act, Control, BoardEvent, Turn, BoardEntry}
-use Rattle.call_board.specs.Pairs.{draws_of_act, new_keys}
+use Rattle.call_board.specs.Pairs.{draws_of_act, drawn_keys_from}
 use Rattle.call_board.specs.Fits.{FitsControl, GivesFor, demanded}
 use Rattle.call_board.proofs.Told.{IsTurn, IsOffer, IsUndone, IsFailure, of_ports, of_keys}
 use Rattle.call_board.proofs.Tells.{tells_of}
@@ -14,7 +14,7 @@ use Rattle.call_board.proofs.Tells.{tells_of}
 abbrev bytes_of : NewKey → List ℕ
 bytes_of k = k.bytes
 
-new_bytes : (n : ℕ) (draws : List (List ℕ)) (places : List KeyPlace) → length draws ≡ length places → map bytes_of (new_keys n draws places) ≡ draws
+new_bytes : (n : ℕ) (draws : List (List ℕ)) (places : List KeyPlace) → length draws ≡ length places → map bytes_of (drawn_keys_from n draws places) ≡ draws
 new_bytes n [] places same = refl
 new_bytes n (bytes ∷ draws) [] same = absurd (let e = same in omega (arith, e))
 new_bytes n (bytes ∷ draws) (place ∷ places) same = ap (λ rest. bytes ∷ rest) (new_bytes (n + 1) draws places (let e = same in omega (arith, e)))
@@ -31,12 +31,12 @@ failed_draws c d code draws same (of_keys is drawn failed) = drawn ∙ ap (λ (x
 
 draws_case : (config : Config) (h : List BoardEntry) (now : ℕ) (c : Control) (a : Act) → FitsControl config h now c → c.act ≡ a → draws_of_act a ≡ c.given.draws
 draws_case config h now c (act.Offered o) fits is =
-    let told : IsOffer config h (entry now c) o = tells_of config h (entry now c) (act.Offered o) fits is in
-    ap (map bytes_of) told.keys_are ∙ new_bytes _ told.draws told.demand.keys told.as_many ∙ told.drawn_are
-    ∙ ap (λ (x : Control). x.given.draws) (same_control now c (act.Offered o) told.turn)
+    let shown : IsOffer config h (entry now c) o = tells_of config h (entry now c) (act.Offered o) fits is in
+    ap (map bytes_of) shown.keys_are ∙ new_bytes _ shown.draws shown.demand.keys shown.as_many ∙ shown.drawn_are
+    ∙ ap (λ (x : Control). x.given.draws) (same_control now c (act.Offered o) shown.turn)
 draws_case config h now c (act.Undone code leases draws) fits is =
-    let told : IsUndone config h (entry now c) code leases draws = tells_of config h (entry now c) (act.Undone code leases draws) fits is in
-    failed_draws c told.turn.control code draws (same_control now c (act.Undone code leases draws) told.turn) told.failure
+    let shown : IsUndone config h (entry now c) code leases draws = tells_of config h (entry now c) (act.Undone code leases draws) fits is in
+    failed_draws c shown.turn.control code draws (same_control now c (act.Undone code leases draws) shown.turn) shown.failure
 draws_case config h now c act.Repeated fits is = sym ((subst (GivesFor (demanded config h c) c.given) is fits.gives).0.no_draws)
 draws_case config h now c act.OutOfMemory fits is = sym ((subst (GivesFor (demanded config h c) c.given) is fits.gives).no_draws)
 draws_case config h now c (act.Failed code) fits is = sym ((subst (GivesFor (demanded config h c) c.given) is fits.gives).0.no_draws)

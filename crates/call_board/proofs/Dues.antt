@@ -15,18 +15,18 @@ use Rattle.offer_answer.specs.Rounds.{Round, OfferAsk, AnswerAsk, NewLeg}
 use Rattle.offer_answer.specs.Demands.{legs_for, new_active_sections}
 use Rattle.offer_answer.specs.Plan as plan
 use Rattle.offer_answer.specs.Plan.{demand}
-use Rattle.offer_answer.specs.Answering.{AsksAnswer}
+use Rattle.offer_answer.specs.Answers.{AsksAnswer}
 use Rattle.call_board.specs.Acts as act
 use Rattle.call_board.specs.Acts.{Call, BoardEntry, Given}
 use Rattle.call_board.specs.Calls.{begun, live, find_call, new_call, rounds, lowest_but}
-use Rattle.call_board.specs.Pairs.{family_eq, free, free_in, is_short, is_short_of, new_legs}
+use Rattle.call_board.specs.Pairs.{family_eq, free, free_in, is_short, is_short_of, leased_new_legs}
 use Rattle.call_board.specs.Replies.{Described}
 use Rattle.call_board.specs.Answers.{Answering, failing, leased_pairs, offer_leased, offer_planned, offer_unless, offer_to, answer_unless, answer_to}
 use Rattle.call_board.specs.Views.{View, CallView, call_view, view_of, times_leased, is_of_id, call_of_id, with_calls, goes_on}
-use Rattle.call_board.specs.Boards.{lease_at, leases_of}
-use Rattle.call_board.specs.Planned.{Target, target, target_by, shortage, refusal, fault_or, code_of, BeginsFor, PlansOffer, PlansAnswer, AnswerPlanFor}
-use Rattle.call_board.specs.Applied.{IsNext, taken_in}
-use Rattle.call_board.specs.Whole.{legs_of, with_first, with_more}
+use Rattle.call_board.specs.Boards.{lease_at, front_leases}
+use Rattle.call_board.specs.Plans.{Target, target, target_by, shortage, refusal, fault_or, board_code, BeginsFor, PlansOffer, PlansAnswer, AnswerPlanFor}
+use Rattle.call_board.specs.NextBoards.{IsNext, taken_in}
+use Rattle.call_board.specs.Whole.{holders_of_new_legs, with_first, with_more}
 use Rattle.call_board.specs.declared.fault.BoardFault.{BoardFault}
 use Rattle.call_board.specs.declared.fault.BoardFault.TheVariants as faults
 use Rattle.call_board.specs.declared.board_plan.BoardPlan.{BoardPlan}
@@ -152,12 +152,12 @@ due_by config h given id ask t is =
     ∙ ap (λ (t : Target). offer_unless config h given ask t.of t.begins t.rounds (plan.offer_fault t.rounds ask)) (sym is)
     ∙ fault_case config h given ask t.of t.begins t.rounds (plan.offer_fault t.rounds ask)
 
-known : (fault : BoardFault) (code : ErrorCode) → code_of fault ≡ Some code → fault ≢ faults.OutOfMemory
-known fault code is e = let wrong : None ≡ Some code = ap code_of (sym e) ∙ is in cc
+known : (fault : BoardFault) (code : ErrorCode) → board_code fault ≡ Some code → fault ≢ faults.OutOfMemory
+known fault code is e = let wrong : None ≡ Some code = ap board_code (sym e) ∙ is in cc
 
 -- an offer that the board refuses fails by the code of its fault
 pub offer_fails : (config : Config) (h : List BoardEntry) (given : Given) (id : List ℕ) (ask : OfferAsk) (fault : BoardFault) (code : ErrorCode) →
-    PlansOffer config (view_of config h) id ask (Err fault) → code_of fault ≡ Some code → offer_to config h given id ask (find_call h id) ≡ failing code
+    PlansOffer config (view_of config h) id ask (Err fault) → board_code fault ≡ Some code → offer_to config h given id ask (find_call h id) ≡ failing code
 offer_fails config h given id ask fault code refused is =
     let t = target (view_of config h) id in
     due_by config h given id ask t refl
@@ -183,17 +183,17 @@ AsksOf h input lines ask None = Unit {0}
 AsksOf h input lines ask (Some of) = AsksAnswer input lines (rounds h of.number) ask
 
 answer_case : (config : Config) (h : List BoardEntry) (input : AnswerIn) (lines : List (List ℕ)) (ask : AnswerAsk) (fault : BoardFault) (code : ErrorCode) (o : Option Call) →
-    PlansAnswer config input lines (option_map (call_view h) o) (Err fault) → AsksOf h input lines ask o → code_of fault ≡ Some code → answer_to config h ask o ≡ failing code
+    PlansAnswer config input lines (option_map (call_view h) o) (Err fault) → AsksOf h input lines ask o → board_code fault ≡ Some code → answer_to config h ask o ≡ failing code
 answer_case config h input lines ask fault code None refused asks is =
     let unknown : fault ≡ faults.UnknownCall = (let e = refused in cc) in
-    let same : Some E9 ≡ Some code = ap code_of (sym unknown) ∙ is in
+    let same : Some E9 ≡ Some code = ap board_code (sym unknown) ∙ is in
     let which : E9 ≡ code = (let e = same in cc) in ap failing which
 answer_case config h input lines ask fault code (Some of) refused asks is =
     ap (answer_unless config ask of (rounds h of.number)) (refused ask asks (known fault code is) ∙ is)
 
 -- an answer that the board refuses fails by the code of its fault
 pub answer_fails : (config : Config) (h : List BoardEntry) (input : AnswerIn) (lines : List (List ℕ)) (id : List ℕ) (ask : AnswerAsk) (fault : BoardFault) (code : ErrorCode) →
-    PlansAnswer config input lines (call_of_id (view_of config h) id) (Err fault) → AsksOf h input lines ask (find_call h id) → code_of fault ≡ Some code →
+    PlansAnswer config input lines (call_of_id (view_of config h) id) (Err fault) → AsksOf h input lines ask (find_call h id) → board_code fault ≡ Some code →
     answer_to config h ask (find_call h id) ≡ failing code
 answer_fails config h input lines id ask fault code refused asks is =
     answer_case config h input lines ask fault code (find_call h id)
@@ -223,7 +223,7 @@ answer_due config h input lines id ask p planned asks =
 
 -- The legs of an offer, by its leases.
 
-legs_by : (config : Config) (h : List BoardEntry) (of : Call) (pairs : List ℕ) (legs : List NewLeg) → new_legs h of pairs legs ≡ legs_of of (map (lease_at config (times_leased h)) pairs) legs
+legs_by : (config : Config) (h : List BoardEntry) (of : Call) (pairs : List ℕ) (legs : List NewLeg) → leased_new_legs h of pairs legs ≡ holders_of_new_legs of (map (lease_at config (times_leased h)) pairs) legs
 legs_by config h of [] legs = refl
 legs_by config h of (p ∷ pairs) [] = refl
 legs_by config h of (p ∷ pairs) (leg ∷ legs) =
@@ -231,7 +231,7 @@ legs_by config h of (p ∷ pairs) (leg ∷ legs) =
 
 -- the new legs are made of the leases, leg by leg
 pub legs_leased_are : (config : Config) (h : List BoardEntry) (of : Call) (count : ℕ) (legs : List NewLeg) →
-    new_legs h of (take count (free config h)) legs ≡ legs_of of (leases_of config (view_of config h) count) legs
+    leased_new_legs h of (take count (free config h)) legs ≡ holders_of_new_legs of (front_leases config (view_of config h) count) legs
 legs_leased_are config h of count legs = legs_by config h of (take count (free config h)) legs
 
 -- Taking a plan in.

@@ -8,7 +8,7 @@ use Rattle.relay_outside.specs.declared.settings.Config.{Config}
 use Rattle.histories.specs.Words.{In, here, there, first, has}
 use Rattle.histories.proofs.Lists.{equal, equal_if, it_has, maps, filtered, first_is_in}
 use Rattle.call_board.specs.declared.live_call.LiveCall.{LiveCall}
-use Rattle.call_board.specs.Views.{CallView, is_numbered, without}
+use Rattle.call_board.specs.Views.{CallView, is_call_numbered, without}
 use Rattle.call_board.specs.Boards.{CallsFor, CellsFor, CellsApart}
 
 removed_at : (config : Config) (number : ℕ) (calls : List LiveCall) (cs : List CallView) (i : ℕ) (d : LiveCall) → CallsFor config calls cs → i < length calls →
@@ -33,8 +33,8 @@ cells cs = map (λ (c : CallView). c.of.cell) cs
 has_it_here : (c : CallView) (cs : List CallView) → In c cs → has (cells cs) c.of.cell ≡ true
 has_it_here c cs i = it_has c.of.cell (cells cs) (maps (λ (d : CallView). d.of.cell) cs i)
 
-has_cell : (number : ℕ) (cs : List CallView) (c : CallView) → first (filter (is_numbered number) cs) ≡ Some c → has (cells cs) c.of.cell ≡ true
-has_cell number cs c e = has_it_here c cs (filtered (is_numbered number) cs (first_is_in (filter (is_numbered number) cs) e)).0
+has_cell : (number : ℕ) (cs : List CallView) (c : CallView) → first (filter (is_call_numbered number) cs) ≡ Some c → has (cells cs) c.of.cell ≡ true
+has_cell number cs c e = has_it_here c cs (filtered (is_call_numbered number) cs (first_is_in (filter (is_call_numbered number) cs) e)).0
 
 each_positive : (cs : List CallView) (c : CallView) → CellsApart cs → In c cs → 1 ≤ c.of.cell
 each_positive [] c apart i = elim i [ ]
@@ -42,14 +42,14 @@ each_positive (x ∷ cs) c apart (here e) = subst (λ (d : CallView). 1 ≤ d.of
 each_positive (x ∷ cs) c apart (there i) = each_positive cs c apart.2 i
 
 -- the cell of a live call is a number from 1 on
-pub is_positive : (number : ℕ) (cs : List CallView) (c : CallView) → first (filter (is_numbered number) cs) ≡ Some c → CellsApart cs → 1 ≤ c.of.cell
-is_positive number cs c e apart = each_positive cs c apart (filtered (is_numbered number) cs (first_is_in (filter (is_numbered number) cs) e)).0
+pub is_positive : (number : ℕ) (cs : List CallView) (c : CallView) → first (filter (is_call_numbered number) cs) ≡ Some c → CellsApart cs → 1 ≤ c.of.cell
+is_positive number cs c e apart = each_positive cs c apart (filtered (is_call_numbered number) cs (first_is_in (filter (is_call_numbered number) cs) e)).0
 
 -- which cells are taken without the call
-without_cells : (number : ℕ) (cs : List CallView) (c : CallView) → first (filter (is_numbered number) cs) ≡ Some c → CellsApart cs → (n : ℕ) →
+without_cells : (number : ℕ) (cs : List CallView) (c : CallView) → first (filter (is_call_numbered number) cs) ≡ Some c → CellsApart cs → (n : ℕ) →
     has (cells (without number cs)) n ≡ cond (c.of.cell == n) false (has (cells cs) n)
 without_cells number [] c e apart n = absurd (let f = e in cc)
-without_cells number (x ∷ cs) c e apart n = go (is_numbered number x) refl (without_cells number cs c)
+without_cells number (x ∷ cs) c e apart n = go (is_call_numbered number x) refl (without_cells number cs c)
   where
     -- the call is the first one
     this : (same : Bool) → (x.of.cell == n) ≡ same → has (cells cs) n ≡ cond (x.of.cell == n) false (cond (x.of.cell == n) true (has (cells cs) n))
@@ -76,21 +76,21 @@ without_cells number (x ∷ cs) c e apart n = go (is_numbered number x) refl (wi
         ap (λ (b : Bool). cond b true (has (cells (without number cs)) n)) at ∙ more
         ∙ sym (ap (λ (b : Bool). cond (c.of.cell == n) false (cond b true (has (cells cs) n))) at)
 
-    go : (b : Bool) → is_numbered number x ≡ b →
-        (first (filter (is_numbered number) cs) ≡ Some c → CellsApart cs → (n : ℕ) → has (cells (without number cs)) n ≡ cond (c.of.cell == n) false (has (cells cs) n)) →
-        has (cells (cond (is_numbered number x) cs (x ∷ without number cs))) n ≡ cond (c.of.cell == n) false (has (cells (x ∷ cs)) n)
+    go : (b : Bool) → is_call_numbered number x ≡ b →
+        (first (filter (is_call_numbered number) cs) ≡ Some c → CellsApart cs → (n : ℕ) → has (cells (without number cs)) n ≡ cond (c.of.cell == n) false (has (cells cs) n)) →
+        has (cells (cond (is_call_numbered number x) cs (x ∷ without number cs))) n ≡ cond (c.of.cell == n) false (has (cells (x ∷ cs)) n)
     go true is more =
-        let f : Some x ≡ Some c = sym (ap (λ (b : Bool). first (cond b (x ∷ filter (is_numbered number) cs) (filter (is_numbered number) cs))) is) ∙ e in
+        let f : Some x ≡ Some c = sym (ap (λ (b : Bool). first (cond b (x ∷ filter (is_call_numbered number) cs) (filter (is_call_numbered number) cs))) is) ∙ e in
         let same : x ≡ c = (let g = f in cc) in
         ap (λ (b : Bool). has (cells (cond b cs (x ∷ without number cs))) n) is
         ∙ subst (λ (d : CallView). has (cells cs) n ≡ cond (d.of.cell == n) false (has (cells (x ∷ cs)) n)) same (this (x.of.cell == n) refl)
     go false is more =
-        let f : first (filter (is_numbered number) cs) ≡ Some c =
-        sym (ap (λ (b : Bool). first (cond b (x ∷ filter (is_numbered number) cs) (filter (is_numbered number) cs))) is) ∙ e in
+        let f : first (filter (is_call_numbered number) cs) ≡ Some c =
+        sym (ap (λ (b : Bool). first (cond b (x ∷ filter (is_call_numbered number) cs) (filter (is_call_numbered number) cs))) is) ∙ e in
         ap (λ (b : Bool). has (cells (cond b cs (x ∷ without number cs))) n) is
         ∙ later (x.of.cell == n) refl (has_cell number cs c f) (more f apart.2 n)
 
-pub cells_after : (config : Config) (number : ℕ) (taken : List Bool) (cs : List CallView) (c : CallView) → CellsFor config taken cs → first (filter (is_numbered number) cs) ≡ Some c →
+pub cells_after : (config : Config) (number : ℕ) (taken : List Bool) (cs : List CallView) (c : CallView) → CellsFor config taken cs → first (filter (is_call_numbered number) cs) ≡ Some c →
     CellsApart cs → CellsFor config (set taken (c.of.cell - 1) false) (without number cs)
 cells_after config number taken cs c s e apart = record {
   count_is = length-set taken (c.of.cell - 1) false ∙ s.count_is;

@@ -17,13 +17,13 @@ use Rattle.offer_answer.specs.Rounds.{Round}
 use Rattle.call_board.specs.Acts as act
 use Rattle.call_board.specs.Acts.{Call, Lease, Offer, Answer, Act, Control, BoardEvent, Turn, Tick, Stop, BoardEntry}
 use Rattle.call_board.specs.Calls.{begun, live, has_ended}
-use Rattle.call_board.specs.Pairs.{closed_of, leased, leased_by_act, free, drawn}
-use Rattle.call_board.specs.Kept.{is_kept, keeping_at, keepings}
+use Rattle.call_board.specs.Pairs.{closed_of, all_leased, leased_by_act, free, drawn}
+use Rattle.call_board.specs.KeptReplies.{is_kept, keeping_at, keepings}
 use Rattle.call_board.specs.Fits.{FitsBoard, FitsAt, IsFitting}
-use Rattle.call_board.specs.Views.{View, CallView, call_view, last_moment, times_leased, view_of, at_moment, one_drawn, with_leases, with_returned, without, goes_on, with_round}
-use Rattle.call_board.specs.Boards.{Shows, BoardFor}
+use Rattle.call_board.specs.Views.{View, CallView, call_view, board_last_moment, times_leased, view_of, view_at_moment, one_drawn, with_leases, with_returned, without, goes_on, with_round}
+use Rattle.call_board.specs.Boards.{BoardMatches, BoardFor}
 use Rattle.call_board.specs.declared.board.Board.{Board}
-use Rattle.call_board.specs.Whole.{with_draws, with_reply, with_closed, with_more, with_first, with_ended, after, IsMomentOf, IsTimely}
+use Rattle.call_board.specs.Whole.{with_draws, with_reply, with_closed, with_more, with_first, with_ended, view_after, IsMomentOf, IsTimely}
 use Rattle.call_board.proofs.Once.{Once}
 use Rattle.call_board.proofs.Sieves.{filter_whole}
 use Rattle.call_board.proofs.Told.{IsTurn, IsCallOf, begins, goes_on as again}
@@ -82,8 +82,8 @@ pub one_more_drawn : (v : View) (count : ℕ) → one_drawn (with_draws v count)
 one_more_drawn v count = let next : suc count ≡ count + 1 = omega arith in ap (with_draws v) next
 
 -- the board's moment, raised to the moment that was handed in
-pub raised : (v : View) (now moment : ℕ) → moment ≡ max now v.moment → at_moment v now ≡ at_moment v moment
-raised v now moment is = view_alike (at_moment v now) (at_moment v moment) (omega (arith, is)) refl refl refl refl refl refl
+pub raised : (v : View) (now moment : ℕ) → moment ≡ max now v.moment → view_at_moment v now ≡ view_at_moment v moment
+raised v now moment is = view_alike (view_at_moment v now) (view_at_moment v moment) (omega (arith, is)) refl refl refl refl refl refl
 
 -- what a board keeps when these calls ended
 abbrev pub ended_view : List BoardEntry → BoardEntry → List Call → View → View
@@ -119,23 +119,23 @@ ended_more h e (of ∷ calls) more v =
 
 -- The moment of what is kept.
 
-kept_turn : (moment : ℕ) (c : Control) (ks : List Keeping) (last : ℕ) → cache.last_moment ks ≤ last → (b : Bool) →
-    cache.last_moment (cons_option (cond b (Some (record { source = c.source; cookie = c.cookie; reply = c.reply; moment = moment })) None) ks) ≤ max moment last
+kept_turn : (moment : ℕ) (c : Control) (ks : List Keeping) (last : ℕ) → cache.last_keeping_moment ks ≤ last → (b : Bool) →
+    cache.last_keeping_moment (cons_option (cond b (Some (record { source = c.source; cookie = c.cookie; reply = c.reply; moment = moment })) None) ks) ≤ max moment last
 kept_turn moment c ks last rest true = omega arith
 kept_turn moment c ks last rest false = omega (arith, rest)
 
-kept_event : (moment : ℕ) (event : BoardEvent) (ks : List Keeping) (last : ℕ) → cache.last_moment ks ≤ last → cache.last_moment (cons_option (keeping_at moment event) ks) ≤ max moment last
+kept_event : (moment : ℕ) (event : BoardEvent) (ks : List Keeping) (last : ℕ) → cache.last_keeping_moment ks ≤ last → cache.last_keeping_moment (cons_option (keeping_at moment event) ks) ≤ max moment last
 kept_event moment (Turn c) ks last rest = kept_turn moment c ks last rest (is_kept c.act)
 kept_event moment (Tick calls) ks last rest = omega (arith, rest)
 kept_event moment (Stop calls) ks last rest = omega (arith, rest)
 
 -- no reply was kept later than the history's last moment
-pub kept_by : (h : List BoardEntry) → cache.last_moment (keepings h) ≤ last_moment h
+pub kept_by : (h : List BoardEntry) → cache.last_keeping_moment (keepings h) ≤ board_last_moment h
 kept_by [] = omega arith
-kept_by (e ∷ h) = kept_event e.moment e.event (keepings h) (last_moment h) (kept_by h)
+kept_by (e ∷ h) = kept_event e.moment e.event (keepings h) (board_last_moment h) (kept_by h)
 
 -- the moment of the reply that is kept now is the one that was handed in
-pub used_now : (h : List BoardEntry) (now : ℕ) → last_moment h ≤ now → moment_used (keepings h) now ≡ now
+pub used_now : (h : List BoardEntry) (now : ℕ) → board_last_moment h ≤ now → moment_used (keepings h) now ≡ now
 used_now h now late = let kept = kept_by h in omega (arith, late, kept)
 
 -- The acts.
@@ -150,14 +150,14 @@ its_turn now c a = record { control = record c { act = a }; is_turn = refl; acts
 abbrev keeping : Control → ℕ → Keeping
 keeping c moment = record { source = c.source; cookie = c.cookie; reply = c.reply; moment = moment }
 
-kept_now : (h : List BoardEntry) (now : ℕ) (c : Control) → last_moment h ≤ now → keeping c now ∷ keepings h ≡ keeping c (moment_used (keepings h) now) ∷ keepings h
+kept_now : (h : List BoardEntry) (now : ℕ) (c : Control) → board_last_moment h ≤ now → keeping c now ∷ keepings h ≡ keeping c (moment_used (keepings h) now) ∷ keepings h
 kept_now h now c late = ap (λ m. keeping c m ∷ keepings h) (sym (used_now h now late))
 
 -- an act that leaves calls, pairs and keys
 idle_turn : (config : Config) (h : List BoardEntry) (now : ℕ) (c : Control) (a : Act) (ks : List Keeping) → is_idle a ≡ true → keepings (turn now c a ∷ h) ≡ ks →
     view_of config (turn now c a ∷ h)
     ≡ record {
-      moment = max now (last_moment h);
+      moment = max now (board_last_moment h);
       begun = length (begun h);
       drawn = length (drawn h);
       calls = map (call_view h) (live h);
@@ -187,25 +187,25 @@ leases_after config h e count fits is = λ i pair. each pair i
   where
     each : (pair : ℕ) → times_leased (e ∷ h) pair ≡ (with_leases (view_of config h) count).leases pair
     each pair =
-        let sum = sum_by-append (λ (p : ℕ). cond (p == pair) 1 0) (leased_by_act (act.act e)) (leased h) in
+        let sum = sum_by-append (λ (p : ℕ). cond (p == pair) 1 0) (leased_by_act (act.act e)) (all_leased h) in
         let front : count_by (λ p. p == pair) (leased_by_act (act.act e)) ≡ count_by (λ p. p == pair) (take count (free config h)) =
         ap (count_by (λ p. p == pair)) (leases_front config h e fits ∙ ap (λ n. take n (free config h)) is) in
         omega (arith, sum, front)
 
 undone_turn : (config : Config) (h : List BoardEntry) (now : ℕ) (c : Control) (code : ErrorCode) (leases : List Lease) (draws : List (List ℕ)) → IsFitting config h →
-    FitsBoard config h (turn now c (act.Undone code leases draws)) → last_moment h ≤ now →
-    view_of config (turn now c (act.Undone code leases draws) ∷ h) ≡ after h (turn now c (act.Undone code leases draws)) (view_of config h)
+    FitsBoard config h (turn now c (act.Undone code leases draws)) → board_last_moment h ≤ now →
+    view_of config (turn now c (act.Undone code leases draws) ∷ h) ≡ view_after h (turn now c (act.Undone code leases draws)) (view_of config h)
 undone_turn config h now c code leases draws old fits late =
     let e = turn now c (act.Undone code leases draws) in
     let pairs = map (λ (lease : Lease). lease.pair) leases in
     let count : length pairs ≡ length leases = length-map leases (λ (lease : Lease). lease.pair) in
-    let leased = with_leases (at_moment (view_of config h) now) (length leases) in
+    let all_leased = with_leases (view_at_moment (view_of config h) now) (length leases) in
     let u = undone_changes config e h code leases draws (its_turn now c (act.Undone code leases draws)) (fits, old) in
-    view_alike (view_of config (e ∷ h)) (with_reply now c (with_returned (more_drawn leased (length draws)) pairs)) refl (ap length (append-nil (begun h)))
+    view_alike (view_of config (e ∷ h)) (with_reply now c (with_returned (more_drawn all_leased (length draws)) pairs)) refl (ap length (append-nil (begun h)))
     (length-append (drawn h) draws) (ap (map (call_view h)) u.same_live)
     (free_after config h e old fits ∙ ap (λ n. drop n (free config h) ++ pairs) count)
     (leases_after config h e (length leases) fits count) (kept_now h now c late)
-    ∙ ap (λ v. with_reply now c (with_returned v pairs)) (sym (draws_are leased (length draws)))
+    ∙ ap (λ v. with_reply now c (with_returned v pairs)) (sym (draws_are all_leased (length draws)))
 
 drop_none : (xs : List ℕ) → drop 0 xs ≡ xs
 drop_none [] = refl
@@ -236,11 +236,11 @@ answered_call h now c a d i =
     call_after h (turn now c (act.Answered a)) d (round.Answered a.ask) (d.number == a.of.number) (eq_swap a.of.number d.number)
     (ap (λ b. cond b (round.Answered a.ask ∷ []) []) (eq_swap a.of.number d.number)) (rounds_had h d (live_begun h d i)).1
 
-answered_turn : (config : Config) (h : List BoardEntry) (now : ℕ) (c : Control) (a : Answer) → IsFitting config h → FitsBoard config h (turn now c (act.Answered a)) → last_moment h ≤ now →
-    view_of config (turn now c (act.Answered a) ∷ h) ≡ after h (turn now c (act.Answered a)) (view_of config h)
+answered_turn : (config : Config) (h : List BoardEntry) (now : ℕ) (c : Control) (a : Answer) → IsFitting config h → FitsBoard config h (turn now c (act.Answered a)) → board_last_moment h ≤ now →
+    view_of config (turn now c (act.Answered a) ∷ h) ≡ view_after h (turn now c (act.Answered a)) (view_of config h)
 answered_turn config h now c a old fits late =
     let e = turn now c (act.Answered a) in
-    view_alike (view_of config (e ∷ h)) (after h e (view_of config h)) refl (ap length (append-nil (begun h))) (ap length (append-nil (drawn h)))
+    view_alike (view_of config (e ∷ h)) (view_after h e (view_of config h)) refl (ap length (append-nil (begun h))) (ap length (append-nil (drawn h)))
     (ap (map (call_view (e ∷ h))) (live_step h e ∙ live_same h) ∙ on_again h e a.of (round.Answered a.ask) (live h) (answered_call h now c a) (live_once config h old))
     (free_after config h e old fits
     ∙ ap (λ (ps : List ℕ). ps ++ (map pair_of (closed_of h e a.of ++ []) ++ [])) (drop_none (free config h))
@@ -309,8 +309,8 @@ offer_begins config h now c o old is_new number =
     }
 
 -- an offer, once it is said whether it began its call
-offer_with : (config : Config) (h : List BoardEntry) (now : ℕ) (c : Control) (o : Offer) (taken : View) → IsFitting config h → FitsBoard config h (turn now c (act.Offered o)) → last_moment h ≤ now →
-    OfferCalls h (turn now c (act.Offered o)) o taken.begun taken.calls → taken.moment ≡ max now (last_moment h) → taken.drawn ≡ length (drawn h) + length o.keys →
+offer_with : (config : Config) (h : List BoardEntry) (now : ℕ) (c : Control) (o : Offer) (taken : View) → IsFitting config h → FitsBoard config h (turn now c (act.Offered o)) → board_last_moment h ≤ now →
+    OfferCalls h (turn now c (act.Offered o)) o taken.begun taken.calls → taken.moment ≡ max now (board_last_moment h) → taken.drawn ≡ length (drawn h) + length o.keys →
     taken.free ≡ drop (length o.legs) (free config h) → taken.leases ≡ (with_leases (view_of config h) (length o.legs)).leases → taken.keepings ≡ keepings h →
     view_of config (turn now c (act.Offered o) ∷ h) ≡ with_reply now c (with_closed h (turn now c (act.Offered o)) o.of taken)
 offer_with config h now c o taken old fits late calls moment_is drawn_is free_is leases_are keepings_are =
@@ -329,12 +329,12 @@ offer_with config h now c o taken old fits late calls moment_is drawn_is free_is
 
 -- the board with the offer's leases and draws
 abbrev leased_for : Config → List BoardEntry → ℕ → Offer → View
-leased_for config h now o = more_drawn (with_leases (at_moment (view_of config h) now) (length o.legs)) (length o.keys)
+leased_for config h now o = more_drawn (with_leases (view_at_moment (view_of config h) now) (length o.legs)) (length o.keys)
 
 abbrev taken_by : Bool → Offer → ℕ → View → View
 taken_by new o now v = cond new (with_first o.of (made_by o) now v) (with_more o.of (made_by o) now v)
 
-offer_case : (config : Config) (h : List BoardEntry) (now : ℕ) (c : Control) (o : Offer) (id : List ℕ) → IsFitting config h → FitsBoard config h (turn now c (act.Offered o)) → last_moment h ≤ now →
+offer_case : (config : Config) (h : List BoardEntry) (now : ℕ) (c : Control) (o : Offer) (id : List ℕ) → IsFitting config h → FitsBoard config h (turn now c (act.Offered o)) → board_last_moment h ≤ now →
     IsCallOf config h id o →
     view_of config (turn now c (act.Offered o) ∷ h) ≡ with_reply now c (with_closed h (turn now c (act.Offered o)) o.of (taken_by o.begins o now (leased_for config h now o)))
 offer_case config h now c o id old fits late (begins is_new of_is none room) =
@@ -346,22 +346,22 @@ offer_case config h now c o id old fits late (again is_old found is_live) =
     (offer_goes_on config h now c o old is_old) refl refl refl refl refl
     ∙ ap (λ b. with_reply now c (with_closed h (turn now c (act.Offered o)) o.of (taken_by b o now (leased_for config h now o)))) (sym is_old)
 
-offered_turn : (config : Config) (h : List BoardEntry) (now : ℕ) (c : Control) (o : Offer) → IsFitting config h → FitsBoard config h (turn now c (act.Offered o)) → last_moment h ≤ now →
-    view_of config (turn now c (act.Offered o) ∷ h) ≡ after h (turn now c (act.Offered o)) (view_of config h)
+offered_turn : (config : Config) (h : List BoardEntry) (now : ℕ) (c : Control) (o : Offer) → IsFitting config h → FitsBoard config h (turn now c (act.Offered o)) → board_last_moment h ≤ now →
+    view_of config (turn now c (act.Offered o) ∷ h) ≡ view_after h (turn now c (act.Offered o)) (view_of config h)
 offered_turn config h now c o old fits late =
     let e = turn now c (act.Offered o) in
-    let told = offer_told config h e o fits refl in
-    offer_case config h now c o told.id old fits late told.call_is
+    let shown = offer_told config h e o fits refl in
+    offer_case config h now c o shown.id old fits late shown.call_is
     ∙ ap (λ v. with_reply now c (with_closed h e o.of (taken_by o.begins o now v)))
-    (sym (draws_are (with_leases (at_moment (view_of config h) now) (length o.legs)) (length o.keys)))
+    (sym (draws_are (with_leases (view_at_moment (view_of config h) now) (length o.legs)) (length o.keys)))
 
 -- Calls that end.
 
-deleted_turn : (config : Config) (h : List BoardEntry) (now : ℕ) (c : Control) (of : Call) → IsFitting config h → FitsBoard config h (turn now c (act.Deleted of)) → last_moment h ≤ now →
-    view_of config (turn now c (act.Deleted of) ∷ h) ≡ after h (turn now c (act.Deleted of)) (view_of config h)
+deleted_turn : (config : Config) (h : List BoardEntry) (now : ℕ) (c : Control) (of : Call) → IsFitting config h → FitsBoard config h (turn now c (act.Deleted of)) → board_last_moment h ≤ now →
+    view_of config (turn now c (act.Deleted of) ∷ h) ≡ view_after h (turn now c (act.Deleted of)) (view_of config h)
 deleted_turn config h now c of old fits late =
     let e = turn now c (act.Deleted of) in
-    view_alike (view_of config (e ∷ h)) (after h e (view_of config h)) refl (ap length (append-nil (begun h))) (ap length (append-nil (drawn h)))
+    view_alike (view_of config (e ∷ h)) (view_after h e (view_of config h)) refl (ap length (append-nil (begun h))) (ap length (append-nil (drawn h)))
     (ap (map (call_view h)) (live_step h e ∙ append-nil (still_live e h)) ∙ sym (cleared_map (call_view h) (of ∷ []) (live h) (sees h) (live_once config h old)))
     (free_after config h e old fits
     ∙ ap (λ (ps : List ℕ). ps ++ (map pair_of (closed_of h e of ++ []) ++ [])) (drop_none (free config h))
@@ -382,16 +382,16 @@ ended_free config h e calls =
     ∙ ap (λ (ps : List ℕ). free config h ++ ps) (append-nil (map pair_of (flat_map (closed_of h e) calls)))
 
 ticked : (config : Config) (h : List BoardEntry) (now : ℕ) (calls : List Call) → IsFitting config h → FitsBoard config h (ending now calls) →
-    view_of config (ending now calls ∷ h) ≡ after h (ending now calls) (view_of config h)
+    view_of config (ending now calls ∷ h) ≡ view_after h (ending now calls) (view_of config h)
 ticked config h now calls old fits =
     let e = ending now calls in
-    view_alike (view_of config (e ∷ h)) (ended_view h e calls (at_moment (view_of config h) now)) refl (ap length (append-nil (begun h))) (ap length (append-nil (drawn h)))
+    view_alike (view_of config (e ∷ h)) (ended_view h e calls (view_at_moment (view_of config h) now)) refl (ap length (append-nil (begun h))) (ap length (append-nil (drawn h)))
     (ap (map (call_view h)) (live_step h e ∙ append-nil (still_live e h)) ∙ sym (cleared_map (call_view h) calls (live h) (sees h) (live_once config h old)))
     (free_after config h e old fits ∙ ended_free config h e calls) refl refl
-    ∙ sym (ended_are h e calls (at_moment (view_of config h) now))
+    ∙ sym (ended_are h e calls (view_at_moment (view_of config h) now))
 
-stopped : (config : Config) (h : List BoardEntry) (now : ℕ) (calls : List Call) → IsFitting config h → FitsBoard config h (stopping now calls) → now ≡ last_moment h →
-    view_of config (stopping now calls ∷ h) ≡ after h (stopping now calls) (view_of config h)
+stopped : (config : Config) (h : List BoardEntry) (now : ℕ) (calls : List Call) → IsFitting config h → FitsBoard config h (stopping now calls) → now ≡ board_last_moment h →
+    view_of config (stopping now calls ∷ h) ≡ view_after h (stopping now calls) (view_of config h)
 stopped config h now calls old fits last =
     let e = stopping now calls in
     view_alike (view_of config (e ∷ h)) (ended_view h e calls (view_of config h)) (omega (arith, last)) (ap length (append-nil (begun h))) (ap length (append-nil (drawn h)))
@@ -401,8 +401,8 @@ stopped config h now calls old fits last =
 
 -- Any entry.
 
-turned : (config : Config) (h : List BoardEntry) (now : ℕ) (c : Control) (a : Act) → IsFitting config h → FitsBoard config h (turn now c a) → last_moment h ≤ now →
-    view_of config (turn now c a ∷ h) ≡ after h (turn now c a) (view_of config h)
+turned : (config : Config) (h : List BoardEntry) (now : ℕ) (c : Control) (a : Act) → IsFitting config h → FitsBoard config h (turn now c a) → board_last_moment h ≤ now →
+    view_of config (turn now c a ∷ h) ≡ view_after h (turn now c a) (view_of config h)
 turned config h now c act.Repeated old fits late = idle_turn config h now c act.Repeated (keepings h) refl refl
 turned config h now c act.OutOfMemory old fits late = idle_turn config h now c act.OutOfMemory (keepings h) refl refl
 turned config h now c (act.Failed code) old fits late = idle_turn config h now c (act.Failed code) (keeping c (moment_used (keepings h) now) ∷ keepings h) refl (kept_now h now c late)
@@ -414,15 +414,15 @@ turned config h now c (act.Answered a) old fits late = answered_turn config h no
 turned config h now c (act.Deleted of) old fits late = deleted_turn config h now c of old fits late
 
 happened : (config : Config) (h : List BoardEntry) (now : ℕ) (event : BoardEvent) → IsFitting config h → FitsAt config h now event → IsMomentOf h now event →
-    view_of config (record { moment = now; event = event } ∷ h) ≡ after h (record { moment = now; event = event }) (view_of config h)
+    view_of config (record { moment = now; event = event } ∷ h) ≡ view_after h (record { moment = now; event = event }) (view_of config h)
 happened config h now (Turn c) old fits timely = turned config h now c c.act old fits timely
 happened config h now (Tick calls) old fits timely = ticked config h now calls old fits
 happened config h now (Stop calls) old fits timely = stopped config h now calls old fits timely
 
 -- what the calls of an entry's turn make of what the board keeps is what there is to keep after it
-pub whole : (config : Config) (h : List BoardEntry) (e : BoardEntry) → IsFitting config h → FitsBoard config h e → IsTimely h e → view_of config (e ∷ h) ≡ after h e (view_of config h)
+pub whole : (config : Config) (h : List BoardEntry) (e : BoardEntry) → IsFitting config h → FitsBoard config h e → IsTimely h e → view_of config (e ∷ h) ≡ view_after h e (view_of config h)
 whole config h e old fits timely = happened config h e.moment e.event old fits timely
 
 -- a board that keeps what the entry makes stands for the history with it
-pub entry_stands : (config : Config) (board : Board) (h : List BoardEntry) (e : BoardEntry) → IsFitting config h → FitsBoard config h e → IsTimely h e → Shows config board (after h e (view_of config h)) → BoardFor config board (e ∷ h)
-entry_stands config board h e old fits timely s = subst (Shows config board) (sym (whole config h e old fits timely)) s
+pub entry_stands : (config : Config) (board : Board) (h : List BoardEntry) (e : BoardEntry) → IsFitting config h → FitsBoard config h e → IsTimely h e → BoardMatches config board (view_after h e (view_of config h)) → BoardFor config board (e ∷ h)
+entry_stands config board h e old fits timely s = subst (BoardMatches config board) (sym (whole config h e old fits timely)) s

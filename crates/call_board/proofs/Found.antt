@@ -11,8 +11,8 @@ use Rattle.call_board.specs.declared.live_call.LiveCall.{LiveCall}
 use Rattle.call_board.specs.Acts.{Call, BoardEntry}
 use Rattle.call_board.specs.Calls.{live, find_call, rounds}
 use Rattle.call_board.specs.Fits.{IsFitting}
-use Rattle.call_board.specs.Views.{View, CallView, call_view, view_of, is_of_id, is_numbered, call_of_id, call_numbered}
-use Rattle.call_board.specs.Boards.{Shows, IsLive, CellsApart}
+use Rattle.call_board.specs.Views.{View, CallView, call_view, view_of, is_of_id, is_call_numbered, call_of_id, call_numbered}
+use Rattle.call_board.specs.Boards.{BoardMatches, IsLive, CellsApart}
 use Rattle.call_board.specs.Whole.{with_ended}
 use Rattle.call_board.proofs.Once.{Once, once_equal, once_filtered}
 use Rattle.call_board.proofs.Sieves.{is_out}
@@ -61,9 +61,9 @@ number_case calls c once i (Some d) is =
 
 -- a call of a list in which each number stands once is found by its number
 pub found_in : (h : List BoardEntry) (calls : List Call) (c : Call) → Once (map (λ (d : Call). d.number) calls) → In c calls →
-    first (filter (is_numbered c.number) (map (call_view h) calls)) ≡ Some (call_view h c)
+    first (filter (is_call_numbered c.number) (map (call_view h) calls)) ≡ Some (call_view h c)
 found_in h calls c once i =
-    first_found (call_view h) (is_numbered c.number) calls
+    first_found (call_view h) (is_call_numbered c.number) calls
     ∙ ap (option_map (call_view h)) (number_case calls c once i (first (filter (λ (d : Call). d.number == c.number) calls)) refl)
 
 -- a live call is found by its number
@@ -76,15 +76,15 @@ live_is_begun h c i = (rounds_had h c (live_begun h c i)).0
 
 -- On the board.
 
-live_case : (config : Config) (board : Board) (v : View) (number : ℕ) (c : CallView) → Shows config board v → call_numbered v number ≡ Some c → (b : Bool) →
+live_case : (config : Config) (board : Board) (v : View) (number : ℕ) (c : CallView) → BoardMatches config board v → call_numbered v number ≡ Some c → (b : Bool) →
     list_any (λ (call : LiveCall). call.number == number) board.calls.list ≡ b → b ≡ true
 live_case config board v number c s found true is = refl
 live_case config board v number c s found false is =
-    let none = none_first config (λ (call : LiveCall). call.number == number) (is_numbered number) board.calls.list v.calls (asks_number config number) s.calls_for is in
+    let none = none_first config (λ (call : LiveCall). call.number == number) (is_call_numbered number) board.calls.list v.calls (asks_number config number) s.calls_for is in
     let wrong : None ≡ Some c = sym none ∙ found in absurd (cc)
 
 -- a call that is found is live on the board
-pub found_is_live : (config : Config) (board : Board) (v : View) (number : ℕ) (c : CallView) → Shows config board v → call_numbered v number ≡ Some c → IsLive board number
+pub found_is_live : (config : Config) (board : Board) (v : View) (number : ℕ) (c : CallView) → BoardMatches config board v → call_numbered v number ≡ Some c → IsLive board number
 found_is_live config board v number c s found = live_case config board v number c s found (list_any (λ (call : LiveCall). call.number == number) board.calls.list) refl
 
 -- The cells.
@@ -131,7 +131,7 @@ ended_calls config h e gone v fits is =
 pub found_while_ending : (config : Config) (h : List BoardEntry) (e : BoardEntry) (gone : List Call) (v : View) (c : Call) → IsFitting config h → v.calls ≡ map (call_view h) (live h) →
     In c (live h) → (In c.number (map (λ (d : Call). d.number) gone) → ⊥) → call_numbered (with_ended h e gone v) c.number ≡ Some (call_view h c)
 found_while_ending config h e gone v c fits is i out =
-    ap (λ (cs : List CallView). first (filter (is_numbered c.number) cs)) (ended_calls config h e gone v fits is)
+    ap (λ (cs : List CallView). first (filter (is_call_numbered c.number) cs)) (ended_calls config h e gone v fits is)
     ∙ found_in h (filter (not_among gone) (live h)) c (once_filtered (λ (d : Call). d.number) (not_among gone) (live h) (live_once config h fits))
     (keeps (not_among gone) (live h) i (ap not (is_out c.number (map (λ (d : Call). d.number) gone) out)))
 

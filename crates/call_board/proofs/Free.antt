@@ -11,7 +11,7 @@ use Rattle.port_pool.specs.declared.holder.Holder.{Holder}
 use Rattle.offer_answer.specs.Rounds.{NewLeg}
 use Rattle.call_board.specs.Acts as act
 use Rattle.call_board.specs.Acts.{Call, Lease, Offer, Act, BoardEntry, act}
-use Rattle.call_board.specs.Pairs.{held, legs_of_act, closed, leased, leased_by_act, returned, undone_pairs, free, free_in, pair_family, family_eq, first_of, without_front, fronts, lease_of, new_legs, closes_leg}
+use Rattle.call_board.specs.Pairs.{held, legs_of_act, closed, all_leased, leased_by_act, returned, undone_pairs, free, free_in, pair_family, family_eq, first_of, without_front, fronts, next_lease, leased_new_legs, closes_leg}
 use Rattle.call_board.specs.Fits.{FitsBoard, IsFitting}
 use Rattle.call_board.proofs.Once.{Once, once_equal, once_append, once_some, once_filtered, once_numbers, in_numbers, once_last, last_in}
 use Rattle.call_board.proofs.Told.{Tells}
@@ -34,12 +34,12 @@ legs_leased a (act.Deleted of) i = elim i [ ]
 legs_leased a (act.Queried of) i = elim i [ ]
 legs_leased a act.Told i = elim i [ ]
 
-was_leased_case : (h : List BoardEntry) (e : BoardEntry) (a : Holder) → (In a (held h) → In a.pair (leased h))
-    → (In a (held h) × (closes_leg e a ≡ false)) ⊎ In a (legs_of_act (act e)) → In a.pair (leased (e ∷ h))
-was_leased_case h e a rest (inl i) = in_right (leased_by_act (act e)) (leased h) (rest i.0)
-was_leased_case h e a rest (inr i) = in_left (leased_by_act (act e)) (leased h) (legs_leased a (act e) i)
+was_leased_case : (h : List BoardEntry) (e : BoardEntry) (a : Holder) → (In a (held h) → In a.pair (all_leased h))
+    → (In a (held h) × (closes_leg e a ≡ false)) ⊎ In a (legs_of_act (act e)) → In a.pair (all_leased (e ∷ h))
+was_leased_case h e a rest (inl i) = in_right (leased_by_act (act e)) (all_leased h) (rest i.0)
+was_leased_case h e a rest (inr i) = in_left (leased_by_act (act e)) (all_leased h) (legs_leased a (act e) i)
 
-pub held_was_leased : (h : List BoardEntry) (a : Holder) → In a (held h) → In a.pair (leased h)
+pub held_was_leased : (h : List BoardEntry) (a : Holder) → In a (held h) → In a.pair (all_leased h)
 held_was_leased [] a i = elim i [ ]
 held_was_leased (e ∷ h) a i = was_leased_case h e a (held_was_leased h a) (held_split h e a i)
 
@@ -54,20 +54,20 @@ undone_leased p (act.Deleted of) i = elim i [ ]
 undone_leased p (act.Queried of) i = elim i [ ]
 undone_leased p act.Told i = elim i [ ]
 
-closed_leased : (h : List BoardEntry) (e : BoardEntry) (p : ℕ) → In p (map pair_of (closed h e)) → In p (leased h)
+closed_leased : (h : List BoardEntry) (e : BoardEntry) (p : ℕ) → In p (map pair_of (closed h e)) → In p (all_leased h)
 closed_leased h e p i = let m = mapped pair_of (closed h e) i in
-    subst (λ q. In q (leased h)) m.makes (held_was_leased h m.from (closed_held h e m.from m.is_in).0)
+    subst (λ q. In q (all_leased h)) m.makes (held_was_leased h m.from (closed_held h e m.from m.is_in).0)
 
-returned_before : (h : List BoardEntry) (e : BoardEntry) (p : ℕ) → (In p (returned h) → In p (leased h)) → In p (returned h) ⊎ In p (map pair_of (closed h e)) → In p (leased (e ∷ h))
-returned_before h e p rest (inl i) = in_right (leased_by_act (act e)) (leased h) (rest i)
-returned_before h e p rest (inr i) = in_right (leased_by_act (act e)) (leased h) (closed_leased h e p i)
+returned_before : (h : List BoardEntry) (e : BoardEntry) (p : ℕ) → (In p (returned h) → In p (all_leased h)) → In p (returned h) ⊎ In p (map pair_of (closed h e)) → In p (all_leased (e ∷ h))
+returned_before h e p rest (inl i) = in_right (leased_by_act (act e)) (all_leased h) (rest i)
+returned_before h e p rest (inr i) = in_right (leased_by_act (act e)) (all_leased h) (closed_leased h e p i)
 
-returned_case : (h : List BoardEntry) (e : BoardEntry) (p : ℕ) → (In p (returned h) → In p (leased h))
-    → In p (returned h ++ map pair_of (closed h e)) ⊎ In p (undone_pairs (act e)) → In p (leased (e ∷ h))
+returned_case : (h : List BoardEntry) (e : BoardEntry) (p : ℕ) → (In p (returned h) → In p (all_leased h))
+    → In p (returned h ++ map pair_of (closed h e)) ⊎ In p (undone_pairs (act e)) → In p (all_leased (e ∷ h))
 returned_case h e p rest (inl i) = returned_before h e p rest (in_append (returned h) (map pair_of (closed h e)) i)
-returned_case h e p rest (inr i) = in_left (leased_by_act (act e)) (leased h) (undone_leased p (act e) i)
+returned_case h e p rest (inr i) = in_left (leased_by_act (act e)) (all_leased h) (undone_leased p (act e) i)
 
-pub returned_was_leased : (h : List BoardEntry) (p : ℕ) → In p (returned h) → In p (leased h)
+pub returned_was_leased : (h : List BoardEntry) (p : ℕ) → In p (returned h) → In p (all_leased h)
 returned_was_leased [] p i = elim i [ ]
 returned_was_leased (e ∷ h) p i =
     returned_case h e p (returned_was_leased h p) (in_append (returned h ++ map pair_of (closed h e)) (undone_pairs (act e)) i)
@@ -75,7 +75,7 @@ returned_was_leased (e ∷ h) p i =
 -- What is free.
 
 abbrev never_leased : Config → List BoardEntry → List ℕ
-never_leased config h = filter (λ p. not (has (leased h) p)) (numbers 0 (pair_count config))
+never_leased config h = filter (λ p. not (has (all_leased h) p)) (numbers 0 (pair_count config))
 
 abbrev given_back : List BoardEntry → List ℕ
 given_back h = filter (λ p. not (has (map pair_of (held h)) p)) (last_once (returned h))
@@ -86,14 +86,14 @@ not_in p xs out i = let h : has xs p ≡ true = it_has p xs i in let wrong : not
 pub free_once : (config : Config) (h : List BoardEntry) → Once (free config h)
 free_once config h =
     once_append (never_leased config h) (given_back h)
-    (once_some (λ p. not (has (leased h) p)) (numbers 0 (pair_count config)) (once_numbers 0 (pair_count config)))
+    (once_some (λ p. not (has (all_leased h) p)) (numbers 0 (pair_count config)) (once_numbers 0 (pair_count config)))
     (once_some (λ p. not (has (map pair_of (held h)) p)) (last_once (returned h)) (once_last (returned h)))
-    (λ n i j. not_in n (leased h) (filtered (λ p. not (has (leased h) p)) (numbers 0 (pair_count config)) i).1
+    (λ n i j. not_in n (all_leased h) (filtered (λ p. not (has (all_leased h) p)) (numbers 0 (pair_count config)) i).1
     (returned_was_leased h n (last_in n (returned h) (filtered (λ p. not (has (map pair_of (held h)) p)) (last_once (returned h)) j).0)))
 
 not_held_case : (config : Config) (h : List BoardEntry) (p : ℕ) (a : Holder) → In a (held h) → a.pair ≡ p → In p (never_leased config h) ⊎ In p (given_back h) → ⊥
 not_held_case config h p a j e (inl i) =
-    not_in p (leased h) (filtered (λ p. not (has (leased h) p)) (numbers 0 (pair_count config)) i).1 (subst (λ q. In q (leased h)) e (held_was_leased h a j))
+    not_in p (all_leased h) (filtered (λ p. not (has (all_leased h) p)) (numbers 0 (pair_count config)) i).1 (subst (λ q. In q (all_leased h)) e (held_was_leased h a j))
 not_held_case config h p a j e (inr i) =
     not_in p (map pair_of (held h)) (filtered (λ p. not (has (map pair_of (held h)) p)) (last_once (returned h)) i).1
     (subst (λ q. In q (map pair_of (held h))) e (maps pair_of (held h) j))
@@ -101,9 +101,9 @@ not_held_case config h p a j e (inr i) =
 pub free_not_held : (config : Config) (h : List BoardEntry) (p : ℕ) (a : Holder) → In p (free config h) → In a (held h) → a.pair ≡ p → ⊥
 free_not_held config h p a i j e = not_held_case config h p a j e (in_append (never_leased config h) (given_back h) i)
 
-below_case : (config : Config) (h : List BoardEntry) (p : ℕ) → (In p (leased h) → p < pair_count config) → In p (never_leased config h) ⊎ In p (given_back h) → p < pair_count config
+below_case : (config : Config) (h : List BoardEntry) (p : ℕ) → (In p (all_leased h) → p < pair_count config) → In p (never_leased config h) ⊎ In p (given_back h) → p < pair_count config
 below_case config h p rest (inl i) =
-    let b = in_numbers p 0 (pair_count config) (filtered (λ p. not (has (leased h) p)) (numbers 0 (pair_count config)) i).0 in omega (arith, b.1)
+    let b = in_numbers p 0 (pair_count config) (filtered (λ p. not (has (all_leased h) p)) (numbers 0 (pair_count config)) i).0 in omega (arith, b.1)
 below_case config h p rest (inr i) =
     rest (returned_was_leased h p (last_in p (returned h) (filtered (λ p. not (has (map pair_of (held h)) p)) (last_once (returned h)) i).0))
 
@@ -209,56 +209,56 @@ front_free config h legs p i = let f = front_in (free_in config h) legs p i in
 -- the pairs of an offer's new legs were free before it, and stand once
 pub new_leg_free : (config : Config) (h : List BoardEntry) (e : BoardEntry) (o : Offer) (a : Holder) → FitsBoard config h e → act e ≡ act.Offered o → In a o.legs → In a.pair (free config h)
 new_leg_free config h e o a fits is i =
-    let told = offer_told config h e o fits is in
-    let n = new_leg_is h o.of (fronts (free_in config h) told.demand.pairs) told.demand.pairs a (subst (λ xs. In a xs) told.legs_are i) in
-    front_free config h told.demand.pairs a.pair n.pair_in
+    let shown = offer_told config h e o fits is in
+    let n = new_leg_is h o.of (fronts (free_in config h) shown.demand.pairs) shown.demand.pairs a (subst (λ xs. In a xs) shown.legs_are i) in
+    front_free config h shown.demand.pairs a.pair n.pair_in
 
-pairs_once : (h : List BoardEntry) (c : Call) (pairs : List ℕ) (legs : List NewLeg) → Once pairs → Once (map pair_of (new_legs h c pairs legs))
+pairs_once : (h : List BoardEntry) (c : Call) (pairs : List ℕ) (legs : List NewLeg) → Once pairs → Once (map pair_of (leased_new_legs h c pairs legs))
 pairs_once h c [] legs once = tt
 pairs_once h c (p ∷ pairs) [] once = tt
 pairs_once h c (p ∷ pairs) (leg ∷ legs) once = (
-  λ i. let m = mapped pair_of (new_legs h c pairs legs) i in
+  λ i. let m = mapped pair_of (leased_new_legs h c pairs legs) i in
       once.0 (subst (λ q. In q pairs) m.makes (new_leg_is h c pairs legs m.from m.is_in).pair_in),
   pairs_once h c pairs legs once.1,
 )
 
 pub new_legs_once : (config : Config) (h : List BoardEntry) (e : BoardEntry) (o : Offer) → FitsBoard config h e → act e ≡ act.Offered o → Once (map (λ (a : Holder). a.pair) o.legs)
 new_legs_once config h e o fits is =
-    let told = offer_told config h e o fits is in
-    subst (λ xs. Once (map pair_of xs)) (sym told.legs_are)
-    (pairs_once h o.of (fronts (free_in config h) told.demand.pairs) told.demand.pairs (fronts_once (free_in config h) told.demand.pairs (families_apart config h)))
+    let shown = offer_told config h e o fits is in
+    subst (λ xs. Once (map pair_of xs)) (sym shown.legs_are)
+    (pairs_once h o.of (fronts (free_in config h) shown.demand.pairs) shown.demand.pairs (fronts_once (free_in config h) shown.demand.pairs (families_apart config h)))
 
 abbrev pair_leased : Lease → ℕ
 pair_leased lease = lease.pair
 
 lease_free : (config : Config) (h : List BoardEntry) (e : BoardEntry) (p : ℕ) (x : Act) → FitsBoard config h e → act e ≡ x → Tells config h e x → In p (leased_by_act x) → In p (free config h)
-lease_free config h e p (act.Offered o) fits is told i = let m = mapped pair_of o.legs i in
+lease_free config h e p (act.Offered o) fits is shown i = let m = mapped pair_of o.legs i in
     subst (λ q. In q (free config h)) m.makes (new_leg_free config h e o m.from fits is m.is_in)
-lease_free config h e p (act.Undone code leases draws) fits is told i =
+lease_free config h e p (act.Undone code leases draws) fits is shown i =
     let m = mapped pair_leased leases i in
-    let n = mapped (lease_of h) (fronts (free_in config h) told.demand.pairs) (subst (λ xs. In m.from xs) told.leases_are m.is_in) in
+    let n = mapped (next_lease h) (fronts (free_in config h) shown.demand.pairs) (subst (λ xs. In m.from xs) shown.leases_are m.is_in) in
     let same : n.from ≡ p = ap pair_leased n.makes ∙ m.makes in
-    subst (λ q. In q (free config h)) same (front_free config h told.demand.pairs n.from n.is_in)
-lease_free config h e p act.Repeated fits is told i = elim i [ ]
-lease_free config h e p act.OutOfMemory fits is told i = elim i [ ]
-lease_free config h e p (act.Failed code) fits is told i = elim i [ ]
-lease_free config h e p (act.Answered x) fits is told i = elim i [ ]
-lease_free config h e p (act.Deleted of) fits is told i = elim i [ ]
-lease_free config h e p (act.Queried of) fits is told i = elim i [ ]
-lease_free config h e p act.Told fits is told i = elim i [ ]
+    subst (λ q. In q (free config h)) same (front_free config h shown.demand.pairs n.from n.is_in)
+lease_free config h e p act.Repeated fits is shown i = elim i [ ]
+lease_free config h e p act.OutOfMemory fits is shown i = elim i [ ]
+lease_free config h e p (act.Failed code) fits is shown i = elim i [ ]
+lease_free config h e p (act.Answered x) fits is shown i = elim i [ ]
+lease_free config h e p (act.Deleted of) fits is shown i = elim i [ ]
+lease_free config h e p (act.Queried of) fits is shown i = elim i [ ]
+lease_free config h e p act.Told fits is shown i = elim i [ ]
 
 -- a pair that an entry leases was free
 pub leased_free : (config : Config) (h : List BoardEntry) (e : BoardEntry) (p : ℕ) → FitsBoard config h e → In p (leased_by_act (act e)) → In p (free config h)
 leased_free config h e p fits i = lease_free config h e p (act e) fits refl (tells config h e fits) i
 
-leased_case : (config : Config) (h : List BoardEntry) (e : BoardEntry) (p : ℕ) → FitsBoard config h e → (In p (leased h) → p < pair_count config)
-    → In p (leased_by_act (act e)) ⊎ In p (leased h) → p < pair_count config
+leased_case : (config : Config) (h : List BoardEntry) (e : BoardEntry) (p : ℕ) → FitsBoard config h e → (In p (all_leased h) → p < pair_count config)
+    → In p (leased_by_act (act e)) ⊎ In p (all_leased h) → p < pair_count config
 leased_case config h e p fits rest (inl i) = below_case config h p rest (in_append (never_leased config h) (given_back h) (leased_free config h e p fits i))
 leased_case config h e p fits rest (inr i) = rest i
 
-pub leased_below : (config : Config) (h : List BoardEntry) (p : ℕ) → IsFitting config h → In p (leased h) → p < pair_count config
+pub leased_below : (config : Config) (h : List BoardEntry) (p : ℕ) → IsFitting config h → In p (all_leased h) → p < pair_count config
 leased_below config [] p fits i = elim i [ ]
-leased_below config (e ∷ h) p fits i = leased_case config h e p fits.0 (leased_below config h p fits.1) (in_append (leased_by_act (act e)) (leased h) i)
+leased_below config (e ∷ h) p fits i = leased_case config h e p fits.0 (leased_below config h p fits.1) (in_append (leased_by_act (act e)) (all_leased h) i)
 
 pub free_below : (config : Config) (h : List BoardEntry) (p : ℕ) → IsFitting config h → In p (free config h) → p < pair_count config
 free_below config h p fits i = below_case config h p (leased_below config h p fits) (in_append (never_leased config h) (given_back h) i)

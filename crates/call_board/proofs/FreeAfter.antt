@@ -15,7 +15,7 @@ use Rattle.offer_answer.specs.Rounds.{NewLeg}
 use Rattle.call_board.specs.Acts as act
 use Rattle.call_board.specs.Acts.{Call, Lease, Offer, Act, BoardEvent, Turn, Tick, Stop, BoardEntry, act}
 use Rattle.call_board.specs.Calls.{live, ended_by_act}
-use Rattle.call_board.specs.Pairs.{held, legs_of_act, closes_leg, closed, closed_of, calls_in, signalled_by, leased, leased_by_act, returned, undone_pairs, free, free_in, first_of, without_front, fronts, is_short, family_eq, lease_of, new_legs}
+use Rattle.call_board.specs.Pairs.{held, legs_of_act, closes_leg, closed, closed_of, calls_in, signalled_by, all_leased, leased_by_act, returned, undone_pairs, free, free_in, first_of, without_front, fronts, is_short, family_eq, next_lease, leased_new_legs}
 use Rattle.call_board.specs.Fits.{FitsBoard, FitsAt, IsFitting}
 use Rattle.call_board.proofs.Once.{Once, once_append, once_filtered, once_numbers}
 use Rattle.call_board.proofs.Sieves.{filter_both, filter_alike, filter_whole, has_append, is_out, last_append, last_same, without_taken}
@@ -94,12 +94,12 @@ closed_once config h e old fits = closed_calls config h e (calls_in e) old (call
 
 -- What an entry leases.
 
-pairs_of_new : (h : List BoardEntry) (c : Call) (pairs : List ℕ) (legs : List NewLeg) → length pairs ≡ length legs → map pair_of (new_legs h c pairs legs) ≡ pairs
+pairs_of_new : (h : List BoardEntry) (c : Call) (pairs : List ℕ) (legs : List NewLeg) → length pairs ≡ length legs → map pair_of (leased_new_legs h c pairs legs) ≡ pairs
 pairs_of_new h c [] legs same = refl
 pairs_of_new h c (p ∷ pairs) [] same = absurd (let e = same in omega (arith, e))
 pairs_of_new h c (p ∷ pairs) (leg ∷ legs) same = ap (λ ps. p ∷ ps) (pairs_of_new h c pairs legs (let e = same in omega (arith, e)))
 
-pub pairs_leased : (h : List BoardEntry) (pairs : List ℕ) → map (λ (lease : Lease). lease.pair) (map (lease_of h) pairs) ≡ pairs
+pub pairs_leased : (h : List BoardEntry) (pairs : List ℕ) → map (λ (lease : Lease). lease.pair) (map (next_lease h) pairs) ≡ pairs
 pairs_leased h [] = refl
 pairs_leased h (p ∷ pairs) = ap (λ ps. p ∷ ps) (pairs_leased h pairs)
 
@@ -166,20 +166,20 @@ as_front config h legs pairs enough is =
     is ∙ front.0 ∙ ap (λ n. take n (free config h)) (sym (ap length is ∙ front.1))
 
 front_case : (config : Config) (h : List BoardEntry) (e : BoardEntry) (a : Act) → Tells config h e a → IsFront config h (leased_by_act a)
-front_case config h e (act.Offered o) told =
-    as_front config h told.demand.pairs (map pair_of o.legs) told.enough
-    (ap (map pair_of) told.legs_are
-    ∙ pairs_of_new h o.of (fronts (free_in config h) told.demand.pairs) told.demand.pairs (front_of_free config h told.demand.pairs told.enough).1)
-front_case config h e (act.Undone code leases draws) told =
-    as_front config h told.demand.pairs (map (λ (lease : Lease). lease.pair) leases) told.enough
-    (ap (map (λ (lease : Lease). lease.pair)) told.leases_are ∙ pairs_leased h (fronts (free_in config h) told.demand.pairs))
-front_case config h e act.Repeated told = none_taken (free config h)
-front_case config h e act.OutOfMemory told = none_taken (free config h)
-front_case config h e (act.Failed code) told = none_taken (free config h)
-front_case config h e (act.Answered a) told = none_taken (free config h)
-front_case config h e (act.Deleted of) told = none_taken (free config h)
-front_case config h e (act.Queried of) told = none_taken (free config h)
-front_case config h e act.Told told = none_taken (free config h)
+front_case config h e (act.Offered o) shown =
+    as_front config h shown.demand.pairs (map pair_of o.legs) shown.enough
+    (ap (map pair_of) shown.legs_are
+    ∙ pairs_of_new h o.of (fronts (free_in config h) shown.demand.pairs) shown.demand.pairs (front_of_free config h shown.demand.pairs shown.enough).1)
+front_case config h e (act.Undone code leases draws) shown =
+    as_front config h shown.demand.pairs (map (λ (lease : Lease). lease.pair) leases) shown.enough
+    (ap (map (λ (lease : Lease). lease.pair)) shown.leases_are ∙ pairs_leased h (fronts (free_in config h) shown.demand.pairs))
+front_case config h e act.Repeated shown = none_taken (free config h)
+front_case config h e act.OutOfMemory shown = none_taken (free config h)
+front_case config h e (act.Failed code) shown = none_taken (free config h)
+front_case config h e (act.Answered a) shown = none_taken (free config h)
+front_case config h e (act.Deleted of) shown = none_taken (free config h)
+front_case config h e (act.Queried of) shown = none_taken (free config h)
+front_case config h e act.Told shown = none_taken (free config h)
 
 -- an entry leases the front of the free pairs
 pub leases_front : (config : Config) (h : List BoardEntry) (e : BoardEntry) → FitsBoard config h e →
@@ -341,11 +341,11 @@ abbrev not_leased : BoardEntry → ℕ → Bool
 not_leased e p = not (has (leased_by_act (act e)) p)
 
 never_after : (config : Config) (h : List BoardEntry) (e : BoardEntry) →
-    filter (λ p. not (has (leased (e ∷ h)) p)) (numbers 0 (pair_count config)) ≡ filter (not_leased e) (filter (λ p. not (has (leased h) p)) (numbers 0 (pair_count config)))
+    filter (λ p. not (has (all_leased (e ∷ h)) p)) (numbers 0 (pair_count config)) ≡ filter (not_leased e) (filter (λ p. not (has (all_leased h) p)) (numbers 0 (pair_count config)))
 never_after config h e =
-    filter_alike (λ p. not (has (leased (e ∷ h)) p)) (λ p. not (has (leased h) p) && not_leased e p) (numbers 0 (pair_count config))
-    (λ p i. ap not (has_append (leased_by_act (act e)) (leased h) p) ∙ neither (has (leased_by_act (act e)) p) (has (leased h) p))
-    ∙ sym (filter_both (not_leased e) (λ p. not (has (leased h) p)) (numbers 0 (pair_count config)))
+    filter_alike (λ p. not (has (all_leased (e ∷ h)) p)) (λ p. not (has (all_leased h) p) && not_leased e p) (numbers 0 (pair_count config))
+    (λ p i. ap not (has_append (leased_by_act (act e)) (all_leased h) p) ∙ neither (has (leased_by_act (act e)) p) (has (all_leased h) p))
+    ∙ sym (filter_both (not_leased e) (λ p. not (has (all_leased h) p)) (numbers 0 (pair_count config)))
 
 abbrev back : List BoardEntry → List ℕ
 back h = filter (λ p. not (has (held_pairs h) p)) (last_once (returned h))
@@ -374,7 +374,7 @@ back_after config h e old fits =
 pub free_without : (config : Config) (h : List BoardEntry) (e : BoardEntry) → IsFitting config h → FitsBoard config h e →
     free config (e ∷ h) ≡ filter (λ p. not (has (leased_by_act (act e)) p)) (free config h) ++ given_by h e
 free_without config h e old fits =
-    let never = filter (λ p. not (has (leased h) p)) (numbers 0 (pair_count config)) in
+    let never = filter (λ p. not (has (all_leased h) p)) (numbers 0 (pair_count config)) in
     ap (λ (ps : List ℕ). ps ++ back (e ∷ h)) (never_after config h e)
     ∙ ap (λ (ps : List ℕ). filter (not_leased e) never ++ ps) (back_after config h e old fits)
     ∙ sym (append_assoc (filter (not_leased e) never) (filter (not_leased e) (back h)) (given_by h e))

@@ -20,9 +20,9 @@ all_kept (x ∷ xs) = ap (λ more. x ∷ more) (all_kept xs)
 pub all_free : (config : Config) → free config [] ≡ numbers 0 (pair_count config)
 all_free config = append-nil (filter (λ p. not (has [] p)) (numbers 0 (pair_count config))) ∙ all_kept (numbers 0 (pair_count config))
 
-pub fresh_pool : (config : Config) (pool : Pairs) → pools.IsFresh config pool → pools.StandsFor config (free config []) (times_leased []) pool
+pub fresh_pool : (config : Config) (pool : Pairs) → pools.IsFresh config pool → pools.PoolStandsFor config (free config []) (times_leased []) pool
 fresh_pool config pool fresh =
-    subst (λ (pairs : List ℕ). pools.StandsFor config pairs (times_leased []) pool) (sym (all_free config))
+    subst (λ (pairs : List ℕ). pools.PoolStandsFor config pairs (times_leased []) pool) (sym (all_free config))
     (stands_alike config (numbers 0 (pair_count config)) (λ pair. 0) (times_leased []) pool (fresh_stands config pool fresh) (λ pair within. refl))
 
 pub no_calls : (config : Config) (calls : List LiveCall) → calls ≡ [] → CallsFor config calls []

@@ -8,7 +8,7 @@ use Rattle.port_pool.specs.Pools.{Pairs, after_return}
 use Rattle.port_pool.specs.declared.pairs.Lease.{Lease}
 use Rattle.call_board.specs.declared.board.Board.{Board}
 use Rattle.call_board.specs.Views.{View, with_returned}
-use Rattle.call_board.specs.Boards.{Shows, AreOut, pairs_in}
+use Rattle.call_board.specs.Boards.{BoardMatches, AreOut, pairs_in}
 
 pub has-behind : (xs : List ℕ) (p q : ℕ) → has xs q ≡ false → (p == q) ≡ false → has (xs ++ p ∷ []) q ≡ false
 has-behind [] p q e n = ap (λ (b : Bool). cond b true false) n
@@ -49,15 +49,15 @@ out_after pool pair (lease ∷ leases) out new = (
 )
 
 -- one pair more was given back
-pub one_more_returned : (config : Config) (board : Board) (v : View) (given : List ℕ) (pair : ℕ) → Shows config board (with_returned (with_returned v given) (pair ∷ [])) →
-    Shows config board (with_returned v (given ++ pair ∷ []))
+pub one_more_returned : (config : Config) (board : Board) (v : View) (given : List ℕ) (pair : ℕ) → BoardMatches config board (with_returned (with_returned v given) (pair ∷ [])) →
+    BoardMatches config board (with_returned v (given ++ pair ∷ []))
 one_more_returned config board v given pair s =
-    subst (λ (pairs : List ℕ). Shows config board (record { moment = v.moment; begun = v.begun; drawn = v.drawn; calls = v.calls; free = pairs; leases = v.leases; keepings = v.keepings }))
+    subst (λ (pairs : List ℕ). BoardMatches config board (record { moment = v.moment; begun = v.begun; drawn = v.drawn; calls = v.calls; free = pairs; leases = v.leases; keepings = v.keepings }))
     (append_assoc v.free given (pair ∷ [])) s
 
-pub none_returned : (config : Config) (board : Board) (v : View) → Shows config board v → Shows config board (with_returned v [])
+pub none_returned : (config : Config) (board : Board) (v : View) → BoardMatches config board v → BoardMatches config board (with_returned v [])
 none_returned config board v s =
-    subst (λ (pairs : List ℕ). Shows config board (record { moment = v.moment; begun = v.begun; drawn = v.drawn; calls = v.calls; free = pairs; leases = v.leases; keepings = v.keepings }))
+    subst (λ (pairs : List ℕ). BoardMatches config board (record { moment = v.moment; begun = v.begun; drawn = v.drawn; calls = v.calls; free = pairs; leases = v.leases; keepings = v.keepings }))
     (sym (append-nil v.free)) s
 
 pub none_left : (leases : List Lease) → length leases ≡ 0 → leases ≡ []

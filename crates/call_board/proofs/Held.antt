@@ -9,7 +9,7 @@ use Rattle.offer_answer.specs.Rounds.{NewLeg}
 use Rattle.call_board.specs.Acts as act
 use Rattle.call_board.specs.Acts.{Call, Offer, Act, BoardEntry, act}
 use Rattle.call_board.specs.Calls.{live, ended_by}
-use Rattle.call_board.specs.Pairs.{held, legs_of_act, closes_leg, closes_leg_act, closed_of, closed, calls_in, signalled_by, new_legs, next_generation}
+use Rattle.call_board.specs.Pairs.{held, legs_of_act, closes_leg, closes_leg_act, closed_of, closed, calls_in, signalled_by, leased_new_legs, next_generation}
 use Rattle.call_board.specs.Fits.{FitsBoard, IsFitting}
 use Rattle.call_board.proofs.Moments.{Later, now, after}
 use Rattle.call_board.proofs.Once.{is_false, not_false}
@@ -172,7 +172,7 @@ pub record IsNewLeg (h : List BoardEntry) (c : Call) (pairs : List ℕ) (a : Hol
   pub pair_in : In a.pair pairs
   pub generation_is : a.generation ≡ next_generation h a.pair
 
-pub new_leg_is : (h : List BoardEntry) (c : Call) (pairs : List ℕ) (legs : List NewLeg) (a : Holder) → In a (new_legs h c pairs legs) → IsNewLeg h c pairs a
+pub new_leg_is : (h : List BoardEntry) (c : Call) (pairs : List ℕ) (legs : List NewLeg) (a : Holder) → In a (leased_new_legs h c pairs legs) → IsNewLeg h c pairs a
 new_leg_is h c [] legs a i = elim i [ ]
 new_leg_is h c (p ∷ pairs) [] a i = elim i [ ]
 new_leg_is h c (p ∷ pairs) (leg ∷ legs) a (here e) =
@@ -188,8 +188,8 @@ new_leg_is h c (p ∷ pairs) (leg ∷ legs) a (there i) = let r = new_leg_is h c
 -- the call of a new leg is its offer's, and so is its cell
 pub new_leg : (config : Config) (h : List BoardEntry) (e : BoardEntry) (o : Offer) (a : Holder) → FitsBoard config h e → act e ≡ act.Offered o → In a o.legs → (a.call ≡ o.of.number) × (a.cell ≡ o.of.cell)
 new_leg config h e o a fits is i =
-    let told = offer_told config h e o fits is in
-    let n = new_leg_is h o.of _ told.demand.pairs a (subst (λ xs. In a xs) told.legs_are i) in (n.call_is, n.cell_is)
+    let shown = offer_told config h e o fits is in
+    let n = new_leg_is h o.of _ shown.demand.pairs a (subst (λ xs. In a xs) shown.legs_are i) in (n.call_is, n.cell_is)
 
 -- the call of a held leg is live, and the leg's cell is its call's
 pub record IsOfLive (h : List BoardEntry) (a : Holder) : Type 0 where

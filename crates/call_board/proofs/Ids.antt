@@ -43,15 +43,15 @@ anew_case config h id o (begins is_new of_is none room) =
 anew_case config h id o (goes_on is_old found is_live) = nothing (ap (λ b. cond b (o.of ∷ []) []) is_old)
 
 begins_anew : (config : Config) (h : List BoardEntry) (e : BoardEntry) (a : Act) → Tells config h e a → BeginsAnew h (begun_by_act a)
-begins_anew config h e (act.Offered o) told = anew_case config h told.id o told.call_is
-begins_anew config h e act.Repeated told = nothing refl
-begins_anew config h e act.OutOfMemory told = nothing refl
-begins_anew config h e (act.Failed code) told = nothing refl
-begins_anew config h e (act.Undone code leases draws) told = nothing refl
-begins_anew config h e (act.Answered a) told = nothing refl
-begins_anew config h e (act.Deleted of) told = nothing refl
-begins_anew config h e (act.Queried of) told = nothing refl
-begins_anew config h e act.Told told = nothing refl
+begins_anew config h e (act.Offered o) shown = anew_case config h shown.id o shown.call_is
+begins_anew config h e act.Repeated shown = nothing refl
+begins_anew config h e act.OutOfMemory shown = nothing refl
+begins_anew config h e (act.Failed code) shown = nothing refl
+begins_anew config h e (act.Undone code leases draws) shown = nothing refl
+begins_anew config h e (act.Answered a) shown = nothing refl
+begins_anew config h e (act.Deleted of) shown = nothing refl
+begins_anew config h e (act.Queried of) shown = nothing refl
+begins_anew config h e act.Told shown = nothing refl
 
 old_and_new : (h : List BoardEntry) (calls : List Call) (c d : Call) → BeginsAnew h calls → In c (live h) → In d calls → c.id ≡ d.id → ⊥
 old_and_new h calls c d (nothing none) i j same = elim (subst (λ xs. In d xs) none j) [ ]

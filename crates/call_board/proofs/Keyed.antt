@@ -8,7 +8,7 @@ use Rattle.std.specs.Str.{bytes_eq}
 use Rattle.std.proofs.lemmas.Map.Entries.{length-keys_of, length-values_of}
 use Rattle.indexmap.specs.IndexMap.{insert_entry, set_value_at}
 use Rattle.call_board.specs.declared.live_call.LiveCall.{LiveCall}
-use Rattle.call_board.specs.Keyed.{AreUnderTheirIds}
+use Rattle.call_board.specs.CallIds.{AreUnderTheirIds}
 use Rattle.call_board.proofs.Placed.{any-position}
 
 one_test : (a b : Bool) → (a ≡ true → b ≡ true) → (b ≡ true → a ≡ true) → a ≡ b

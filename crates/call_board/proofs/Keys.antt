@@ -10,7 +10,7 @@ use Rattle.offer_answer.specs.Rounds.{Round, KeyPlace, drawn_for}
 use Rattle.call_board.specs.Acts as act
 use Rattle.call_board.specs.Acts.{Offer, Act, BoardEntry, act}
 use Rattle.call_board.specs.Calls.{rounds, round_of}
-use Rattle.call_board.specs.Pairs.{drawn, draws_of_act, new_keys}
+use Rattle.call_board.specs.Pairs.{drawn, draws_of_act, drawn_keys_from}
 use Rattle.call_board.specs.Fits.{FitsBoard, IsFitting}
 use Rattle.call_board.proofs.Moments.{Later, now, after, Ordered, same, first_earlier, first_later, ordered, entry_fits}
 use Rattle.call_board.proofs.Once.{Once, once_equal}
@@ -19,18 +19,18 @@ use Rattle.call_board.proofs.Tells.{offer_told}
 abbrev number_of : NewKey → ℕ
 number_of k = k.number
 
-new_key_between : (n : ℕ) (draws : List (List ℕ)) (places : List KeyPlace) (k : NewKey) → In k (new_keys n draws places) → (n ≤ k.number) × (k.number < n + length (new_keys n draws places))
+new_key_between : (n : ℕ) (draws : List (List ℕ)) (places : List KeyPlace) (k : NewKey) → In k (drawn_keys_from n draws places) → (n ≤ k.number) × (k.number < n + length (drawn_keys_from n draws places))
 new_key_between n [] places k i = elim i [ ]
 new_key_between n (bytes ∷ draws) [] k i = elim i [ ]
 new_key_between n (bytes ∷ draws) (place ∷ places) k (here e) = let at : k.number ≡ n = ap number_of e in (omega arith, omega arith)
 new_key_between n (bytes ∷ draws) (place ∷ places) k (there i) =
     let rest = new_key_between (n + 1) draws places k i in (omega (arith, rest.0), omega (arith, rest.1))
 
-new_keys_once : (n : ℕ) (draws : List (List ℕ)) (places : List KeyPlace) → Once (map number_of (new_keys n draws places))
+new_keys_once : (n : ℕ) (draws : List (List ℕ)) (places : List KeyPlace) → Once (map number_of (drawn_keys_from n draws places))
 new_keys_once n [] places = tt
 new_keys_once n (bytes ∷ draws) [] = tt
 new_keys_once n (bytes ∷ draws) (place ∷ places) = (
-  λ i. let m = mapped number_of (new_keys (n + 1) draws places) i in
+  λ i. let m = mapped number_of (drawn_keys_from (n + 1) draws places) i in
       let later = new_key_between (n + 1) draws places m.from m.is_in in
       let is : m.from.number ≡ n = m.makes in
       absurd (omega (arith, later.0)),
@@ -41,9 +41,9 @@ new_keys_once n (bytes ∷ draws) (place ∷ places) = (
 pub key_between : (config : Config) (h : List BoardEntry) (e : BoardEntry) (o : Offer) (k : NewKey) → FitsBoard config h e → act e ≡ act.Offered o → In k o.keys →
     (length (drawn h) ≤ k.number) × (k.number < length (drawn (e ∷ h)))
 key_between config h e o k fits is i =
-    let told = offer_told config h e o fits is in
-    let place = new_key_between (length (drawn h)) told.draws told.demand.keys k (subst (λ ks. In k ks) told.keys_are i) in
-    let keys : length o.keys ≡ length (new_keys (length (drawn h)) told.draws told.demand.keys) = ap length told.keys_are in
+    let shown = offer_told config h e o fits is in
+    let place = new_key_between (length (drawn h)) shown.draws shown.demand.keys k (subst (λ ks. In k ks) shown.keys_are i) in
+    let keys : length o.keys ≡ length (drawn_keys_from (length (drawn h)) shown.draws shown.demand.keys) = ap length shown.keys_are in
     let new : draws_of_act (act e) ≡ map (λ (key : NewKey). key.bytes) o.keys = ap draws_of_act is in
     let count : length (draws_of_act (act e)) ≡ length o.keys = ap length new ∙ simp length-map in
     let whole : length (drawn (e ∷ h)) ≡ length (drawn h) + length (draws_of_act (act e)) = length-append (drawn h) (draws_of_act (act e)) in
@@ -53,8 +53,8 @@ key_between config h e o k fits is i =
 pub keys_of_offer : (config : Config) (h : List BoardEntry) (e : BoardEntry) (o : Offer) (j k : NewKey) → FitsBoard config h e → act e ≡ act.Offered o
     → In j o.keys → In k o.keys → j.number ≡ k.number → j ≡ k
 keys_of_offer config h e o j k fits is i l same_number =
-    let told = offer_told config h e o fits is in
-    once_equal number_of o.keys (subst (λ ks. Once (map number_of ks)) (sym told.keys_are) (new_keys_once (length (drawn h)) told.draws told.demand.keys)) i l same_number
+    let shown = offer_told config h e o fits is in
+    once_equal number_of o.keys (subst (λ ks. Once (map number_of ks)) (sym shown.keys_are) (new_keys_once (length (drawn h)) shown.draws shown.demand.keys)) i l same_number
 
 pub drawn_grows : (s h : List BoardEntry) → Later s h → length (drawn s) ≤ length (drawn h)
 drawn_grows s h (now e) = let is : length (drawn s) ≡ length (drawn h) = ap (λ x. length (drawn x)) e in omega arith

@@ -12,10 +12,10 @@ use Rattle.port_pool.specs.Pools.{AreFree}
 use Rattle.port_pool.specs.declared.pairs.Lease.{Lease}
 use Rattle.port_pool.proofs.Standing.{stands_alike}
 use Rattle.port_pool.specs.LeaseLists.{LeaseList}
-use Rattle.call_board.specs.Planned.{RoomFor}
+use Rattle.call_board.specs.Plans.{RoomFor}
 use Rattle.call_board.specs.declared.board.Board.{Board}
 use Rattle.call_board.specs.Views.{View, with_leases}
-use Rattle.call_board.specs.Boards.{Shows, lease_at, leases_of}
+use Rattle.call_board.specs.Boards.{BoardMatches, lease_at, front_leases}
 
 take-next : (k : ℕ) (xs : List ℕ) → take (suc k) xs ≡ take k xs ++ take 1 (drop k xs)
 take-next zero [] = refl
@@ -30,7 +30,7 @@ counted : (p : ℕ) (xs ys : List ℕ) → count_by (λ q. q == p) (xs ++ ys) �
 counted p xs ys = sum_by-append (λ (q : ℕ). cond (q == p) 1 0) xs ys
 
 -- the board after one more lease
-pub one_more_leased : (config : Config) (board : Board) (v : View) (k : ℕ) → Shows config board (with_leases (with_leases v k) 1) → Shows config board (with_leases v (k + 1))
+pub one_more_leased : (config : Config) (board : Board) (v : View) (k : ℕ) → BoardMatches config board (with_leases (with_leases v k) 1) → BoardMatches config board (with_leases v (k + 1))
 one_more_leased config board v k s = record {
   config_is = s.config_is;
   moment_is = s.moment_is;
@@ -38,7 +38,7 @@ one_more_leased config board v k s = record {
   drawn_is = s.drawn_is;
   calls_for = s.calls_for;
   cells_for = s.cells_for;
-  pool_for = subst (λ (free : List ℕ). pools.StandsFor config free (with_leases v (k + 1)).leases board.pool) (drop-drop 1 k v.free)
+  pool_for = subst (λ (free : List ℕ). pools.PoolStandsFor config free (with_leases v (k + 1)).leases board.pool) (drop-drop 1 k v.free)
       (stands_alike config (drop 1 (drop k v.free)) (with_leases (with_leases v k) 1).leases (with_leases v (k + 1)).leases board.pool s.pool_for
       (λ pair within.
       let sum = counted pair (take k v.free) (take 1 (drop k v.free)) in
@@ -48,7 +48,7 @@ one_more_leased config board v k s = record {
 }
 
 -- no lease was made yet
-pub none_leased : (config : Config) (board : Board) (v : View) → Shows config board v → Shows config board (with_leases v 0)
+pub none_leased : (config : Config) (board : Board) (v : View) → BoardMatches config board v → BoardMatches config board (with_leases v 0)
 none_leased config board v s = record {
   config_is = s.config_is;
   moment_is = s.moment_is;
@@ -95,7 +95,7 @@ not-before count (suc k) (x ∷ xs) pair rest free e = go (x == pair) refl (behi
 
 -- the leases with one more
 pub one_more_lease : (config : Config) (v : View) (k : ℕ) (pair : ℕ) (rest : List ℕ) (made : List Lease) → AreFree (pair_count config) v.free → drop k v.free ≡ pair ∷ rest →
-    made ≡ leases_of config v k → made ++ lease_at config (with_leases v k).leases pair ∷ [] ≡ leases_of config v (k + 1)
+    made ≡ front_leases config v k → made ++ lease_at config (with_leases v k).leases pair ∷ [] ≡ front_leases config v (k + 1)
 one_more_lease config v k pair rest made free e is =
     let none = count-none pair (take k v.free) (not-before (pair_count config) k v.free pair rest free e) in
     let same : lease_at config (with_leases v k).leases pair ≡ lease_at config v.leases pair =

@@ -8,7 +8,7 @@ use Rattle.histories.proofs.Lists.{keeps, maps, equal}
 use Rattle.port_pool.specs.declared.holder.Holder.{Holder}
 use Rattle.call_board.specs.Acts as act
 use Rattle.call_board.specs.Acts.{Offer, Act, BoardEntry, act}
-use Rattle.call_board.specs.Pairs.{leased, leased_by_act, next_generation, fronts, free_in}
+use Rattle.call_board.specs.Pairs.{all_leased, leased_by_act, next_generation, fronts, free_in}
 use Rattle.call_board.specs.Fits.{FitsBoard, IsFitting}
 use Rattle.call_board.proofs.Moments.{Later, now, after, Ordered, same, first_earlier, first_later, ordered, entry_fits}
 use Rattle.call_board.proofs.Once.{once_equal}
@@ -20,12 +20,12 @@ use Rattle.call_board.proofs.Free.{new_legs_once}
 -- a new leg has the generation that the next lease of its pair has
 pub leg_generation : (config : Config) (h : List BoardEntry) (e : BoardEntry) (o : Offer) (a : Holder) → FitsBoard config h e → act e ≡ act.Offered o → In a o.legs → a.generation ≡ next_generation h a.pair
 leg_generation config h e o a fits is i =
-    let told = offer_told config h e o fits is in
-    (new_leg_is h o.of (fronts (free_in config h) told.demand.pairs) told.demand.pairs a (subst (λ xs. In a xs) told.legs_are i)).generation_is
+    let shown = offer_told config h e o fits is in
+    (new_leg_is h o.of (fronts (free_in config h) shown.demand.pairs) shown.demand.pairs a (subst (λ xs. In a xs) shown.legs_are i)).generation_is
 
 -- the generation rises by the count of the entry's leases of the pair
 generation_step : (h : List BoardEntry) (e : BoardEntry) (pair : ℕ) → next_generation (e ∷ h) pair ≡ count_by (λ q. q == pair) (leased_by_act (act e)) + next_generation h pair
-generation_step h e pair = let both = sum_by-append (λ (q : ℕ). cond (q == pair) 1 0) (leased_by_act (act e)) (leased h) in omega (arith, both)
+generation_step h e pair = let both = sum_by-append (λ (q : ℕ). cond (q == pair) 1 0) (leased_by_act (act e)) (all_leased h) in omega (arith, both)
 
 pub generations_rise : (s h : List BoardEntry) (pair : ℕ) → Later s h → next_generation s pair ≤ next_generation h pair
 generations_rise s h pair (now e) = let is : next_generation s pair ≡ next_generation h pair = ap (λ x. next_generation x pair) e in omega (arith, is)

@@ -10,7 +10,7 @@ use Rattle.std.proofs.lemmas.Bool.Decides.{nat_tests}
 use Rattle.std.proofs.lemmas.Cmp.{ranked}
 use Rattle.std.proofs.lemmas.List.Sums.{position_or_len_is}
 use Rattle.call_board.specs.declared.live_call.LiveCall.{LiveCall}
-use Rattle.call_board.specs.Numbered.{AreBelow, NumbersRise}
+use Rattle.call_board.specs.CallNumbers.{AreBelow, NumbersRise}
 
 each : (from : ℕ) (calls : List LiveCall) (below i : ℕ) (d : LiveCall) → AreBelow from calls below → i < length calls → from ≤ (get_or calls i d).number
 each from [] below i d s lt = absurd (omega (arith, lt))

@@ -4,7 +4,7 @@ use Rattle.std.specs.Prelude.{nat_le, ◌&&◌}
 use Rattle.std.proofs.lemmas.Bool.Decides.{nat_tests}
 use Rattle.std.specs.List.{list_any}
 use Rattle.relay_outside.specs.declared.settings.Config.{Config}
-use Rattle.ng_command.specs.Said as said
+use Rattle.ng_command.specs.Meanings as said
 use Rattle.ng_reply.specs.declared.code.ErrorCode.TheVariants.{E13, E14, E15, E16, E17}
 use Rattle.sdes_lines.specs.declared.crypto_line.CryptoLine.{CryptoLine}
 use Rattle.histories.specs.Words.{In}
@@ -13,12 +13,12 @@ use Rattle.offer_answer.specs.Rounds.{Round, OfferAsk}
 use Rattle.call_board.specs.Acts as act
 use Rattle.call_board.specs.Acts.{Act, Call, Control, BoardEntry}
 use Rattle.call_board.specs.Calls.{live, find_call, new_call, rounds, rounds_of_call}
-use Rattle.call_board.specs.Pairs.{free_in, is_short, new_legs, new_keys, drawn}
-use Rattle.call_board.specs.Kept.{kept}
-use Rattle.call_board.specs.Asked.{asked}
+use Rattle.call_board.specs.Pairs.{free_in, is_short, leased_new_legs, drawn_keys_from, drawn}
+use Rattle.call_board.specs.KeptReplies.{kept_reply}
+use Rattle.call_board.specs.Requests.{asked}
 use Rattle.call_board.specs.Replies.{Fault, reply_datagram}
 use Rattle.call_board.specs.Answers.{Answered, failing, leased_pairs, offer_ask, offer_leased, offer_unless, offer_to, answering_asked, answering_unless, offering, spelled}
-use Rattle.call_board.specs.Fits.{FitsControl, IsFitting, answer_of}
+use Rattle.call_board.specs.Fits.{FitsControl, IsFitting, answered_in}
 use Rattle.call_board.proofs.Tells.{leased_case, false_in}
 use Rattle.call_board.proofs.Cells.{live_bound}
 
@@ -44,8 +44,8 @@ offer_of h c ask of new before pairs = record {
   of = of;
   begins = new;
   ask = ask;
-  legs = new_legs h of pairs (plan.demand before ask).pairs;
-  keys = new_keys (length (drawn h)) c.given.draws (plan.demand before ask).keys;
+  legs = leased_new_legs h of pairs (plan.demand before ask).pairs;
+  keys = drawn_keys_from (length (drawn h)) c.given.draws (plan.demand before ask).keys;
   dropped = (plan.demand before ask).dropped;
 }
 
@@ -53,7 +53,7 @@ offer_of h c ask of new before pairs = record {
 
 leased_ends : (config : Config) (h : List BoardEntry) (c : Control) (id : List ℕ) (ask : OfferAsk) (of : Call) (new : Bool) (before : List Round) (pairs : List ℕ)
     → before ≡ rounds_of_call h (find_call h id) → (failed drew : Bool) → list_any not c.given.opens ≡ failed → c.given.draw_failed ≡ drew
-    → answer_of c ≡ spelled config c.cookie c.body (leased_case config h c.given ask of new before pairs failed drew) → OfferEnds config h c id ask
+    → answered_in c ≡ spelled config c.cookie c.body (leased_case config h c.given ask of new before pairs failed drew) → OfferEnds config h c id ask
 leased_ends config h c id ask of new before pairs before_is true drew fails draws is = port_fault _ (ap act_of is) (false_in c.given.opens fails)
 leased_ends config h c id ask of new before pairs before_is false true fails draws is = key_fault _ (ap act_of is) draws
 leased_ends config h c id ask of new before pairs before_is false false fails draws is =
@@ -66,7 +66,7 @@ reached limit count over bound = grind (arith, nat_tests)
 planned_ends : (config : Config) (h : List BoardEntry) (c : Control) (id : List ℕ) (ask : OfferAsk) (of : Call) (new : Bool) (before : List Round)
     → before ≡ rounds_of_call h (find_call h id) → ((new && nat_le config.max_sessions (length (live h))) ≡ true → (find_call h id ≡ None) × (length (live h) ≡ config.max_sessions))
     → (over short : Bool) → (new && nat_le config.max_sessions (length (live h))) ≡ over → is_short (free_in config h) (plan.demand before ask).pairs ≡ short
-    → answer_of c ≡ spelled config c.cookie c.body (cond over (failing E14) (cond short (failing E13) (offer_leased config h c.given ask of new before (leased_pairs config h (plan.demand before ask)))))
+    → answered_in c ≡ spelled config c.cookie c.body (cond over (failing E14) (cond short (failing E13) (offer_leased config h c.given ask of new before (leased_pairs config h (plan.demand before ask)))))
     → OfferEnds config h c id ask
 planned_ends config h c id ask of new before before_is limit true short overs shorts is = let l = limit overs in session_limit (ap act_of is) l.0 l.1
 planned_ends config h c id ask of new before before_is limit false true overs shorts is =
@@ -76,7 +76,7 @@ planned_ends config h c id ask of new before before_is limit false false overs s
 
 found_ends : (config : Config) (h : List BoardEntry) (c : Control) (id : List ℕ) (ask : OfferAsk) → length (live h) ≤ config.max_sessions
     → (found : Option Call) → find_call h id ≡ found → plan.offer_fault (rounds_of_call h found) ask ≡ None
-    → answer_of c ≡ spelled config c.cookie c.body (offer_to config h c.given id ask found) → OfferEnds config h c id ask
+    → answered_in c ≡ spelled config c.cookie c.body (offer_to config h c.given id ask found) → OfferEnds config h c id ask
 found_ends config h c id ask bound None found no_fault is =
     planned_ends config h c id ask (new_call h id) true [] (sym (ap (rounds_of_call h) found))
     (λ over. (found, reached config.max_sessions (length (live h)) over bound))
@@ -90,13 +90,13 @@ found_ends config h c id ask bound (Some of) found no_fault is =
 
 out_of_memory_ends : (config : Config) (h : List BoardEntry) (c : Control) (id : List ℕ) (ask : OfferAsk) → length (live h) ≤ config.max_sessions
     → plan.offer_fault (rounds_of_call h (find_call h id)) ask ≡ None → (out_of_memory : Bool)
-    → answer_of c ≡ cond out_of_memory (record { bytes = reply_datagram config c.cookie c.body (Fault E17); act = act.OutOfMemory }) (spelled config c.cookie c.body (offer_to config h c.given id ask (find_call h id)))
+    → answered_in c ≡ cond out_of_memory (record { bytes = reply_datagram config c.cookie c.body (Fault E17); act = act.OutOfMemory }) (spelled config c.cookie c.body (offer_to config h c.given id ask (find_call h id)))
     → OfferEnds config h c id ask
 out_of_memory_ends config h c id ask bound no_fault true is = no_memory (ap act_of is)
 out_of_memory_ends config h c id ask bound no_fault false is = found_ends config h c id ask bound (find_call h id) refl no_fault is
 
 pub offer_ends : (config : Config) (h : List BoardEntry) (now : ℕ) (c : Control) (id : List ℕ) (ask : OfferAsk) → IsFitting config h → FitsControl config h now c
-    → kept h c.source c.cookie now ≡ None → asked config c.too_long c.pairs ≡ Ok (said.Offer id ask.from_tag ask.sdp ask.options) → ask.chosen ≡ c.chosen
+    → kept_reply h c.source c.cookie now ≡ None → asked config c.too_long c.pairs ≡ Ok (said.Offer id ask.from_tag ask.sdp ask.options) → ask.chosen ≡ c.chosen
     → plan.offer_fault (rounds_of_call h (find_call h id)) ask ≡ None → OfferEnds config h c id ask
 offer_ends config h now c id ask old fits none is_asked heard no_fault =
     let due = λ (ch : List (Option CryptoLine)). spelled config c.cookie c.body (offer_to config h c.given id (offer_ask ask.from_tag ask.sdp ask.options ch) (find_call h id)) in

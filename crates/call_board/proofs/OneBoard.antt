@@ -5,11 +5,11 @@ use Rattle.histories.specs.Words.{has}
 use Rattle.offer_answer.specs.Rounds.{Demand}
 use Rattle.call_board.specs.declared.board.Board.{Board}
 use Rattle.call_board.specs.Acts.{Call, Control, BoardEvent, Turn, Tick, Stop, BoardEntry}
-use Rattle.call_board.specs.Asked.{asked}
+use Rattle.call_board.specs.Requests.{asked}
 use Rattle.call_board.specs.Fits.{GivesFor, FitsControl, FitsAt, IsFitting}
-use Rattle.call_board.specs.Views.{view_of, last_moment}
-use Rattle.call_board.specs.Boards.{Shows, BoardFor}
-use Rattle.call_board.specs.Whole.{IsMomentOf, after}
+use Rattle.call_board.specs.Views.{view_of, board_last_moment}
+use Rattle.call_board.specs.Boards.{BoardMatches, BoardFor}
+use Rattle.call_board.specs.Whole.{IsMomentOf, view_after}
 use Rattle.call_board.specs.Futures.{OneBoardLives, OneBoardAnswers, OneBoardDemands, OneBoardFits, OneBoardGoesOn}
 use Rattle.call_board.proofs.Entries.{whole, entry_stands}
 use Rattle.call_board.proofs.AlikeViews.{AlikeViews, views_of_one, shows_alike, after_alike}
@@ -48,7 +48,7 @@ event_fits config g h now (Stop calls) old s fits = fits ∙ s.live_is
 pub one_board_fits : OneBoardFits
 one_board_fits config board g h e old a b fits = event_fits config g h e.moment e.event old (of_one config board g h a b) fits
 
-moment_of : (g h : List BoardEntry) (moment : ℕ) (event : BoardEvent) → last_moment g ≡ last_moment h → IsMomentOf g moment event → IsMomentOf h moment event
+moment_of : (g h : List BoardEntry) (moment : ℕ) (event : BoardEvent) → board_last_moment g ≡ board_last_moment h → IsMomentOf g moment event → IsMomentOf h moment event
 moment_of g h moment (Turn c) same late = subst (λ m. m ≤ moment) same late
 moment_of g h moment (Tick calls) same late = subst (λ m. m ≤ moment) same late
 moment_of g h moment (Stop calls) same late = late ∙ same
@@ -56,6 +56,6 @@ moment_of g h moment (Stop calls) same late = late ∙ same
 pub one_board_goes_on : OneBoardGoesOn
 one_board_goes_on config old new g h e first second a b fits timely same shown =
     let s : AlikeViews config (view_of config g) (view_of config h) = views_of_one config old (view_of config g) (view_of config h) a b in
-    let now : Shows config new (after g e (view_of config g)) = subst (Shows config new) (whole config g e first fits timely) shown in
+    let now : BoardMatches config new (view_after g e (view_of config g)) = subst (BoardMatches config new) (whole config g e first fits timely) shown in
     entry_stands config new h e second (one_board_fits config old g h e first a b fits) (moment_of g h e.moment e.event s.moment_is timely)
-    (shows_alike config new (after g e (view_of config g)) (after h e (view_of config h)) (after_alike config new g h e (view_of config g) (view_of config h) s same now) now)
+    (shows_alike config new (view_after g e (view_of config g)) (view_after h e (view_of config h)) (after_alike config new g h e (view_of config g) (view_of config h) s same now) now)

@@ -14,10 +14,10 @@ use Rattle.call_board.specs.declared.board.Board.{Board}
 use Rattle.call_board.specs.Acts as act
 use Rattle.call_board.specs.Acts.{Call, Offer, Act, Control, Turn, BoardEntry, act}
 use Rattle.call_board.specs.Calls.{ended_by}
-use Rattle.call_board.specs.Pairs.{held, legs_of_act, closes_leg, closes_leg_act, closed_of, leased, leased_by_act, free, next_generation}
+use Rattle.call_board.specs.Pairs.{held, legs_of_act, closes_leg, closes_leg_act, closed_of, all_leased, leased_by_act, free, next_generation}
 use Rattle.call_board.specs.Fits.{FitsBoard, IsFitting}
 use Rattle.call_board.specs.Views.{View, view_of, times_leased, with_leases, with_returned, without_call}
-use Rattle.call_board.specs.Boards.{Shows, IsOut, AreOut, lease_at, pairs_in}
+use Rattle.call_board.specs.Boards.{BoardMatches, IsOut, AreOut, lease_at, pairs_in}
 use Rattle.call_board.specs.Whole.{with_closed, with_ended}
 use Rattle.call_board.specs.Returns.{leg_lease, MayReturn, MayReturnAll}
 use Rattle.call_board.proofs.Once.{Once, once_filtered}
@@ -34,7 +34,7 @@ use Rattle.call_board.proofs.Entries.{ended_are}
 
 -- From what the board keeps to the board.
 
-out_by : (config : Config) (board : Board) (v : View) (lease : Lease) → Shows config board v → MayReturn config v lease → IsOut board.pool lease
+out_by : (config : Config) (board : Board) (v : View) (lease : Lease) → BoardMatches config board v → MayReturn config v lease → IsOut board.pool lease
 out_by config board v lease s may = record {
   of_pool = let count = s.pool_for.count_is in let below = may.of_range in omega (arith, count, below);
   not_free = ap (λ (ps : List ℕ). has ps lease.pair) s.pool_for.free_is ∙ may.not_free;
@@ -42,7 +42,7 @@ out_by config board v lease s may = record {
 }
 
 -- leases that may be given back are out
-pub returns_out : (config : Config) (board : Board) (v : View) (leases : List Lease) → Shows config board v → MayReturnAll config v leases → AreOut board.pool leases
+pub returns_out : (config : Config) (board : Board) (v : View) (leases : List Lease) → BoardMatches config board v → MayReturnAll config v leases → AreOut board.pool leases
 returns_out config board v [] s may = tt
 returns_out config board v (lease ∷ leases) s may = (out_by config board v lease s may.0, may.1, returns_out config board v leases s may.2)
 
@@ -68,7 +68,7 @@ abbrev pair_of : Holder → ℕ
 pair_of leg = leg.pair
 
 count_step : (h : List BoardEntry) (e : BoardEntry) (pair : ℕ) → times_leased (e ∷ h) pair ≡ count_by (λ q. q == pair) (leased_by_act (act e)) + times_leased h pair
-count_step h e pair = let both = sum_by-append (λ (q : ℕ). cond (q == pair) 1 0) (leased_by_act (act e)) (leased h) in omega (arith, both)
+count_step h e pair = let both = sum_by-append (λ (q : ℕ). cond (q == pair) 1 0) (leased_by_act (act e)) (all_leased h) in omega (arith, both)
 
 counted : (p : ℕ) (xs : List ℕ) → Once xs → In p xs → count_by (λ q. q == p) xs ≡ 1
 counted p xs once i = let most = once_count p xs once in let least = present p xs i in omega (arith, most, least)

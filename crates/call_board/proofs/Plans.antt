@@ -12,7 +12,7 @@ use Rattle.histories.specs.Words.{In, has}
 use Rattle.histories.proofs.Lists.{it_has, has_it}
 use Rattle.offer_answer.specs.Rounds.{Round, OfferAsk, AnswerAsk, Demand}
 use Rattle.offer_answer.specs.Plan as plan
-use Rattle.offer_answer.specs.Offering.{PlanFor, pair_count, leg_asked}
+use Rattle.offer_answer.specs.Offers.{PlanFor, pairs_demanded, leg_asked}
 use Rattle.offer_answer.specs.Plans.{OfferAnswered, AnswerAnswered}
 use Rattle.offer_answer.specs.declared.plan.Plan.{Plan}
 use Rattle.offer_answer.specs.declared.fault.OaFault.{OaFault}
@@ -21,14 +21,14 @@ use Rattle.call_board.specs.declared.board.Board.{Board}
 use Rattle.call_board.specs.declared.fault.BoardFault.TheVariants as faults
 use Rattle.call_board.specs.Calls.{lowest_but}
 use Rattle.call_board.specs.Views.{View, CallView}
-use Rattle.call_board.specs.Boards.{Shows}
-use Rattle.call_board.specs.Planned.{board_fault, code_of, shortage, refusal, fault_or}
+use Rattle.call_board.specs.Boards.{BoardMatches}
+use Rattle.call_board.specs.Plans.{board_fault, board_code, shortage, refusal, fault_or}
 use Rattle.call_board.proofs.Lowest.{lowest_is, lowest_bound}
 use Rattle.call_board.proofs.Shown.{calls_count}
 
 -- a fault of the plan is the answer
 pub refused_by : (config : Config) (v : View) (begins : Bool) (rounds : List Round) (ask : OfferAsk) (fault : OaFault) → OfferAnswered config rounds ask (Err fault) →
-    board_fault fault ≢ faults.OutOfMemory → refusal config v begins rounds ask ≡ code_of (board_fault fault)
+    board_fault fault ≢ faults.OutOfMemory → refusal config v begins rounds ask ≡ board_code (board_fault fault)
 refused_by config v begins rounds ask oa.UnknownTag answered n =
     ap (λ (o : Option ErrorCode). fault_or o (shortage config v begins rounds ask)) (answered (λ e. let f : oa.UnknownTag ≡ oa.OutOfMemory = e in cc))
 refused_by config v begins rounds ask oa.OtherSide answered n =
@@ -48,23 +48,23 @@ refusal_is config v begins rounds ask full short fine is_full is_short =
     ∙ ap (λ (b : Bool). if b then Some E14 else if nat_lt (length v.free) (length (plan.demand rounds ask).pairs) then Some E13 else None) is_full
     ∙ ap (λ (b : Bool). if full then Some E14 else if b then Some E13 else None) is_short
 
-pairs_asked : (p : Plan) (asked : Demand) → PlanFor p asked → pair_count p ≡ length asked.pairs
+pairs_asked : (p : Plan) (asked : Demand) → PlanFor p asked → pairs_demanded p ≡ length asked.pairs
 pairs_asked p asked for = sym (length-map p.legs.items leg_asked) ∙ ap length for.pairs_are
 
 -- the board's tests, and what they say of what it keeps
-is_full_by : (config : Config) (board : Board) (v : View) (b : Bool) → Shows config board v → nat_le board.config.max_sessions (length board.calls.list) ≡ b →
+is_full_by : (config : Config) (board : Board) (v : View) (b : Bool) → BoardMatches config board v → nat_le board.config.max_sessions (length board.calls.list) ≡ b →
     nat_le config.max_sessions (length v.calls) ≡ b
 is_full_by config board v b s e =
     sym (ap (λ (c : Config). nat_le c.max_sessions (length v.calls)) s.config_is)
     ∙ sym (ap (λ n. nat_le board.config.max_sessions n) (calls_count config board.calls.list v.calls s.calls_for)) ∙ e
 
-lacks_by : (config : Config) (board : Board) (v : View) (p : Plan) (asked : Demand) (b : Bool) → Shows config board v → PlanFor p asked →
-    nat_lt (length board.pool.free) (pair_count p) ≡ b → nat_lt (length v.free) (length asked.pairs) ≡ b
+lacks_by : (config : Config) (board : Board) (v : View) (p : Plan) (asked : Demand) (b : Bool) → BoardMatches config board v → PlanFor p asked →
+    nat_lt (length board.pool.free) (pairs_demanded p) ≡ b → nat_lt (length v.free) (length asked.pairs) ≡ b
 lacks_by config board v p asked b s for e =
     sym (ap (λ (pairs : List ℕ). nat_lt (length pairs) (length asked.pairs)) s.pool_for.free_is)
     ∙ sym (ap (λ n. nat_lt (length board.pool.free) n) (pairs_asked p asked for)) ∙ e
 
-pub answers_full : (config : Config) (board : Board) (v : View) (rounds : List Round) (ask : OfferAsk) → Shows config board v → plan.offer_fault rounds ask ≡ None →
+pub answers_full : (config : Config) (board : Board) (v : View) (rounds : List Round) (ask : OfferAsk) → BoardMatches config board v → plan.offer_fault rounds ask ≡ None →
     nat_le board.config.max_sessions (length board.calls.list) ≡ true → refusal config v true rounds ask ≡ Some E14
 answers_full config board v rounds ask s fine full =
     refusal_is config v true rounds ask true (nat_lt (length v.free) (length (plan.demand rounds ask).pairs)) fine (is_full_by config board v true s full) refl
@@ -74,10 +74,10 @@ both_false false full o = refl
 both_false true full (inl e) = absurd (let f = e in cc)
 both_false true full (inr e) = e
 
-pub answers_short : (config : Config) (board : Board) (v : View) (begins : Bool) (rounds : List Round) (ask : OfferAsk) (p : Plan) → Shows config board v →
+pub answers_short : (config : Config) (board : Board) (v : View) (begins : Bool) (rounds : List Round) (ask : OfferAsk) (p : Plan) → BoardMatches config board v →
     (plan.offer_fault rounds ask ≡ None) × PlanFor p (plan.demand rounds ask) →
     (begins ≡ false) ⊎ (nat_le board.config.max_sessions (length board.calls.list) ≡ false) →
-    nat_lt (length board.pool.free) (pair_count p) ≡ true → refusal config v begins rounds ask ≡ Some E13
+    nat_lt (length board.pool.free) (pairs_demanded p) ≡ true → refusal config v begins rounds ask ≡ Some E13
 answers_short config board v begins rounds ask p s made room short =
     refusal_is config v begins rounds ask false true made.0
     (both_false begins (nat_le config.max_sessions (length v.calls)) (room_by room)) (lacks_by config board v p (plan.demand rounds ask) true s made.1 short)
@@ -86,10 +86,10 @@ answers_short config board v begins rounds ask p s made room short =
     room_by (inl e) = inl e
     room_by (inr e) = inr (is_full_by config board v false s e)
 
-pub answers_none : (config : Config) (board : Board) (v : View) (begins : Bool) (rounds : List Round) (ask : OfferAsk) (p : Plan) → Shows config board v →
+pub answers_none : (config : Config) (board : Board) (v : View) (begins : Bool) (rounds : List Round) (ask : OfferAsk) (p : Plan) → BoardMatches config board v →
     (plan.offer_fault rounds ask ≡ None) × PlanFor p (plan.demand rounds ask) →
     (begins ≡ false) ⊎ (nat_le board.config.max_sessions (length board.calls.list) ≡ false) →
-    nat_lt (length board.pool.free) (pair_count p) ≡ false → refusal config v begins rounds ask ≡ None
+    nat_lt (length board.pool.free) (pairs_demanded p) ≡ false → refusal config v begins rounds ask ≡ None
 answers_none config board v begins rounds ask p s made room short =
     refusal_is config v begins rounds ask false false made.0
     (both_false begins (nat_le config.max_sessions (length v.calls)) (room_by room)) (lacks_by config board v p (plan.demand rounds ask) false s made.1 short)
@@ -122,13 +122,13 @@ lowest_place taken cells max count are room =
     (λ lt. ap not (are low true lt ∙ ap (has cells) back ∙ free_here (has cells (lowest_but cells)) cells (lowest_but cells) refl l.fresh)) in
     omega (arith, at, back)
 
-not_full : (config : Config) (board : Board) (v : View) → Shows config board v → nat_le board.config.max_sessions (length board.calls.list) ≡ false → length v.calls < config.max_sessions
+not_full : (config : Config) (board : Board) (v : View) → BoardMatches config board v → nat_le board.config.max_sessions (length board.calls.list) ≡ false → length v.calls < config.max_sessions
 not_full config board v s e = below config.max_sessions (length v.calls) (is_full_by config board v false s e)
   where
     below : (m n : ℕ) → nat_le m n ≡ false → n < m
     below m n e = grind (arith, nat_tests)
 
-pub has_session : (config : Config) (board : Board) (v : View) → Shows config board v → nat_le board.config.max_sessions (length board.calls.list) ≡ false → length v.calls < config.max_sessions
+pub has_session : (config : Config) (board : Board) (v : View) → BoardMatches config board v → nat_le board.config.max_sessions (length board.calls.list) ≡ false → length v.calls < config.max_sessions
 has_session = not_full
 
 pub some_if : (b : Bool) (n : ℕ) → b ≡ true → (if b then Some n else None) ≡ Some n
@@ -159,7 +159,7 @@ lowest_free taken cells max count are room =
 
 -- a fault of an answer's plan is the answer
 pub answer_refused_by : (rounds : List Round) (ask : AnswerAsk) (lines : List (List ℕ)) (config : Config) (fault : OaFault) → AnswerAnswered config rounds ask lines (Err fault) →
-    board_fault fault ≢ faults.OutOfMemory → plan.answer_fault rounds ask ≡ code_of (board_fault fault)
+    board_fault fault ≢ faults.OutOfMemory → plan.answer_fault rounds ask ≡ board_code (board_fault fault)
 answer_refused_by rounds ask lines config oa.UnknownTag answered n = answered (λ e. let f : oa.UnknownTag ≡ oa.OutOfMemory = e in cc)
 answer_refused_by rounds ask lines config oa.OtherSide answered n = answered (λ e. let f : oa.OtherSide ≡ oa.OutOfMemory = e in cc)
 answer_refused_by rounds ask lines config oa.MediaCount answered n = answered (λ e. let f : oa.MediaCount ≡ oa.OutOfMemory = e in cc)

@@ -9,15 +9,15 @@ use Rattle.port_pool.specs.declared.holder.Holder.{Holder}
 use Rattle.call_board.specs.Acts as act
 use Rattle.call_board.specs.Acts.{Act, Call, Control, Turn, BoardEvent, BoardEntry}
 use Rattle.call_board.specs.Calls.{begun, has_ended, live, rounds}
-use Rattle.call_board.specs.Pairs.{held, leased, returned, free, drawn}
-use Rattle.call_board.specs.Kept.{kept}
+use Rattle.call_board.specs.Pairs.{held, all_leased, returned, free, drawn}
+use Rattle.call_board.specs.KeptReplies.{kept_reply}
 use Rattle.call_board.specs.Answers.{Answered, answering_unless}
-use Rattle.call_board.specs.Fits.{FitsControl, answer_of}
+use Rattle.call_board.specs.Fits.{FitsControl, answered_in}
 
-pub kept_repeats : (config : Config) (h : List BoardEntry) (now : ℕ) (c : Control) (reply : List ℕ) → FitsControl config h now c → kept h c.source c.cookie now ≡ Some reply
+pub kept_repeats : (config : Config) (h : List BoardEntry) (now : ℕ) (c : Control) (reply : List ℕ) → FitsControl config h now c → kept_reply h c.source c.cookie now ≡ Some reply
     → (c.act ≡ act.Repeated) × (c.reply ≡ reply)
 kept_repeats config h now c reply fits is_kept =
-    let answer : answer_of c ≡ record { bytes = reply; act = act.Repeated } = fits.answers ∙ ap (answering_unless config h c) is_kept in
+    let answer : answered_in c ≡ record { bytes = reply; act = act.Repeated } = fits.answers ∙ ap (answering_unless config h c) is_kept in
     (ap (λ (a : Answered). a.act) answer, ap (λ (a : Answered). a.bytes) answer)
 
 -- the history says the same with the entry as without it
@@ -27,7 +27,7 @@ pub record ChangesNothing (config : Config) (e : BoardEntry) (h : List BoardEntr
   pub same_held : held (e ∷ h) ≡ held h
   pub same_free : free config (e ∷ h) ≡ free config h
   pub same_drawn : drawn (e ∷ h) ≡ drawn h
-  pub same_kept : (source : Addr) (cookie : List ℕ) (now : ℕ) → kept (e ∷ h) source cookie now ≡ kept h source cookie now
+  pub same_kept : (source : Addr) (cookie : List ℕ) (now : ℕ) → kept_reply (e ∷ h) source cookie now ≡ kept_reply h source cookie now
 
 filter_all : {A : Type 0} (xs : List A) → filter (λ x. true) xs ≡ xs
 filter_all [] = refl
@@ -45,7 +45,7 @@ returned_alike moment c h = append-nil (returned h ++ []) ∙ append-nil (return
 
 abbrev free_by : Config → List BoardEntry → List Holder → List ℕ → List ℕ
 free_by config h holders given_back =
-    filter (λ p. not (has (leased h) p)) (numbers 0 (pair_count config)) ++ filter (λ p. not (has (map (λ (leg : Holder). leg.pair) holders) p)) (last_once given_back)
+    filter (λ p. not (has (all_leased h) p)) (numbers 0 (pair_count config)) ++ filter (λ p. not (has (map (λ (leg : Holder). leg.pair) holders) p)) (last_once given_back)
 
 pub repeat_alike : (config : Config) (moment : ℕ) (c : Control) (h : List BoardEntry) → ChangesNothing config (repeat moment c) h
 repeat_alike config moment c h = record {

@@ -41,8 +41,8 @@ offered = Offered (record { from_tag = codes "a"; sdp = text; options = no_optio
 abbrev answered : List Round
 answered = Answered (record { from_tag = codes "a"; to_tag = codes "B"; sdp = text; options = no_options; chosen = None ∷ [] }) ∷ offered
 
-abbrev told : Side → ℕ → LegReport
-told side port = record {
+abbrev log : Side → ℕ → LegReport
+log side port = record {
   section = 0;
   side = side;
   port = port;

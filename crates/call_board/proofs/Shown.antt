@@ -11,8 +11,8 @@ use Rattle.offer_answer.specs.Dialogs.{DialogFor}
 use Rattle.offer_answer.specs.declared.dialog.Dialog.{Dialog}
 use Rattle.call_board.proofs.Placed.{any-position}
 use Rattle.call_board.specs.declared.live_call.LiveCall.{LiveCall}
-use Rattle.call_board.specs.Views.{CallView, View, is_of_id, is_numbered, call_numbered}
-use Rattle.call_board.specs.Boards.{CallFor, CallsFor, ShowsCall}
+use Rattle.call_board.specs.Views.{CallView, View, is_of_id, is_call_numbered, call_numbered}
+use Rattle.call_board.specs.Boards.{CallFor, CallsFor, CallMatches}
 
 pub calls_count : (config : Config) (calls : List LiveCall) (cs : List CallView) → CallsFor config calls cs → length calls ≡ length cs
 calls_count config [] [] s = refl
@@ -55,7 +55,7 @@ pub record Asks (config : Config) (p : LiveCall → Bool) (q : CallView → Bool
 pub asks_id : (config : Config) (id : List ℕ) → Asks config (λ call. bytes_eq call.id.list id) (is_of_id id)
 asks_id config id = record { alike = λ call c for_it. ap (λ text. bytes_eq text id) for_it.id_is }
 
-pub asks_number : (config : Config) (number : ℕ) → Asks config (λ call. call.number == number) (is_numbered number)
+pub asks_number : (config : Config) (number : ℕ) → Asks config (λ call. call.number == number) (is_call_numbered number)
 asks_number config number = record { alike = λ call c for_it. ap (λ n. n == number) for_it.number_is }
 
 -- the first call that passes
@@ -127,16 +127,16 @@ live_has_place calls number live none =
 
 -- what is kept of a live call, in its place
 pub shown_call : (config : Config) (v : View) (calls : List LiveCall) (number i : ℕ) (d : LiveCall) → CallsFor config calls v.calls →
-    position (λ (call : LiveCall). call.number == number) calls ≡ Some i → ShowsCall config v number (get_or calls i d)
+    position (λ (call : LiveCall). call.number == number) calls ≡ Some i → CallMatches config v number (get_or calls i d)
 shown_call config v calls number i d s e =
-    let f = call_at_place config (λ (call : LiveCall). call.number == number) (is_numbered number) calls v.calls i d (asks_number config number) s e in
+    let f = call_at_place config (λ (call : LiveCall). call.number == number) (is_call_numbered number) calls v.calls i d (asks_number config number) s e in
     record { of = f.of; found = f.found; call_for = f.call_for }
 
 pub same_one : {A : Type 0} {o : Option A} {x y : A} → o ≡ Some x → o ≡ Some y → x ≡ y
 same_one {A} {o} {x} {y} e f = let q : Some x ≡ Some y = sym e ∙ f in cc
 
 -- the call that is shown is that of this number
-pub shown_is : (config : Config) (v : View) (number : ℕ) (call : LiveCall) (c : CallView) → ShowsCall config v number call → call_numbered v number ≡ Some c → CallFor config call c
+pub shown_is : (config : Config) (v : View) (number : ℕ) (call : LiveCall) (c : CallView) → CallMatches config v number call → call_numbered v number ≡ Some c → CallFor config call c
 shown_is config v number call c shown e = subst (λ (of : CallView). CallFor config call of) (same_one shown.found e) shown.call_for
 
 -- a dialog that a box lends stands for what the box's does

@@ -4,8 +4,8 @@ use Rattle.std.specs.Prelude.{nat_le, ◌&&◌}
 use Rattle.std.proofs.lemmas.Bool.Decides.{nat_tests}
 use Rattle.std.specs.List.{list_any}
 use Rattle.relay_outside.specs.declared.settings.Config.{Config}
-use Rattle.ng_command.specs.Said as said
-use Rattle.ng_command.specs.Said.{Said}
+use Rattle.ng_command.specs.Meanings as said
+use Rattle.ng_command.specs.Meanings.{Said}
 use Rattle.ng_reply.specs.declared.code.ErrorCode.{ErrorCode}
 use Rattle.ng_reply.specs.declared.code.ErrorCode.TheVariants.{E9, E10, E13, E14, E15, E16, E17}
 use Rattle.histories.specs.Words.{In, here, there}
@@ -15,12 +15,12 @@ use Rattle.offer_answer.specs.Plan as plan
 use Rattle.call_board.specs.Acts as act
 use Rattle.call_board.specs.Acts.{Call, Lease, Offer, Answer, Act, Given, Control, BoardEvent, Turn, Tick, Stop, BoardEntry, act, act_in}
 use Rattle.call_board.specs.Calls.{live, ended_by, ended_in, ended_by_act, find_call, new_call, rounds, rounds_of_call}
-use Rattle.call_board.specs.Pairs.{free_in, is_short, new_legs, new_keys, drawn}
-use Rattle.call_board.specs.Kept.{kept}
-use Rattle.call_board.specs.Asked.{asked}
+use Rattle.call_board.specs.Pairs.{free_in, is_short, leased_new_legs, drawn_keys_from, drawn}
+use Rattle.call_board.specs.KeptReplies.{kept_reply}
+use Rattle.call_board.specs.Requests.{asked}
 use Rattle.call_board.specs.Replies.{Fault, Done, reply_datagram}
-use Rattle.call_board.specs.Answers.{Answering, failing, offering, undoing, leased_pairs, offer_ask, answer_ask, offer_leased, offer_unless, offer_to, answer_unless, answer_to, delete_of, missing, names_side, query_of, answering_command, answering_asked, answering, answering_unless, spelled, Answered}
-use Rattle.call_board.specs.Fits.{FitsBoard, FitsAt, FitsControl, GivesFor, GivesUndone, demanded, demanded_by, answer_of}
+use Rattle.call_board.specs.Answers.{Answering, failing, offering, undoing, leased_pairs, offer_ask, answer_ask, offer_leased, offer_unless, offer_to, answer_unless, answer_to, delete_of, nothing_to_end, names_side, query_of, answering_command, answering_asked, answering, answering_unless, spelled, Answered}
+use Rattle.call_board.specs.Fits.{FitsBoard, FitsAt, FitsControl, GivesFor, GivesUndone, demanded, demanded_by, answered_in}
 use Rattle.call_board.proofs.Once.{is_false}
 use Rattle.call_board.proofs.Told.{Tells, IsTurn, IsCallOf, begins, goes_on, IsOffer, IsAnswer, of_ports, of_keys}
 
@@ -49,8 +49,8 @@ leased_case config h given ask of new before pairs failed drew =
       of = of;
       begins = new;
       ask = ask;
-      legs = new_legs h of pairs (plan.demand before ask).pairs;
-      keys = new_keys (length (drawn h)) given.draws (plan.demand before ask).keys;
+      legs = leased_new_legs h of pairs (plan.demand before ask).pairs;
+      keys = drawn_keys_from (length (drawn h)) given.draws (plan.demand before ask).keys;
       dropped = (plan.demand before ask).dropped;
     })))
 
@@ -159,14 +159,14 @@ answer_case : (config : Config) (h : List BoardEntry) (now : ℕ) (c : Control) 
 answer_case config h now c id ask None found is = turn_is now c _ is
 answer_case config h now c id ask (Some of) found is = answered_told config h now c id ask of found (plan.answer_fault (rounds h of.number) ask) is
 
-missing_told : (config : Config) (h : List BoardEntry) (now : ℕ) (c : Control) (code : ErrorCode) (fatal : Bool) → c.act ≡ (missing fatal code).act
-    → Tells config h (entry now c) (missing fatal code).act
+missing_told : (config : Config) (h : List BoardEntry) (now : ℕ) (c : Control) (code : ErrorCode) (fatal : Bool) → c.act ≡ (nothing_to_end fatal code).act
+    → Tells config h (entry now c) (nothing_to_end fatal code).act
 missing_told config h now c code true is = turn_is now c _ is
 missing_told config h now c code false is = tt
 
 named_told : (config : Config) (h : List BoardEntry) (now : ℕ) (c : Control) (of : Call) (fatal : Bool) → In of (live h) → (names : Bool)
-    → c.act ≡ (cond names (deleting of) (missing fatal E10)).act
-    → Tells config h (entry now c) (cond names (deleting of) (missing fatal E10)).act
+    → c.act ≡ (cond names (deleting of) (nothing_to_end fatal E10)).act
+    → Tells config h (entry now c) (cond names (deleting of) (nothing_to_end fatal E10)).act
 named_told config h now c of fatal is_live true is = record { turn = turn_is now c _ is; is_live = is_live }
 named_told config h now c of fatal is_live false is = missing_told config h now c E10 fatal is
 
@@ -214,7 +214,7 @@ out_of_memory_act config h c true = refl
 out_of_memory_act config h c false = refl
 
 kept_case : (config : Config) (h : List BoardEntry) (now : ℕ) (c : Control) → GivesFor (demanded config h c) c.given c.act
-    → (o : Option (List ℕ)) → kept h c.source c.cookie now ≡ o → answer_of c ≡ answering_unless config h c o → Tells config h (entry now c) (answering_unless config h c o).act
+    → (o : Option (List ℕ)) → kept_reply h c.source c.cookie now ≡ o → answered_in c ≡ answering_unless config h c o → Tells config h (entry now c) (answering_unless config h c o).act
 kept_case config h now c gives (Some bytes) is_kept is =
     record { turn = turn_is now c _ (ap (λ (a : Answered). a.act) is); is_kept = is_kept ∙ ap Some (sym (ap (λ (a : Answered). a.bytes) is)) }
 kept_case config h now c gives None is_kept is =
@@ -224,7 +224,7 @@ kept_case config h now c gives None is_kept is =
 control_told : (config : Config) (h : List BoardEntry) (now : ℕ) (c : Control) → FitsControl config h now c → Tells config h (entry now c) c.act
 control_told config h now c fits =
     subst (Tells config h (entry now c)) (sym (ap (λ (a : Answered). a.act) fits.answers))
-    (kept_case config h now c fits.gives (kept h c.source c.cookie now) refl fits.answers)
+    (kept_case config h now c fits.gives (kept_reply h c.source c.cookie now) refl fits.answers)
 
 event_told : (config : Config) (h : List BoardEntry) (now : ℕ) (event : BoardEvent) → FitsAt config h now event → Tells config h (record { moment = now; event = event }) (act_in event)
 event_told config h now (Turn c) fits = control_told config h now c fits
@@ -244,16 +244,16 @@ pub answer_told : (config : Config) (h : List BoardEntry) (e : BoardEntry) (a : 
 answer_told config h e a fits is = tells_of config h e (act.Answered a) fits is
 
 ended_by_turn : (config : Config) (h : List BoardEntry) (e : BoardEntry) (c : Call) (a : Act) → Tells config h e a → In c (ended_by_act a) → In c (live h)
-ended_by_turn config h e c (act.Deleted of) told (here same) = subst (λ x. In x (live h)) (sym same) told.is_live
-ended_by_turn config h e c (act.Deleted of) told (there i) = elim i [ ]
-ended_by_turn config h e c act.Repeated told i = elim i [ ]
-ended_by_turn config h e c act.OutOfMemory told i = elim i [ ]
-ended_by_turn config h e c (act.Failed code) told i = elim i [ ]
-ended_by_turn config h e c (act.Undone code leases draws) told i = elim i [ ]
-ended_by_turn config h e c (act.Offered o) told i = elim i [ ]
-ended_by_turn config h e c (act.Answered a) told i = elim i [ ]
-ended_by_turn config h e c (act.Queried of) told i = elim i [ ]
-ended_by_turn config h e c act.Told told i = elim i [ ]
+ended_by_turn config h e c (act.Deleted of) shown (here same) = subst (λ x. In x (live h)) (sym same) shown.is_live
+ended_by_turn config h e c (act.Deleted of) shown (there i) = elim i [ ]
+ended_by_turn config h e c act.Repeated shown i = elim i [ ]
+ended_by_turn config h e c act.OutOfMemory shown i = elim i [ ]
+ended_by_turn config h e c (act.Failed code) shown i = elim i [ ]
+ended_by_turn config h e c (act.Undone code leases draws) shown i = elim i [ ]
+ended_by_turn config h e c (act.Offered o) shown i = elim i [ ]
+ended_by_turn config h e c (act.Answered a) shown i = elim i [ ]
+ended_by_turn config h e c (act.Queried of) shown i = elim i [ ]
+ended_by_turn config h e c act.Told shown i = elim i [ ]
 
 ended_event : (config : Config) (h : List BoardEntry) (now : ℕ) (c : Call) (event : BoardEvent) → FitsAt config h now event → In c (ended_in event) → In c (live h)
 ended_event config h now c (Turn t) fits i = ended_by_turn config h (entry now t) c t.act (control_told config h now t fits) i

@@ -10,8 +10,8 @@ use Rattle.offer_answer.specs.Plan as plan
 use Rattle.call_board.specs.Acts as act
 use Rattle.call_board.specs.Acts.{Call, Lease, Offer, Answer, Act, Control, Turn, BoardEntry}
 use Rattle.call_board.specs.Calls.{live, find_call, new_call, rounds, rounds_of_call}
-use Rattle.call_board.specs.Pairs.{free_in, fronts, is_short, lease_of, new_legs, new_keys, drawn}
-use Rattle.call_board.specs.Kept.{kept}
+use Rattle.call_board.specs.Pairs.{free_in, fronts, is_short, next_lease, leased_new_legs, drawn_keys_from, drawn}
+use Rattle.call_board.specs.KeptReplies.{kept_reply}
 
 -- the entry is the turn of a datagram that did this
 pub record IsTurn (e : BoardEntry) (a : Act) : Type 0 where
@@ -31,11 +31,11 @@ pub record IsOffer (config : Config) (h : List BoardEntry) (e : BoardEntry) (o :
   pub demand : Demand
   pub demand_is : demand ≡ plan.demand (rounds_of_call h (find_call h id)) o.ask
   pub enough : is_short (free_in config h) demand.pairs ≡ false
-  pub legs_are : o.legs ≡ new_legs h o.of (fronts (free_in config h) demand.pairs) demand.pairs
+  pub legs_are : o.legs ≡ leased_new_legs h o.of (fronts (free_in config h) demand.pairs) demand.pairs
   pub draws : List (List ℕ)
   pub drawn_are : draws ≡ turn.control.given.draws
   pub as_many : length draws ≡ length demand.keys
-  pub keys_are : o.keys ≡ new_keys (length (drawn h)) draws demand.keys
+  pub keys_are : o.keys ≡ drawn_keys_from (length (drawn h)) draws demand.keys
   pub dropped_are : o.dropped ≡ demand.dropped
 
 pub record IsAnswer (h : List BoardEntry) (e : BoardEntry) (a : Answer) : Type 0 where
@@ -64,12 +64,12 @@ pub record IsUndone (config : Config) (h : List BoardEntry) (e : BoardEntry) (co
   pub id : List ℕ
   pub demand : Demand
   pub enough : is_short (free_in config h) demand.pairs ≡ false
-  pub leases_are : leases ≡ map (lease_of h) (fronts (free_in config h) demand.pairs)
+  pub leases_are : leases ≡ map (next_lease h) (fronts (free_in config h) demand.pairs)
   pub failure : IsFailure turn.control code draws
 
 pub record IsRepeat (h : List BoardEntry) (e : BoardEntry) : Type 0 where
   pub turn : IsTurn e act.Repeated
-  pub is_kept : kept h turn.control.source turn.control.cookie e.moment ≡ Some turn.control.reply
+  pub is_kept : kept_reply h turn.control.source turn.control.cookie e.moment ≡ Some turn.control.reply
 
 -- what an act of an entry after that history tells
 abbrev pub Tells : Config → List BoardEntry → BoardEntry → Act → Type 0

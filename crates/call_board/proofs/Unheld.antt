@@ -7,7 +7,7 @@ use Rattle.port_pool.specs.Ports.{pair_count}
 use Rattle.port_pool.specs.declared.holder.Holder.{Holder}
 use Rattle.call_board.specs.Acts as act
 use Rattle.call_board.specs.Acts.{Offer, Act, BoardEntry, act}
-use Rattle.call_board.specs.Pairs.{held, legs_of_act, closes_leg, closed_of, closed, calls_in, leased, leased_by_act, returned, undone_pairs, free}
+use Rattle.call_board.specs.Pairs.{held, legs_of_act, closes_leg, closed_of, closed, calls_in, all_leased, leased_by_act, returned, undone_pairs, free}
 use Rattle.call_board.specs.Fits.{IsFitting}
 use Rattle.call_board.proofs.Once.{numbers_in}
 use Rattle.call_board.proofs.Held.{held_stays, closes_held}
@@ -55,13 +55,13 @@ leg_now h e p (inl i) =
     (maps pair_of (held (e ∷ h)) (in_right (filter (λ leg. not (closes_leg e leg)) (held h)) (legs_of_act (act e)) m.is_in)))
 leg_now h e p (inr i) = inr (in_right (returned h ++ map pair_of (closed h e)) (undone_pairs (act e)) i)
 
-leased_case : (h : List BoardEntry) (e : BoardEntry) (p : ℕ) → (In p (leased h) → HeldOrReturned h p) → In p (leased_by_act (act e)) ⊎ In p (leased h) → HeldOrReturned (e ∷ h) p
+leased_case : (h : List BoardEntry) (e : BoardEntry) (p : ℕ) → (In p (all_leased h) → HeldOrReturned h p) → In p (leased_by_act (act e)) ⊎ In p (all_leased h) → HeldOrReturned (e ∷ h) p
 leased_case h e p rest (inl i) = leg_now h e p (lease_now h e p (act e) refl i)
 leased_case h e p rest (inr i) = pair_next h e p (rest i)
 
-pub leased_held_or_returned : (h : List BoardEntry) (p : ℕ) → In p (leased h) → In p (map (λ (a : Holder). a.pair) (held h)) ⊎ In p (returned h)
+pub leased_held_or_returned : (h : List BoardEntry) (p : ℕ) → In p (all_leased h) → In p (map (λ (a : Holder). a.pair) (held h)) ⊎ In p (returned h)
 leased_held_or_returned [] p i = elim i [ ]
-leased_held_or_returned (e ∷ h) p i = leased_case h e p (leased_held_or_returned h p) (in_append (leased_by_act (act e)) (leased h) i)
+leased_held_or_returned (e ∷ h) p i = leased_case h e p (leased_held_or_returned h p) (in_append (leased_by_act (act e)) (all_leased h) i)
 
 last_keeps : (n x : ℕ) (xs : List ℕ) → (In n xs → In n (last_once xs)) → In n (x ∷ xs) → (b : Bool) → has xs x ≡ b → In n (cond b (last_once xs) (x ∷ last_once xs))
 last_keeps n x xs rest (here e) true is = rest (subst (λ m. In m xs) (sym e) (has_it x xs is))
@@ -78,7 +78,7 @@ out_case n xs out true is = absurd (out (has_it n xs is))
 out_case n xs out false is = refl
 
 abbrev never_leased : Config → List BoardEntry → List ℕ
-never_leased config h = filter (λ p. not (has (leased h) p)) (numbers 0 (pair_count config))
+never_leased config h = filter (λ p. not (has (all_leased h) p)) (numbers 0 (pair_count config))
 
 abbrev given_back : List BoardEntry → List ℕ
 given_back h = filter (λ p. not (has (map pair_of (held h)) p)) (last_once (returned h))
@@ -89,15 +89,15 @@ returned_free config h p out (inr i) =
     in_right (never_leased config h) (given_back h)
     (keeps (λ q. not (has (map pair_of (held h)) q)) (last_once (returned h)) (in_last p (returned h) i) (out_case p (map pair_of (held h)) out (has (map pair_of (held h)) p) refl))
 
-unheld_case : (config : Config) (h : List BoardEntry) (p : ℕ) → p < pair_count config → (In p (map pair_of (held h)) → ⊥) → (b : Bool) → has (leased h) p ≡ b → In p (free config h)
-unheld_case config h p below out true is = returned_free config h p out (leased_held_or_returned h p (has_it p (leased h) is))
+unheld_case : (config : Config) (h : List BoardEntry) (p : ℕ) → p < pair_count config → (In p (map pair_of (held h)) → ⊥) → (b : Bool) → has (all_leased h) p ≡ b → In p (free config h)
+unheld_case config h p below out true is = returned_free config h p out (leased_held_or_returned h p (has_it p (all_leased h) is))
 unheld_case config h p below out false is =
     in_left (never_leased config h) (given_back h)
-    (keeps (λ q. not (has (leased h) q)) (numbers 0 (pair_count config)) (numbers_in p 0 (pair_count config) (omega arith) (omega arith)) (ap not is))
+    (keeps (λ q. not (has (all_leased h) q)) (numbers 0 (pair_count config)) (numbers_in p 0 (pair_count config) (omega arith) (omega arith)) (ap not is))
 
 -- a pair of the range that no leg holds is free
 pub unheld_free : (config : Config) (h : List BoardEntry) (p : ℕ) → p < pair_count config → (In p (map (λ (a : Holder). a.pair) (held h)) → ⊥) → In p (free config h)
-unheld_free config h p below out = unheld_case config h p below out (has (leased h) p) refl
+unheld_free config h p below out = unheld_case config h p below out (has (all_leased h) p) refl
 
 -- where the same legs hold pairs, the same pairs are free
 pub same_held_free : (config : Config) (g h : List BoardEntry) (p : ℕ) → IsFitting config g → held g ≡ held h → In p (free config g) → In p (free config h)

@@ -3,7 +3,7 @@ use Rattle.std.specs.Prelude.{ℕ, Bool, true, false, not, ◌&&◌, nat_le, Lis
 use Rattle.std.specs.List.{list_any}
 use Rattle.relay_outside.specs.declared.settings.Config.{Config}
 use Rattle.ng_command.specs.declared.command.Options.{Options}
-use Rattle.ng_command.specs.Said.{Said, Ping, Offer, Answer, Delete, Query, Listing}
+use Rattle.ng_command.specs.Meanings.{Said, Ping, Offer, Answer, Delete, Query, Listing}
 use Rattle.ng_reply.specs.declared.code.ErrorCode.{ErrorCode}
 use Rattle.ng_reply.specs.declared.code.ErrorCode.TheVariants.{E9, E10, E13, E14, E15, E16, E17}
 use Rattle.sdes_lines.specs.declared.crypto_line.CryptoLine.{CryptoLine}
@@ -14,9 +14,9 @@ use Rattle.offer_answer.specs.Plan as plan
 use Rattle.call_board.specs.Acts as act
 use Rattle.call_board.specs.Acts.{Call, Act, Given, Control, BoardEvent, Turn, Tick, Stop, BoardEntry}
 use Rattle.call_board.specs.Calls.{live, find_call, new_call, rounds, first_moment, latest_moment}
-use Rattle.call_board.specs.Pairs.{free_in, fronts, is_short, lease_of, new_legs, new_keys, drawn}
+use Rattle.call_board.specs.Pairs.{free_in, fronts, is_short, next_lease, leased_new_legs, drawn_keys_from, drawn}
 use Rattle.call_board.specs.Replies.{Reply, Pong, Done, Warned, Described, Reported, Listed, Fault, reply_datagram}
-use Rattle.call_board.specs.Asked.{asked}
+use Rattle.call_board.specs.Requests.{asked}
 
 -- a reply, and what is done
 pub record Answering : Type 0 where
@@ -39,7 +39,7 @@ abbrev pub leased_pairs : Config → List BoardEntry → Demand → List ℕ
 leased_pairs config h demand = fronts (free_in config h) demand.pairs
 
 abbrev pub undoing : List BoardEntry → ErrorCode → List ℕ → List (List ℕ) → Answering
-undoing h code pairs draws = record { reply = Fault code; act = act.Undone code (map (lease_of h) pairs) draws }
+undoing h code pairs draws = record { reply = Fault code; act = act.Undone code (map (next_lease h) pairs) draws }
 
 abbrev pub offering : Config → List Round → act.Offer → Answering
 offering config before offer = record {
@@ -56,8 +56,8 @@ offer_leased config h given ask of begins before pairs =
       of = of;
       begins = begins;
       ask = ask;
-      legs = new_legs h of pairs (plan.demand before ask).pairs;
-      keys = new_keys (length (drawn h)) given.draws (plan.demand before ask).keys;
+      legs = leased_new_legs h of pairs (plan.demand before ask).pairs;
+      keys = drawn_keys_from (length (drawn h)) given.draws (plan.demand before ask).keys;
       dropped = (plan.demand before ask).dropped;
     })
 
@@ -104,19 +104,19 @@ names_side before None = true
 names_side before (Some tag) = plan.is_side before tag
 
 -- a delete that finds nothing to end: an error where it is fatal, a warning otherwise
-abbrev pub missing : Bool → ErrorCode → Answering
-missing fatal code = if fatal then failing code else telling (Warned code)
+abbrev pub nothing_to_end : Bool → ErrorCode → Answering
+nothing_to_end fatal code = if fatal then failing code else telling (Warned code)
 
 abbrev pub delete_of : List BoardEntry → Option (List ℕ) → Bool → Option Call → Answering
-delete_of h tag fatal None = missing fatal E9
+delete_of h tag fatal None = nothing_to_end fatal E9
 delete_of h tag fatal (Some of) =
-    if names_side (rounds h of.number) tag then record { reply = Done; act = act.Deleted of } else missing fatal E10
+    if names_side (rounds h of.number) tag then record { reply = Done; act = act.Deleted of } else nothing_to_end fatal E10
 
 -- Queries.
 
-abbrev pub legs_told : Option (List LegReport) → List LegReport
-legs_told None = []
-legs_told (Some told) = told
+abbrev pub reported_legs : Option (List LegReport) → List LegReport
+reported_legs None = []
+reported_legs (Some log) = log
 
 abbrev pub query_of : List BoardEntry → Given → Option Call → Answering
 query_of h given None = failing E9
@@ -125,7 +125,7 @@ query_of h given (Some of) = record {
     created = first_moment h of.number;
     last_signal = latest_moment h of.number;
     rounds = rounds h of.number;
-    legs = legs_told given.report;
+    legs = reported_legs given.report;
   });
   act = act.Queried of;
 }

@@ -35,26 +35,26 @@ pub record CellsFor (config : Config) (taken : List Bool) (cs : List CallView) :
   pub taken_are : (k : ℕ) (d : Bool) → k < length taken → slice_index_or taken k d ≡ has (map (λ (c : CallView). c.of.cell) cs) (1 + k)
 
 -- the board keeps this
-pub record Shows (config : Config) (board : Board) (v : View) : Type 0 where
+pub record BoardMatches (config : Config) (board : Board) (v : View) : Type 0 where
   pub config_is : board.config ≡ config
   pub moment_is : board.moment ≡ v.moment
   pub begun_is : board.begun ≡ v.begun
   pub drawn_is : board.drawn ≡ v.drawn
   pub calls_for : CallsFor config board.calls.list v.calls
   pub cells_for : CellsFor config board.taken.items v.calls
-  pub pool_for : pools.StandsFor config v.free v.leases board.pool
-  pub replies_for : caches.StandsFor board.replies v.keepings
+  pub pool_for : pools.PoolStandsFor config v.free v.leases board.pool
+  pub replies_for : caches.CacheStandsFor board.replies v.keepings
 
 -- the board stands for this history
 abbrev pub BoardFor : Config → Board → List BoardEntry → Type 0
-BoardFor config board h = Shows config board (view_of config h)
+BoardFor config board h = BoardMatches config board (view_of config h)
 
 -- a call of the board has this number
 abbrev pub IsLive : Board → ℕ → Type 0
 IsLive board number = list_any (λ (call : LiveCall). call.number == number) board.calls.list ≡ true
 
 -- this is kept of the live call of this number
-pub record ShowsCall (config : Config) (v : View) (number : ℕ) (call : LiveCall) : Type 0 where
+pub record CallMatches (config : Config) (v : View) (number : ℕ) (call : LiveCall) : Type 0 where
   pub of : CallView
   pub found : call_numbered v number ≡ Some of
   pub call_for : CallFor config call of
@@ -64,8 +64,8 @@ abbrev pub lease_at : Config → (ℕ → ℕ) → ℕ → Lease
 lease_at config leases pair = record { pair = pair; rtp_port = pair_port config pair; generation = leases pair + 1 }
 
 -- the leases of that many pairs, from the front of the free ones
-abbrev pub leases_of : Config → View → ℕ → List Lease
-leases_of config v count = map (lease_at config v.leases) (take count v.free)
+abbrev pub front_leases : Config → View → ℕ → List Lease
+front_leases config v count = map (lease_at config v.leases) (take count v.free)
 
 -- the lease is the last one of a pair of the pool's, which isn't free
 pub record IsOut (pool : Pairs) (lease : Lease) : Type 0 where

@@ -3,7 +3,7 @@ use Rattle.std.specs.Prelude.{ℕ, ◌==◌, Bool, true, false, List, [], ◌∷
 use Rattle.ng_bencode.specs.Tree.{Tree}
 use Rattle.ng_bencode.specs.Spells.{Spells, spelling}
 use Rattle.ng_json.specs.Twins as twins
-use Rattle.ng_json.specs.Written.{json_text}
+use Rattle.ng_json.specs.JsonText.{json_text}
 
 -- a body that begins with `{` is JSON, and every other is bencode
 abbrev pub is_json : List ℕ → Bool
@@ -13,9 +13,9 @@ is_json (byte ∷ rest) = byte == 123
 -- the text says this value: it spells it in bencode, or it is JSON that says the same
 abbrev pub SaysIn : (in_json : Bool) → List ℕ → Tree → Type 0
 SaysIn false text tree = Spells text tree
-SaysIn true text tree = twins.Says text tree
+SaysIn true text tree = twins.SaysInJson text tree
 
 -- the text by which a value is written
-abbrev pub text_in : (in_json : Bool) → Tree → List ℕ
-text_in false tree = spelling tree
-text_in true tree = json_text tree
+abbrev pub written_in : (in_json : Bool) → Tree → List ℕ
+written_in false tree = spelling tree
+written_in true tree = json_text tree

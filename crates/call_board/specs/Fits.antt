@@ -3,7 +3,7 @@ use Rattle.std.specs.Prelude.{◌≡◌, ℕ, ◌*◌, ◌<◌, Bool, true, fals
 use Rattle.std.specs.List.{list_any}
 use Rattle.relay_outside.specs.declared.settings.Config.{Config}
 use Rattle.ng_frame.specs.Frame.{frame}
-use Rattle.ng_command.specs.Said.{Said, Offer, Answer, Query}
+use Rattle.ng_command.specs.Meanings.{Said, Offer, Answer, Query}
 use Rattle.ng_reply.specs.declared.code.ErrorCode.{ErrorCode}
 use Rattle.ng_reply.specs.declared.code.ErrorCode.TheVariants.{E8, E13, E14}
 use Rattle.histories.specs.Words.{has}
@@ -12,8 +12,8 @@ use Rattle.offer_answer.specs.Plan as plan
 use Rattle.call_board.specs.Acts as act
 use Rattle.call_board.specs.Acts.{Call, Act, Given, Control, BoardEvent, Turn, Tick, Stop, BoardEntry}
 use Rattle.call_board.specs.Calls.{live, find_call, rounds, rounds_of_call}
-use Rattle.call_board.specs.Kept.{kept}
-use Rattle.call_board.specs.Asked.{Reads, asked}
+use Rattle.call_board.specs.KeptReplies.{kept_reply}
+use Rattle.call_board.specs.Requests.{ReadsBody, asked}
 use Rattle.call_board.specs.Answers.{offer_ask, answer_ask, answering_unless, Answered}
 
 -- What the devices returned.
@@ -67,15 +67,15 @@ GivesFor demand given (act.Answered answer) = GivesNothing given × (given.repor
 GivesFor demand given (act.Deleted of) = GivesNothing given × (given.report ≡ None)
 GivesFor demand given act.Told = GivesNothing given × (given.report ≡ None)
 
-abbrev pub HearsAnswer : List BoardEntry → AnswerAsk → Option Call → Type 0
-HearsAnswer h ask None = Unit {0}
-HearsAnswer h ask (Some of) = plan.AnswerHeard (rounds h of.number) ask
+abbrev pub ReadsAnswerOf : List BoardEntry → AnswerAsk → Option Call → Type 0
+ReadsAnswerOf h ask None = Unit {0}
+ReadsAnswerOf h ask (Some of) = plan.AnswerRead (rounds h of.number) ask
 
 -- the chosen keys of a datagram are those of its description
-abbrev pub Hears : List BoardEntry → Control → Result Said ErrorCode → Type 0
-Hears h c (Ok (Offer id from_tag sdp options)) = plan.OfferHeard (offer_ask from_tag sdp options c.chosen)
-Hears h c (Ok (Answer id from_tag to_tag sdp options)) = HearsAnswer h (answer_ask from_tag to_tag sdp options c.chosen) (find_call h id)
-Hears h c _ = Unit {0}
+abbrev pub ReadsRequest : List BoardEntry → Control → Result Said ErrorCode → Type 0
+ReadsRequest h c (Ok (Offer id from_tag sdp options)) = plan.OfferRead (offer_ask from_tag sdp options c.chosen)
+ReadsRequest h c (Ok (Answer id from_tag to_tag sdp options)) = ReadsAnswerOf h (answer_ask from_tag to_tag sdp options c.chosen) (find_call h id)
+ReadsRequest h c _ = Unit {0}
 
 -- What is read of a datagram.
 
@@ -96,31 +96,31 @@ is_found_late E14 = true
 is_found_late _ = false
 
 -- crypto lines are chosen for an offer or an answer that is accepted, and for one that fails at the choice or after it
-abbrev pub is_heard : Act → Bool
-is_heard (act.Offered offer) = true
-is_heard (act.Answered answer) = true
-is_heard (act.Undone code leases draws) = true
-is_heard (act.Failed code) = is_found_late code
-is_heard _ = false
+abbrev pub is_request_read : Act → Bool
+is_request_read (act.Offered offer) = true
+is_request_read (act.Answered answer) = true
+is_request_read (act.Undone code leases draws) = true
+is_request_read (act.Failed code) = is_found_late code
+is_request_read _ = false
 
 -- the command asks after a live call
 abbrev pub asks_after : List BoardEntry → Result Said ErrorCode → Bool
 asks_after h (Ok (Query id)) = is_some (find_call h id)
 asks_after h _ = false
 
-abbrev pub answer_of : Control → Answered
-answer_of c = record { bytes = c.reply; act = c.act }
+abbrev pub answered_in : Control → Answered
+answered_in c = record { bytes = c.reply; act = c.act }
 
 -- the turn of a datagram is the one that the board's history demands at that moment
 pub record FitsControl (config : Config) (h : List BoardEntry) (now : ℕ) (c : Control) : Type 0 where
   pub framed : frame (c.cookie ++ 32 ∷ c.body) ≡ Some (c.cookie, c.body)
   pub length_is : c.too_long ≡ nat_lt 16384 (length (c.cookie ++ 32 ∷ c.body))
-  pub reads : is_read c ≡ true → Reads c.body c.pairs
-  pub hears : is_heard c.act ≡ true → Hears h c (asked config c.too_long c.pairs)
+  pub reads : is_read c ≡ true → ReadsBody c.body c.pairs
+  pub hears : is_request_read c.act ≡ true → ReadsRequest h c (asked config c.too_long c.pairs)
   pub gives : GivesFor (demanded config h c) c.given c.act
   -- where memory runs out, there is a report of no call but a live one that is asked after
   pub reports : c.act ≡ act.OutOfMemory → asks_after h (asked config c.too_long c.pairs) ≡ false → c.given.report ≡ None
-  pub answers : answer_of c ≡ answering_unless config h c (kept h c.source c.cookie now)
+  pub answers : answered_in c ≡ answering_unless config h c (kept_reply h c.source c.cookie now)
 
 -- of the live calls those that the entry names, in order
 abbrev pub named_live : List BoardEntry → List Call → List Call

@@ -7,7 +7,7 @@ use Rattle.call_board.specs.declared.board.Board.{Board}
 use Rattle.call_board.specs.Acts.{Control, BoardEntry}
 use Rattle.call_board.specs.Calls.{live}
 use Rattle.call_board.specs.Pairs.{closed}
-use Rattle.call_board.specs.Kept.{kept}
+use Rattle.call_board.specs.KeptReplies.{kept_reply}
 use Rattle.call_board.specs.Answers.{answering_unless}
 use Rattle.call_board.specs.Fits.{FitsBoard, IsFitting, demanded}
 use Rattle.call_board.specs.Boards.{BoardFor}
@@ -25,7 +25,7 @@ OneBoardLives = (config : Config) (board : Board) (g h : List BoardEntry) → Bo
 abbrev pub OneBoardAnswers : Type 0
 OneBoardAnswers =
     (config : Config) (board : Board) (g h : List BoardEntry) (now : ℕ) (c : Control) → IsFitting config g → BoardFor config board g → BoardFor config board h →
-    answering_unless config g c (kept g c.source c.cookie now) ≡ answering_unless config h c (kept h c.source c.cookie now)
+    answering_unless config g c (kept_reply g c.source c.cookie now) ≡ answering_unless config h c (kept_reply h c.source c.cookie now)
 
 -- and demands the same
 abbrev pub OneBoardDemands : Type 0

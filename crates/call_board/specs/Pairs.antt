@@ -64,8 +64,8 @@ leased_by_act (Undone code leases draws) = map (λ lease. lease.pair) leases
 leased_by_act _ = []
 
 -- all pairs that were leased
-abbrev pub leased : List BoardEntry → List ℕ
-leased h = flat_map (λ e. leased_by_act (act e)) h
+abbrev pub all_leased : List BoardEntry → List ℕ
+all_leased h = flat_map (λ e. leased_by_act (act e)) h
 
 abbrev pub undone_pairs : Act → List ℕ
 undone_pairs (Undone code leases draws) = map (λ lease. lease.pair) leases
@@ -79,7 +79,7 @@ returned (e ∷ h) = returned h ++ map (λ leg. leg.pair) (closed h e) ++ undone
 -- the pairs that are not held: those never leased upwards, then the others in the order of their last return
 abbrev pub free : Config → List BoardEntry → List ℕ
 free config h =
-    filter (λ p. not (has (leased h) p)) (numbers 0 (pair_count config))
+    filter (λ p. not (has (all_leased h) p)) (numbers 0 (pair_count config))
     ++ filter (λ p. not (has (map (λ leg. leg.pair) (held h)) p)) (last_once (returned h))
 
 -- the family of the addresses that a pair's ports are opened at
@@ -100,10 +100,10 @@ free_in config h family = filter (λ p. family_eq (pair_family config p) family)
 
 -- the generation that the next lease of the pair has
 abbrev pub next_generation : List BoardEntry → ℕ → ℕ
-next_generation h p = count_by (λ q. q == p) (leased h) + 1
+next_generation h p = count_by (λ q. q == p) (all_leased h) + 1
 
-abbrev pub lease_of : List BoardEntry → ℕ → Lease
-lease_of h p = record { pair = p; generation = next_generation h p }
+abbrev pub next_lease : List BoardEntry → ℕ → Lease
+next_lease h p = record { pair = p; generation = next_generation h p }
 
 abbrev pub first_of : List ℕ → List ℕ
 first_of [] = []
@@ -127,11 +127,11 @@ abbrev pub is_short : (Family → List ℕ) → List NewLeg → Bool
 is_short lists legs = is_short_of lists legs V4 || is_short_of lists legs V6
 
 -- the new legs of an offer, with the pairs that it leases
-abbrev pub new_legs : List BoardEntry → Call → List ℕ → List NewLeg → List Holder
-new_legs h c [] legs = []
-new_legs h c (p ∷ ps) [] = []
-new_legs h c (p ∷ ps) (leg ∷ legs) =
-    record { cell = c.cell; call = c.number; section = leg.section; side = leg.side; pair = p; generation = next_generation h p } ∷ new_legs h c ps legs
+abbrev pub leased_new_legs : List BoardEntry → Call → List ℕ → List NewLeg → List Holder
+leased_new_legs h c [] legs = []
+leased_new_legs h c (p ∷ ps) [] = []
+leased_new_legs h c (p ∷ ps) (leg ∷ legs) =
+    record { cell = c.cell; call = c.number; section = leg.section; side = leg.side; pair = p; generation = next_generation h p } ∷ leased_new_legs h c ps legs
 
 -- Keys.
 
@@ -146,8 +146,8 @@ drawn [] = []
 drawn (e ∷ h) = drawn h ++ draws_of_act (act e)
 
 -- the keys that an offer draws, numbered from n on
-abbrev pub new_keys : ℕ → List (List ℕ) → List KeyPlace → List NewKey
-new_keys n [] places = []
-new_keys n (bytes ∷ draws) [] = []
-new_keys n (bytes ∷ draws) (place ∷ places) =
-    record { number = n; section = place.section; side = place.side; suite = place.suite; bytes = bytes } ∷ new_keys (n + 1) draws places
+abbrev pub drawn_keys_from : ℕ → List (List ℕ) → List KeyPlace → List NewKey
+drawn_keys_from n [] places = []
+drawn_keys_from n (bytes ∷ draws) [] = []
+drawn_keys_from n (bytes ∷ draws) (place ∷ places) =
+    record { number = n; section = place.section; side = place.side; suite = place.suite; bytes = bytes } ∷ drawn_keys_from (n + 1) draws places

@@ -4,7 +4,7 @@ use Rattle.relay_outside.specs.declared.settings.Config.{Config}
 use Rattle.ng_bencode.specs.Tree.{Tree}
 use Rattle.ng_reply.specs.declared.code.ErrorCode.{ErrorCode}
 use Rattle.ng_reply.specs.Replies.{pong_reply, ok_reply, sdp_reply, warning_reply, error_reply}
-use Rattle.call_board.specs.Dialects.{is_json, text_in}
+use Rattle.call_board.specs.Dialects.{is_json, written_in}
 use Rattle.call_board.specs.Reports.{Report, report_tree, listing_tree}
 
 pub data Reply : Type 0 where
@@ -21,13 +21,13 @@ tree_of_reply config Pong = pong_reply
 tree_of_reply config Done = ok_reply
 tree_of_reply config (Warned code) = warning_reply code
 tree_of_reply config (Described sdp) = sdp_reply sdp
-tree_of_reply config (Reported told) = report_tree config told
+tree_of_reply config (Reported log) = report_tree config log
 tree_of_reply config (Listed call_ids) = listing_tree call_ids
 tree_of_reply config (Fault code) = error_reply code
 
 -- what follows the cookie and the space: the reply in the dialect of the body that asked
 unfoldable pub reply_text : Config → (body : List ℕ) → Reply → List ℕ
-reply_text config body reply = text_in (is_json body) (tree_of_reply config reply)
+reply_text config body reply = written_in (is_json body) (tree_of_reply config reply)
 
 -- the whole datagram: the cookie that was asked with, one space, and the reply
 abbrev pub reply_datagram : Config → (cookie body : List ℕ) → Reply → List ℕ
@@ -35,4 +35,4 @@ reply_datagram config cookie body reply = cookie ++ 32 ∷ reply_text config bod
 
 -- the datagram of an error, in every configuration
 abbrev pub fault_datagram : (cookie body : List ℕ) → ErrorCode → List ℕ
-fault_datagram cookie body code = cookie ++ 32 ∷ text_in (is_json body) (error_reply code)
+fault_datagram cookie body code = cookie ++ 32 ∷ written_in (is_json body) (error_reply code)

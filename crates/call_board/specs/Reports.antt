@@ -30,8 +30,8 @@ abbrev pub moment_value : ℕ → Tree
 moment_value n = whole (min n (2 ^ 63 - 1))
 
 -- how many packets of one half were accepted from a leg, and sent by its ports
-abbrev pub counts : ℕ → ℕ → Tree
-counts accepted sent = Dict (entry (codes "accepted") (whole accepted) (entry (codes "sent") (whole sent) no_entries))
+abbrev pub counts_tree : ℕ → ℕ → Tree
+counts_tree accepted sent = Dict (entry (codes "accepted") (whole accepted) (entry (codes "sent") (whole sent) no_entries))
 
 abbrev pub endpoint_value : Addr → Tree
 endpoint_value at = Dict (entry (codes "address") (Bytes (text_of (host_of_ip at.ip))) (entry (codes "port") (whole at.port) no_entries))
@@ -42,22 +42,22 @@ profile_text (Some proto) = proto_text proto []
 
 -- one leg; sections count from 1 here
 abbrev pub leg_value : List Round → LegReport → Tree
-leg_value rounds told = Dict (
-    entry (codes "RTCP") (counts told.rtcp_accepted told.rtcp_sent) (
-    entry (codes "RTP") (counts told.rtp_accepted told.rtp_sent) (
-    entry (codes "endpoint") (endpoint_value told.endpoint) (
-    entry (codes "index") (whole (told.section + 1)) (
-    entry (codes "local port") (whole told.port) (
-    entry (codes "protocol") (Bytes (profile_text (plan.protocol rounds told.section told.side))) no_entries))))))
+leg_value rounds report = Dict (
+    entry (codes "RTCP") (counts_tree report.rtcp_accepted report.rtcp_sent) (
+    entry (codes "RTP") (counts_tree report.rtp_accepted report.rtp_sent) (
+    entry (codes "endpoint") (endpoint_value report.endpoint) (
+    entry (codes "index") (whole (report.section + 1)) (
+    entry (codes "local port") (whole report.port) (
+    entry (codes "protocol") (Bytes (profile_text (plan.protocol rounds report.section report.side))) no_entries))))))
 
 -- the leg of a section and side
-abbrev pub leg_at : List LegReport → Side → ℕ → Option LegReport
-leg_at legs side section = first (filter (λ told. (told.section == section) && side_eq told.side side) legs)
+abbrev pub leg_report_at : List LegReport → Side → ℕ → Option LegReport
+leg_report_at legs side section = first (filter (λ report. (report.section == section) && side_eq report.side side) legs)
 
 -- the legs of a side in the order of their sections
 abbrev pub side_value : Report → Side → Tree
-side_value told side =
-    Dict (entry (codes "medias") (Items (items_of (map (leg_value told.rounds) (filter_map (leg_at told.legs side) (numbers 0 8))))) no_entries)
+side_value report side =
+    Dict (entry (codes "medias") (Items (items_of (map (leg_value report.rounds) (filter_map (leg_report_at report.legs side) (numbers 0 8))))) no_entries)
 
 -- the first differing byte is smaller, or the text ends first
 abbrev pub stands_before : List ℕ → List ℕ → Bool
@@ -76,14 +76,14 @@ tags_by None of_a (Some b) of_b = entry b of_b no_entries
 tags_by (Some a) of_a (Some b) of_b = tag_pair a of_a b of_b
 
 abbrev pub tags_value : Report → Tree
-tags_value told = Dict (tags_by (plan.tag told.rounds A) (side_value told A) (plan.tag told.rounds B) (side_value told B))
+tags_value shown = Dict (tags_by (plan.tag shown.rounds A) (side_value shown A) (plan.tag shown.rounds B) (side_value shown B))
 
 unfoldable pub report_tree : Config → Report → Tree
-report_tree config told = Dict (
-    entry (codes "created") (moment_value told.created) (
-    entry (codes "last signal") (moment_value told.last_signal) (
+report_tree config report = Dict (
+    entry (codes "created") (moment_value report.created) (
+    entry (codes "last signal") (moment_value report.last_signal) (
     entry (codes "result") (Bytes (codes "ok")) (
-    entry (codes "tags") (tags_value told) no_entries))))
+    entry (codes "tags") (tags_value report) no_entries))))
 
 -- the call-ids of live calls
 unfoldable pub listing_tree : List (List ℕ) → Tree

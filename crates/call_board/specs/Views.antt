@@ -7,8 +7,8 @@ use Rattle.cookie_cache.specs.Keepings.{Keeping}
 use Rattle.offer_answer.specs.Rounds.{Round}
 use Rattle.call_board.specs.Acts.{Call, BoardEntry}
 use Rattle.call_board.specs.Calls.{begun, live, rounds, first_moment, latest_moment}
-use Rattle.call_board.specs.Pairs.{free, leased, drawn}
-use Rattle.call_board.specs.Kept.{keepings}
+use Rattle.call_board.specs.Pairs.{free, all_leased, drawn}
+use Rattle.call_board.specs.KeptReplies.{keepings}
 
 -- a live call: its accepted offers and answers, and the moments of the first and of the last of them
 pub record CallView : Type 0 where
@@ -32,17 +32,17 @@ abbrev pub call_view : List BoardEntry → Call → CallView
 call_view h c = record { of = c; rounds = rounds h c.number; first = first_moment h c.number; last = latest_moment h c.number }
 
 -- the greatest moment of a history, at first 0
-abbrev pub last_moment : List BoardEntry → ℕ
-last_moment h = greatest (map (λ (e : BoardEntry). e.moment) h)
+abbrev pub board_last_moment : List BoardEntry → ℕ
+board_last_moment h = greatest (map (λ (e : BoardEntry). e.moment) h)
 
 -- how often a history leased a pair
 abbrev pub times_leased : List BoardEntry → ℕ → ℕ
-times_leased h pair = count_by (λ p. p == pair) (leased h)
+times_leased h pair = count_by (λ p. p == pair) (all_leased h)
 
 -- what there is to keep of a history
 abbrev pub view_of : Config → List BoardEntry → View
 view_of config h = record {
-  moment = last_moment h;
+  moment = board_last_moment h;
   begun = length (begun h);
   drawn = length (drawn h);
   calls = map (call_view h) (live h);
@@ -53,8 +53,8 @@ view_of config h = record {
 
 -- What the calls of the board change of it.
 
-abbrev pub at_moment : View → ℕ → View
-at_moment v now = record { moment = max now v.moment; begun = v.begun; drawn = v.drawn; calls = v.calls; free = v.free; leases = v.leases; keepings = v.keepings }
+abbrev pub view_at_moment : View → ℕ → View
+view_at_moment v now = record { moment = max now v.moment; begun = v.begun; drawn = v.drawn; calls = v.calls; free = v.free; leases = v.leases; keepings = v.keepings }
 
 abbrev pub with_keeping : View → Keeping → View
 with_keeping v k = record { moment = v.moment; begun = v.begun; drawn = v.drawn; calls = v.calls; free = v.free; leases = v.leases; keepings = k ∷ v.keepings }
@@ -92,8 +92,8 @@ with_returned v pairs =
 abbrev pub is_of_id : List ℕ → CallView → Bool
 is_of_id id c = bytes_eq c.of.id id
 
-abbrev pub is_numbered : ℕ → CallView → Bool
-is_numbered number c = c.of.number == number
+abbrev pub is_call_numbered : ℕ → CallView → Bool
+is_call_numbered number c = c.of.number == number
 
 -- the live call of this call-id
 abbrev pub call_of_id : View → List ℕ → Option CallView
@@ -101,12 +101,12 @@ call_of_id v id = first (filter (is_of_id id) v.calls)
 
 -- the live call of this number
 abbrev pub call_numbered : View → ℕ → Option CallView
-call_numbered v number = first (filter (is_numbered number) v.calls)
+call_numbered v number = first (filter (is_call_numbered number) v.calls)
 
 -- the calls without the first of this number
 abbrev pub without : ℕ → List CallView → List CallView
 without number [] = []
-without number (c ∷ calls) = if is_numbered number c then calls else c ∷ without number calls
+without number (c ∷ calls) = if is_call_numbered number c then calls else c ∷ without number calls
 
 abbrev pub without_call : View → ℕ → View
 without_call v number = with_calls v (without number v.calls)
@@ -118,4 +118,4 @@ with_round round now c = record { of = c.of; rounds = round ∷ c.rounds; first 
 -- the first call of this number has it
 abbrev pub goes_on : ℕ → Round → ℕ → List CallView → List CallView
 goes_on number round now [] = []
-goes_on number round now (c ∷ calls) = if is_numbered number c then with_round round now c ∷ calls else c ∷ goes_on number round now calls
+goes_on number round now (c ∷ calls) = if is_call_numbered number c then with_round round now c ∷ calls else c ∷ goes_on number round now calls

@@ -7,17 +7,17 @@ use Rattle.offer_answer.specs.Rounds.{Round, NewLeg}
 use Rattle.offer_answer.specs.Rounds as round
 use Rattle.call_board.specs.Acts.{Call, Lease, Offer, Answer, Act, Repeated, OutOfMemory, Failed, Undone, Offered, Answered, Deleted, Queried, Told, Control, BoardEvent, Turn, Tick, Stop, BoardEntry}
 use Rattle.call_board.specs.Pairs.{closed_of}
-use Rattle.call_board.specs.Views.{View, last_moment, at_moment, with_keeping, one_drawn, with_calls, with_new_call, with_leases, with_returned, without_call, goes_on}
+use Rattle.call_board.specs.Views.{View, board_last_moment, view_at_moment, with_keeping, one_drawn, with_calls, with_new_call, with_leases, with_returned, without_call, goes_on}
 
 -- The legs that an offer leases pairs for: a lease for each leg that it demands, in order.
 
-abbrev pub leg_of : Call → pairs.Lease → NewLeg → Holder
-leg_of c lease leg = record { cell = c.cell; call = c.number; section = leg.section; side = leg.side; pair = lease.pair; generation = lease.generation }
+abbrev pub holder_of_new_leg : Call → pairs.Lease → NewLeg → Holder
+holder_of_new_leg c lease leg = record { cell = c.cell; call = c.number; section = leg.section; side = leg.side; pair = lease.pair; generation = lease.generation }
 
-abbrev pub legs_of : Call → List pairs.Lease → List NewLeg → List Holder
-legs_of c [] legs = []
-legs_of c (lease ∷ leases) [] = []
-legs_of c (lease ∷ leases) (leg ∷ legs) = leg_of c lease leg ∷ legs_of c leases legs
+abbrev pub holders_of_new_legs : Call → List pairs.Lease → List NewLeg → List Holder
+holders_of_new_legs c [] legs = []
+holders_of_new_legs c (lease ∷ leases) [] = []
+holders_of_new_legs c (lease ∷ leases) (leg ∷ legs) = holder_of_new_leg c lease leg ∷ holders_of_new_legs c leases legs
 
 -- Steps that several acts have.
 
@@ -92,19 +92,19 @@ after_act h e c Told v = after_reply e c v
 
 -- a datagram and a tick raise the board's moment first, a stop does not
 abbrev pub after_event : List BoardEntry → BoardEntry → BoardEvent → View → View
-after_event h e (Turn c) v = after_act h e c c.act (at_moment v e.moment)
-after_event h e (Tick calls) v = with_ended h e calls (at_moment v e.moment)
+after_event h e (Turn c) v = after_act h e c c.act (view_at_moment v e.moment)
+after_event h e (Tick calls) v = with_ended h e calls (view_at_moment v e.moment)
 after_event h e (Stop calls) v = with_ended h e calls v
 
 -- what the board keeps after one more entry
-abbrev pub after : List BoardEntry → BoardEntry → View → View
-after h e v = after_event h e e.event v
+abbrev pub view_after : List BoardEntry → BoardEntry → View → View
+view_after h e v = after_event h e e.event v
 
 -- The moment of a datagram or a tick is not before the last one; that of a stop is the last one.
 abbrev pub IsMomentOf : List BoardEntry → ℕ → BoardEvent → Type 0
-IsMomentOf h moment (Turn c) = last_moment h ≤ moment
-IsMomentOf h moment (Tick calls) = last_moment h ≤ moment
-IsMomentOf h moment (Stop calls) = moment ≡ last_moment h
+IsMomentOf h moment (Turn c) = board_last_moment h ≤ moment
+IsMomentOf h moment (Tick calls) = board_last_moment h ≤ moment
+IsMomentOf h moment (Stop calls) = moment ≡ board_last_moment h
 
 abbrev pub IsTimely : List BoardEntry → BoardEntry → Type 0
 IsTimely h e = IsMomentOf h e.moment e.event

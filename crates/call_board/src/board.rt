@@ -1,6 +1,6 @@
 //! The board.
 
-ghost use Rattle.call_board.specs.Numbered.{AreBelow, AreBelow-prop};
+ghost use Rattle.call_board.specs.CallNumbers.{AreBelow, AreBelow-prop};
 
 use crate::live_call::LiveCall;
 use crate::live_calls::LiveCalls;
@@ -48,8 +48,8 @@ impl Board {
     ghost use Rattle.port_pool.specs.Pools.{generation};
     ghost use Rattle.offer_answer.specs.Dialogs.{DialogFor};
     ghost use Rattle.offer_answer.specs.Plan as plan;
-    ghost use Rattle.call_board.specs.Views.{View, CallView, at_moment, with_keeping, one_drawn, with_returned, without_call, call_of_id, call_numbered};
-    ghost use Rattle.call_board.specs.Boards.{Shows, ShowsCall, CallsFor, BoardFor, IsLive, KeepsCalls, KeepsReplies};
+    ghost use Rattle.call_board.specs.Views.{View, CallView, view_at_moment, with_keeping, one_drawn, with_returned, without_call, call_of_id, call_numbered};
+    ghost use Rattle.call_board.specs.Boards.{BoardMatches, CallMatches, CallsFor, BoardFor, IsLive, KeepsCalls, KeepsReplies};
 
     /// The board before the first datagram, with memory for all pairs of the configuration.
     pub fn new(alloc: Global, config: &Config) -> Result<Board, OutOfMemory>
@@ -72,7 +72,7 @@ impl Board {
 
     /// Raises the board's last moment to `now`, in milliseconds, if that is greater, and returns it.
     pub fn advance(&mut self, now: u64) -> u64
-        ensures moment { (config : Config) (v : View) → Shows config self.old v → Shows config self.new (at_moment v now) × (result ≡ max now v.moment) }
+        ensures moment { (config : Config) (v : View) → BoardMatches config self.old v → BoardMatches config self.new (view_at_moment v now) × (result ≡ max now v.moment) }
         ensures calls { KeepsCalls self.old self.new }
         ensures replies { KeepsReplies self.old self.new }
     {
@@ -83,7 +83,7 @@ impl Board {
     /// The reply that is kept for this source and cookie, which has 1 to 255 bytes, at the moment `now`, in milliseconds.
     pub fn find_reply(&self, source: Addr, cookie: &[u8], now: u64) -> Option<&[u8]>
         requires { IsCookie cookie.now }
-        ensures { (config : Config) (v : View) → Shows config self.now v →
+        ensures { (config : Config) (v : View) → BoardMatches config self.now v →
             MatchOption result
             (keepings.kept v.keepings source cookie.now (keepings.moment_used v.keepings now) ≡ None)
             (λ reply. keepings.kept v.keepings source cookie.now (keepings.moment_used v.keepings now) ≡ Some reply.now) }
@@ -93,7 +93,7 @@ impl Board {
 
     /// Makes room for the one reply that `keep_reply` keeps. Nothing else changes, also when it fails.
     pub fn reserve_reply(&mut self) -> Result<(), OutOfMemory>
-        ensures shows { (config : Config) (v : View) → Shows config self.old v → Shows config self.new v }
+        ensures shows { (config : Config) (v : View) → BoardMatches config self.old v → BoardMatches config self.new v }
         ensures place { OnOk result (HasSparePlace self.new.replies) }
         ensures calls { KeepsCalls self.old self.new }
         ensures pool { self.new.pool ≡ self.old.pool }
@@ -107,15 +107,15 @@ impl Board {
         requires cookie { IsCookie cookie.list }
         requires place { HasSparePlace self.old.replies }
         ensures calls { KeepsCalls self.old self.new }
-        ensures kept { (config : Config) (v : View) → Shows config self.old v →
-            Shows config self.new (with_keeping v (record { source = source; cookie = cookie.list; reply = reply.list; moment = keepings.moment_used v.keepings now })) }
+        ensures kept { (config : Config) (v : View) → BoardMatches config self.old v →
+            BoardMatches config self.new (with_keeping v (record { source = source; cookie = cookie.list; reply = reply.list; moment = keepings.moment_used v.keepings now })) }
     {
         self.replies.keep(source, cookie, reply, now);
     }
 
     /// The number that the next drawn key has, from 0.
     pub fn next_key(&self) -> u64
-        ensures { (config : Config) (v : View) → Shows config self.now v → result ≡ v.drawn }
+        ensures { (config : Config) (v : View) → BoardMatches config self.now v → result ≡ v.drawn }
     {
         self.drawn
     }
@@ -123,7 +123,7 @@ impl Board {
     /// Numbers a drawn key, from 0. Fewer than 2^63 keys were drawn before.
     pub fn count_draw(&mut self) -> u64
         requires { self.old.drawn < 2 ^ 63 }
-        ensures drawn { (config : Config) (v : View) → Shows config self.old v → Shows config self.new (one_drawn v) × (result ≡ v.drawn) }
+        ensures drawn { (config : Config) (v : View) → BoardMatches config self.old v → BoardMatches config self.new (one_drawn v) × (result ≡ v.drawn) }
         ensures calls { KeepsCalls self.old self.new }
         ensures replies { KeepsReplies self.old self.new }
     {
@@ -134,7 +134,7 @@ impl Board {
 
     /// The number of the live call with this call-id. `None`: no live call has it.
     pub fn find_call(&self, call_id: &[u8]) -> Option<u64>
-        ensures { (config : Config) (v : View) → Shows config self.now v →
+        ensures { (config : Config) (v : View) → BoardMatches config self.now v →
             result ≡ option_map (λ (c : CallView). c.of.number) (call_of_id v call_id.now) }
     {
         let Some(place) = self.calls.place_of_id(call_id) else {
@@ -149,7 +149,7 @@ impl Board {
         requires of_pool { lease.pair < length self.old.pool.generations }
         requires not_free { has self.old.pool.free lease.pair ≡ false }
         requires last { generation self.old.pool lease.pair ≡ lease.generation }
-        ensures returned { (config : Config) (v : View) → Shows config self.old v → Shows config self.new (with_returned v (lease.pair ∷ [])) }
+        ensures returned { (config : Config) (v : View) → BoardMatches config self.old v → BoardMatches config self.new (with_returned v (lease.pair ∷ [])) }
         ensures calls { KeepsCalls self.old self.new }
         ensures replies { KeepsReplies self.old self.new }
     {
@@ -158,15 +158,15 @@ impl Board {
 
     /// How many pairs are free.
     pub fn free_count(&self) -> usize
-        ensures { (config : Config) (v : View) → Shows config self.now v → result ≡ length v.free }
+        ensures { (config : Config) (v : View) → BoardMatches config self.now v → result ≡ length v.free }
     {
         self.pool.free_count()
     }
 
     /// The live calls, each under the bytes of its call-id, in order of creation.
     pub fn calls(&self) -> &IndexMap<Vec<u8>, LiveCall>
-        ensures keys { (config : Config) (v : View) → Shows config self.now v → map (λ key. key.items) (keys result.now) ≡ map (λ (c : CallView). c.of.id) v.calls }
-        ensures calls { (config : Config) (v : View) → Shows config self.now v → CallsFor config (values result.now) v.calls }
+        ensures keys { (config : Config) (v : View) → BoardMatches config self.now v → map (λ key. key.items) (keys result.now) ≡ map (λ (c : CallView). c.of.id) v.calls }
+        ensures calls { (config : Config) (v : View) → BoardMatches config self.now v → CallsFor config (values result.now) v.calls }
     {
         self.calls.by_id()
     }
@@ -174,7 +174,7 @@ impl Board {
     /// How many calls are live.
     pub fn live_count(&self) -> usize
         ensures count { result ≡ length self.now.calls.list }
-        ensures live { (config : Config) (v : View) → Shows config self.now v → result ≡ length v.calls }
+        ensures live { (config : Config) (v : View) → BoardMatches config self.now v → result ≡ length v.calls }
     {
         self.calls.len()
     }
@@ -182,7 +182,7 @@ impl Board {
     /// The number of a live call, by its place in the order of creation, from 0.
     pub fn call_at(&self, index: usize) -> u64
         requires { index < length self.now.calls.list }
-        ensures { (config : Config) (v : View) → Shows config self.now v →
+        ensures { (config : Config) (v : View) → BoardMatches config self.now v →
             slice_get (map (λ (c : CallView). c.of.number) v.calls) index ≡ Some result }
     {
         self.calls.at(index).number
@@ -191,7 +191,7 @@ impl Board {
     /// The cell of a live call, from 1, by the place of the call in the order of creation, from 0.
     pub fn cell_at(&self, index: usize) -> u32
         requires { index < length self.now.calls.list }
-        ensures { (config : Config) (v : View) → Shows config self.now v →
+        ensures { (config : Config) (v : View) → BoardMatches config self.now v →
             slice_get (map (λ (c : CallView). c.of.cell) v.calls) index ≡ Some result }
     {
         self.calls.at(index).cell
@@ -200,7 +200,7 @@ impl Board {
     /// The call-id of a live call, by the place of the call in the order of creation, from 0.
     pub fn call_id_at(&self, index: usize) -> &[u8]
         requires { index < length self.now.calls.list }
-        ensures { (config : Config) (v : View) → Shows config self.now v →
+        ensures { (config : Config) (v : View) → BoardMatches config self.now v →
             slice_get (map (λ (c : CallView). c.of.id) v.calls) index ≡ Some result.now }
     {
         self.calls.at(index).id.as_slice()
@@ -221,7 +221,7 @@ impl Board {
     /// A live call.
     fn live(&self, call: u64) -> &LiveCall
         requires { IsLive self.now call }
-        ensures { (config : Config) (v : View) → Shows config self.now v → ShowsCall config v call result.now }
+        ensures { (config : Config) (v : View) → BoardMatches config self.now v → CallMatches config v call result.now }
     {
         self.calls.at(self.place(call))
     }
@@ -229,7 +229,7 @@ impl Board {
     /// The cell of a live call, from 1.
     pub fn cell_of(&self, call: u64) -> u32
         requires { IsLive self.now call }
-        ensures { (config : Config) (v : View) → Shows config self.now v → option_map (λ (c : CallView). c.of.cell) (call_numbered v call) ≡ Some result }
+        ensures { (config : Config) (v : View) → BoardMatches config self.now v → option_map (λ (c : CallView). c.of.cell) (call_numbered v call) ≡ Some result }
     {
         self.live(call).cell
     }
@@ -237,7 +237,7 @@ impl Board {
     /// The call-id of a live call.
     pub fn call_id(&self, call: u64) -> &[u8]
         requires { IsLive self.now call }
-        ensures { (config : Config) (v : View) → Shows config self.now v → option_map (λ (c : CallView). c.of.id) (call_numbered v call) ≡ Some result.now }
+        ensures { (config : Config) (v : View) → BoardMatches config self.now v → option_map (λ (c : CallView). c.of.id) (call_numbered v call) ≡ Some result.now }
     {
         self.live(call).id.as_slice()
     }
@@ -245,7 +245,7 @@ impl Board {
     /// The tag of a side of a live call, where it has one.
     pub fn tag(&self, call: u64, side: Side) -> Option<&[u8]>
         requires { IsLive self.now call }
-        ensures { (config : Config) (v : View) (c : CallView) → Shows config self.now v → call_numbered v call ≡ Some c →
+        ensures { (config : Config) (v : View) (c : CallView) → BoardMatches config self.now v → call_numbered v call ≡ Some c →
             MatchOption result (plan.tag c.rounds side ≡ None) (λ tag. plan.tag c.rounds side ≡ Some tag.now) }
     {
         self.live(call).dialog.tag(side)
@@ -254,7 +254,7 @@ impl Board {
     /// The profile in force on the leg of a section, from 0, of a live call; `None` where the section isn't committed.
     pub fn protocol(&self, call: u64, section: usize, side: Side) -> Option<Proto>
         requires { IsLive self.now call }
-        ensures { (config : Config) (v : View) (c : CallView) → Shows config self.now v → call_numbered v call ≡ Some c →
+        ensures { (config : Config) (v : View) (c : CallView) → BoardMatches config self.now v → call_numbered v call ≡ Some c →
             result ≡ plan.protocol c.rounds section side }
     {
         self.live(call).dialog.protocol(section, side)
@@ -263,7 +263,7 @@ impl Board {
     /// The dialog of a live call: its tags, and what is in force in its sections.
     pub fn dialog(&self, call: u64) -> &Dialog
         requires { IsLive self.now call }
-        ensures { (config : Config) (v : View) (c : CallView) → Shows config self.now v → call_numbered v call ≡ Some c →
+        ensures { (config : Config) (v : View) (c : CallView) → BoardMatches config self.now v → call_numbered v call ≡ Some c →
             DialogFor config result.now c.rounds }
     {
         &*self.live(call).dialog
@@ -272,7 +272,7 @@ impl Board {
     /// The moments of the first and of the last accepted offer or answer of a live call, in milliseconds.
     pub fn moments(&self, call: u64) -> (u64, u64)
         requires { IsLive self.now call }
-        ensures { (config : Config) (v : View) → Shows config self.now v → option_map (λ (c : CallView). (c.first, c.last)) (call_numbered v call) ≡ Some result }
+        ensures { (config : Config) (v : View) → BoardMatches config self.now v → option_map (λ (c : CallView). (c.first, c.last)) (call_numbered v call) ≡ Some result }
     {
         let live = self.live(call);
         (live.first_moment, live.last_moment)

@@ -35,7 +35,7 @@ pub struct BoardPlan {
 }
 
 impl BoardPlan {
-    ghost use Rattle.call_board.specs.Lending.{LendsPlan};
+    ghost use Rattle.call_board.specs.PlanBorrows.{LendsPlan};
 
     /// The plan of the call's dialog.
     pub fn plan(&mut self) -> &mut Plan

@@ -2,7 +2,7 @@
 
 ghost use Rattle.std.specs.Prelude.{◌≡◌};
 ghost use Rattle.call_board.specs.declared.fault.BoardFault.TheVariants.{OutOfMemory as out_of_memory};
-ghost use Rattle.call_board.specs.Planned.{board_fault};
+ghost use Rattle.call_board.specs.Plans.{board_fault};
 
 use offer_answer::OaFault;
 use relay_outside::OutOfMemory;

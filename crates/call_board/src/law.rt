@@ -3,14 +3,14 @@ ghost use Rattle.relay_outside.specs.declared.settings.Config.{Config};
 ghost use Rattle.call_board.specs.Acts.{BoardEntry};
 ghost use Rattle.call_board.specs.Fits.{FitsBoard, IsFitting};
 ghost use Rattle.call_board.specs.Views.{view_of};
-ghost use Rattle.call_board.specs.Whole.{IsTimely, after};
+ghost use Rattle.call_board.specs.Whole.{IsTimely, view_after};
 ghost use Rattle.call_board.specs.Futures.{OneBoardLives, OneBoardAnswers, OneBoardDemands, OneBoardFits, OneBoardGoesOn};
 
 /// Theorem (no run-time code): what the calls of the board make together of what it keeps, in the turn of an entry that the history
 /// demands, is what there is to keep of the history with that entry.
 pub fn changes_are_entries()
     ensures { (config : Config) (h : List BoardEntry) (e : BoardEntry) → IsFitting config h → FitsBoard config h e → IsTimely h e →
-        view_of config (e ∷ h) ≡ after h e (view_of config h) }
+        view_of config (e ∷ h) ≡ view_after h e (view_of config h) }
 {}
 
 /// Theorem (no run-time code): two histories that one board stands for have one future. They have the same live calls; a datagram gets

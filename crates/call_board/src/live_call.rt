@@ -28,7 +28,7 @@ impl LiveCall {
     ghost use Rattle.offer_answer.specs.Sides.{is_begun};
     ghost use Rattle.call_board.specs.Views.{CallView, with_round};
     ghost use Rattle.call_board.specs.Boards.{CallFor};
-    ghost use Rattle.call_board.specs.Applied.{IsPlanOf};
+    ghost use Rattle.call_board.specs.NextBoards.{IsPlanOf};
 
     /// Takes in one more offer or answer, at the moment `now`.
     pub(crate) fn go_on(&mut self, plan: Plan, now: u64)

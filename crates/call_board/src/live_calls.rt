@@ -27,7 +27,7 @@ impl Model for LiveCalls {
     ghost use Rattle.indexmap.specs.IndexMap.{spare, values};
     ghost use Rattle.ng_bencode.specs.Room.{Room};
     ghost use Rattle.call_board.specs.declared.live_call.LiveCall.{LiveCall};
-    ghost use Rattle.call_board.specs.Keyed.{AreUnderTheirIds};
+    ghost use Rattle.call_board.specs.CallIds.{AreUnderTheirIds};
 
     ghost Value = { Room LiveCall };
 
@@ -39,8 +39,8 @@ impl Model for LiveCalls {
 impl LiveCalls {
     ghost use Rattle.std.specs.Prelude.{map};
     ghost use Rattle.indexmap.specs.IndexMap.{keys, values};
-    ghost use Rattle.call_board.specs.Applied.{WentOn};
-    ghost use Rattle.call_board.specs.Numbered.{NumbersRise};
+    ghost use Rattle.call_board.specs.NextBoards.{CallGoesOn};
+    ghost use Rattle.call_board.specs.CallNumbers.{NumbersRise};
 
     /// No calls.
     pub fn new(alloc: Global) -> LiveCalls
@@ -98,7 +98,7 @@ impl LiveCalls {
     /// Takes in one more offer or answer of the call in a place, from 0, at the moment `now`.
     pub fn go_on(&mut self, place: usize, plan: Plan, now: u64)
         requires { place < length self.old.list }
-        ensures { WentOn self.old.list self.new.list place plan now }
+        ensures { CallGoesOn self.old.list self.new.list place plan now }
     {
         self.calls[place].go_on(plan, now);
     }

@@ -12,13 +12,13 @@ use Rattle.call_cell.specs.declared.outcome.Refused.{Refused}
 use Rattle.call_cell.specs.declared.outcome.Refused.TheVariants as refused
 use Rattle.call_cell.specs.declared.contexts.Inbound.{Inbound}
 use Rattle.call_cell.specs.declared.counts.Counts.{Counts}
-use Rattle.call_cell.specs.declared.receiving.Receiving.{Receiving}
+use Rattle.call_cell.specs.declared.receiver.Receiving.{Receiving}
 use Rattle.call_cell.specs.declared.leg.Leg.{Leg}
-use Rattle.call_cell.specs.Keyed.{Judged, Stopped, Passed, is_packet, opened_by}
-use Rattle.endpoint_learn.specs.Learning.{is_wrong_source}
+use Rattle.call_cell.specs.Protection.{Judged, Stopped, Passed, is_packet, opened_by}
+use Rattle.endpoint_learn.specs.Lessons.{is_wrong_source}
 use Rattle.call_cell.specs.Deeds.{judged_leg}
-use Rattle.call_cell.specs.Counting.{more_accepted}
-use Rattle.call_cell.specs.Standing.{LegAccepts}
+use Rattle.call_cell.specs.Counts.{more_accepted}
+use Rattle.call_cell.specs.LegHistories.{LegAccepts}
 use Rattle.call_cell.specs.Parts.{ReceivingFor, OpensIn, AcceptsTo, learner_in, taught_half}
 
 abbrev with_inbound : Receiving → Option (Box (Option Inbound) Global) → Receiving

@@ -13,13 +13,13 @@ use Rattle.call_cell.specs.declared.leg.Leg.{Leg}
 use Rattle.call_cell.specs.declared.prepare.Prepare as prepared
 use Rattle.call_cell.specs.declared.cell.Cell.{Cell}
 use Rattle.call_cell.specs.Cells.{CellEntry, legs, since_end, key_numbered}
-use Rattle.call_cell.specs.LegKeys.{keys_for, key_of, number_of, is_for, OnePerSuite}
-use Rattle.call_cell.specs.Asked.{CountsBelow, accepted_count, sent_count}
-use Rattle.call_cell.specs.Counting.{accepted_in, sent_in, as_counted}
-use Rattle.call_cell.specs.Standing.{LegFor, LegsFor}
-use Rattle.call_cell.specs.CellStanding.{CellFor}
-use Rattle.call_cell.specs.Committing.{NamesKeys}
-use Rattle.call_cell.specs.Preparing.{CanCome, added, prepare_entry}
+use Rattle.call_cell.specs.LegKeys.{keys_for, key_number_for, key_number_of, is_for_leg, OnePerSuite}
+use Rattle.call_cell.specs.Demands.{CountsBelow, accepted_count, sent_count}
+use Rattle.call_cell.specs.Counts.{accepted_in, sent_in, as_counted}
+use Rattle.call_cell.specs.LegHistories.{LegStandsFor, LegsStandFor}
+use Rattle.call_cell.specs.CellHistories.{CellFor}
+use Rattle.call_cell.specs.Commits.{NamesKeys}
+use Rattle.call_cell.specs.Preparations.{CanCome, added, prepare_entry}
 use Rattle.call_cell.proofs.Legs.{is_same_leg}
 use Rattle.call_cell.proofs.Few.{each_in}
 use Rattle.call_cell.proofs.KeysEqual.{suite_is}
@@ -46,19 +46,19 @@ first_there key [] i = elim i [ ]
 first_there key (k ∷ keys) i = (k, refl)
 
 -- the key of a leg for a suite is the one that the leg's contexts are of
-key_is : (key : NewKey) (keys : List NewKey) → In key keys → OnePerSuite keys → key_of key.suite keys ≡ Some key.number
+key_is : (key : NewKey) (keys : List NewKey) → In key keys → OnePerSuite keys → key_number_for key.suite keys ≡ Some key.number
 unfolding for_suite
 key_is key keys i one =
     let test : NewKey → Bool = for_suite key.suite in
     let f = first_there key (filter test keys) (keeps test keys i (suite_itself key.suite)) in
     let there = filtered test keys (first_is_in (filter test keys) f.1) in
-    ap number_of f.1 ∙ ap Some (one f.0 key there.0 i (suite_is f.0.suite key.suite there.1))
+    ap key_number_of f.1 ∙ ap Some (one f.0 key there.0 i (suite_is f.0.suite key.suite there.1))
 
-first_numbered : (keys : List NewKey) (n : ℕ) → number_of (first keys) ≡ Some n → (key : NewKey) × In key keys × (key.number ≡ n)
+first_numbered : (keys : List NewKey) (n : ℕ) → key_number_of (first keys) ≡ Some n → (key : NewKey) × In key keys × (key.number ≡ n)
 first_numbered [] n q = absurd (let e = q in cc)
 first_numbered (key ∷ keys) n q = (key, here refl, (let e = q in cc))
 
-twin_of : (key : NewKey) (keys : List NewKey) → key_of key.suite keys ≡ Some key.number → Twin key keys
+twin_of : (key : NewKey) (keys : List NewKey) → key_number_for key.suite keys ≡ Some key.number → Twin key keys
 unfolding for_suite
 twin_of key keys q =
     let test : NewKey → Bool = for_suite key.suite in
@@ -67,13 +67,13 @@ twin_of key keys q =
     record { other = f.0; is_there = there.0; suite = suite_is f.0.suite key.suite there.1; number = f.2 }
 
 -- one leg, two histories
-twin_for : {O : Type 0} (config : Config) (h k : List CellEntry) (leg : Leg O) → LegFor config h leg → LegFor config k leg
+twin_for : {O : Type 0} (config : Config) (h k : List CellEntry) (leg : Leg O) → LegStandsFor config h leg → LegStandsFor config k leg
     → (key : NewKey) → In key (keys_for k leg.holder) → Twin key (keys_for h leg.holder)
 twin_for config h k leg for again key i =
     twin_of key (keys_for h leg.holder)
     (sym (for.held key.suite) ∙ again.held key.suite ∙ key_is key (keys_for k leg.holder) i again.one_each)
 
-twins : {O : Type 0} (config : Config) (h k : List CellEntry) (those : List (Leg O)) → LegsFor config h those → LegsFor config k those
+twins : {O : Type 0} (config : Config) (h k : List CellEntry) (those : List (Leg O)) → LegsStandFor config h those → LegsStandFor config k those
     → (leg : Holder) → In leg (legs k) → (key : NewKey) → In key (keys_for k leg) → Twin key (keys_for h leg)
 twins {O} config h k those for again leg i =
     let m = mapped (λ (x : Leg O). x.holder) those (subst (λ (l : List Holder). In leg l) (sym again.holders) i) in
@@ -92,9 +92,9 @@ twin_case : (m call : ℕ) (new : List Holder) (keys : List NewKey) (dropped : L
     → (key : NewKey) → In key (keys_for (prepare_entry m call new keys dropped ∷ k) leg) → Twin key (keys_for (prepare_entry m call new keys dropped ∷ h) leg)
 twin_case m call new keys dropped h k leg true q rest key i =
     subst (λ (l : List NewKey). Twin key l) (sym (keys_new m call new keys dropped h leg q))
-    (itself key (filter (is_for leg) keys ++ []) (subst (λ (l : List NewKey). In key l) (keys_new m call new keys dropped k leg q) i))
+    (itself key (filter (is_for_leg leg) keys ++ []) (subst (λ (l : List NewKey). In key l) (keys_new m call new keys dropped k leg q) i))
 twin_case m call new keys dropped h k leg false q rest key i =
-    let here_keys = filter (is_for leg) keys in
+    let here_keys = filter (is_for_leg leg) keys in
     subst (λ (l : List NewKey). Twin key l) (sym (keys_stay m call new keys dropped h leg q))
     (elim (in_append here_keys (keys_for k leg) (subst (λ (l : List NewKey). In key l) (keys_stay m call new keys dropped k leg q) i)) [
       | inl one ↦ itself key (here_keys ++ keys_for h leg) (in_left here_keys (keys_for h leg) one)

@@ -13,11 +13,11 @@ use Rattle.port_pool.specs.Signals.{same_leg, is_rejected}
 use Rattle.call_cell.specs.declared.leg.Leg.{Leg}
 use Rattle.call_cell.specs.declared.cell.Cell.{Cell}
 use Rattle.call_cell.specs.Cells.{CellEntry, legs, since_end, prepared_call}
-use Rattle.call_cell.specs.Standing.{LegFor, LegsFor, AreApart}
-use Rattle.call_cell.specs.CellStanding.{CellFor, WasAt, last_moment}
-use Rattle.call_cell.specs.Ending.{parts_of}
-use Rattle.call_cell.specs.Parting.{FlagsAre, goes, stays, Part}
-use Rattle.call_cell.specs.Committing.{LegCommitsBy, LegsCommit, NamesKeys, said_of, goes_by, stays_by, CellCommits, committed_at}
+use Rattle.call_cell.specs.LegHistories.{LegStandsFor, LegsStandFor, AreApart}
+use Rattle.call_cell.specs.CellHistories.{CellFor, WasAt, cell_last_moment}
+use Rattle.call_cell.specs.CellEnds.{parts_of}
+use Rattle.call_cell.specs.DroppedLegs.{FlagsAre, goes, stays, Part}
+use Rattle.call_cell.specs.Commits.{LegCommitsBy, LegsCommit, NamesKeys, said_of, goes_by, stays_by, CellCommits, committed_at}
 use Rattle.call_cell.proofs.Steps.{commit_legs}
 use Rattle.call_cell.proofs.Few.{few, in_at, at_in, Apart, pairs_of, apart_of}
 use Rattle.call_cell.proofs.CommitSteps.{commit_entry, committed_leg}
@@ -109,15 +109,15 @@ apart_kept {O} p xs apart = apart_of (filter p xs) (AllPairs-filter (λ (a b : L
 
 pub record Answered {O : Type 0} (config : Config) (m : ℕ) (signal : List SectionSignal) (h : List CellEntry) (old new : List (Leg O))
     (gone : List (Lease × O × O)) : Type 0 where
-  pub legs_for : LegsFor config (commit_entry m signal ∷ h) new
+  pub legs_for : LegsStandFor config (commit_entry m signal ∷ h) new
   pub went : gone ≡ map (λ (leg : Leg O). parts_of leg) (filter (λ (leg : Leg O). goes_by signal leg) old)
   pub stay : map (λ (leg : Leg O). parts_of leg) new ≡ map (λ (leg : Leg O). parts_of leg) (filter (λ (leg : Leg O). stays_by signal leg) old)
 
 pub answered : {O : Type 0} (config : Config) (m : ℕ) (signal : List SectionSignal) (h : List CellEntry) (flags : List Bool) (old mid new : List (Leg O))
-    (before after : List (Lease × O × O)) → LegsFor config h old → NamesKeys h signal → length mid ≡ length old → LegsCommit signal old mid
+    (before after : List (Lease × O × O)) → LegsStandFor config h old → NamesKeys h signal → length mid ≡ length old → LegsCommit signal old mid
     → FlagsAre flags (is_rejected signal) → before ≡ [] → Part flags mid new before after → Answered config m signal h old new after
 answered {O} config m signal h flags old mid new before after for names long does are empty part =
-    let P : List (Leg O) → Type 0 = λ (l : List (Leg O)). LegsFor config (commit_entry m signal ∷ h) l in
+    let P : List (Leg O) → Type 0 = λ (l : List (Leg O)). LegsStandFor config (commit_entry m signal ∷ h) l in
     let room : length before + length mid ≤ 16
     = subst (λ (l : List (Lease × O × O)). length l + length mid ≤ 16) (sym empty) (omega (arith, few config h old for, long)) in
     let parts : Leg O → Lease × O × O = λ (leg : Leg O). parts_of leg in
@@ -131,7 +131,7 @@ answered {O} config m signal h flags old mid new before after for names long doe
     = λ i d below. (same_of (said_of signal (get_or old i d).holder) (get_or old i d) (get_or mid i d) (does i d below)).0 in
     let in_old : (i : ℕ) (d : Leg O) → i < length old → In (get_or old i d).holder (legs h)
     = λ i d below. subst (λ (l : List Holder). In (get_or old i d).holder l) for.holders (maps_in old i d below) in
-    let each_mid : (i : ℕ) (d : Leg O) → i < length mid → LegFor config (commit_entry m signal ∷ h) (get_or mid i d) = λ i d below.
+    let each_mid : (i : ℕ) (d : Leg O) → i < length mid → LegStandsFor config (commit_entry m signal ∷ h) (get_or mid i d) = λ i d below.
     let within : i < length old = omega (arith, below, long) in
     committed_leg config m signal h (get_or old i d) (get_or mid i d) (said_of signal (get_or old i d).holder) refl
     (λ n q. names (get_or old i d).holder n (in_old i d within) q) (does i d within) (for.each i d within) in
@@ -144,7 +144,7 @@ answered {O} config m signal h flags old mid new before after for names long doe
       each = λ i d below.
           let f = filtered stay_q mid (at_in (filter stay_q mid) i d below) in
           let a = in_at mid f.0 in
-          subst (λ (l : Leg O). LegFor config (commit_entry m signal ∷ h) l) (a.is d) (each_mid a.at d a.below);
+          subst (λ (l : Leg O). LegStandsFor config (commit_entry m signal ∷ h) l) (a.is d) (each_mid a.at d a.below);
     } in
     record {
       legs_for = subst P (sym (part room).0) kept;
@@ -174,8 +174,8 @@ pub cell_commits : {O : Type 0} (config : Config) (old new : Cell O) (h : List C
     → CellCommits config old new h signal now gone
 cell_commits {O} config old new h signal now gone for same_config moment same_call began committed active legs_do =
     let e = committed_at h signal now in
-    let last : new.moment ≡ last_moment (e ∷ h) = moment ∙ ap (λ (m : ℕ). max m now) for.moment ∙ max_again (last_moment h) now in
-    let now_is : e.moment ≡ new.moment = max_swap now (last_moment h) ∙ sym (moment ∙ ap (λ (m : ℕ). max m now) for.moment) in
+    let last : new.moment ≡ cell_last_moment (e ∷ h) = moment ∙ ap (λ (m : ℕ). max m now) for.moment ∙ max_again (cell_last_moment h) now in
+    let now_is : e.moment ≡ new.moment = max_swap now (cell_last_moment h) ∙ sym (moment ∙ ap (λ (m : ℕ). max m now) for.moment) in
     let did = legs_do e.moment in
     record {
       fits = tt;

@@ -6,7 +6,7 @@ use Rattle.std.proofs.lemmas.List.{get_or_default}
 use Rattle.std.proofs.lemmas.List.Sums.{count_by_more_yes, count_by_more_no, sum_by-take-le}
 use Rattle.port_pool.specs.declared.signal.SectionSignal.{SectionSignal}
 use Rattle.call_cell.specs.declared.leg.Leg.{Leg}
-use Rattle.call_cell.specs.Committing.{LegCommitsBy, contexts_due, needs_contexts, said_of}
+use Rattle.call_cell.specs.Commits.{LegCommitsBy, contexts_due, needs_contexts, said_of}
 use Rattle.call_cell.proofs.Placing.{at_set, off_set}
 
 count_take : {X : Type 0} (p : X → Bool) (k : ℕ) (xs : List X) → count_by p (take k xs) ≤ count_by p xs

@@ -6,9 +6,9 @@ use Rattle.relay_outside.specs.declared.settings.Config.{Config}
 use Rattle.histories.specs.Words.{first, final}
 use Rattle.call_cell.specs.declared.cell.Cell.{Cell}
 use Rattle.call_cell.specs.Cells.{CellEvent, CellEntry, Prepare, Commit, Relay, Expire, Read, End, since_end, prepared_call}
-use Rattle.call_cell.specs.Asked.{commits, is_activity, is_past, is_due}
-use Rattle.call_cell.specs.CellStanding.{CellFor, WasAt, last_moment}
-use Rattle.call_cell.specs.Expiring.{is_ago, due_by, expired_at, with_moment, CellExpires}
+use Rattle.call_cell.specs.Demands.{commits, is_activity, is_past, is_due}
+use Rattle.call_cell.specs.CellHistories.{CellFor, WasAt, cell_last_moment}
+use Rattle.call_cell.specs.Expiries.{is_ago, due_by, expired_at, with_moment, CellExpires}
 use Rattle.call_cell.proofs.Legs.{legs_stay}
 use Rattle.call_cell.proofs.Offered.{both_final}
 
@@ -23,7 +23,7 @@ is_active (Commit signal) q = refl
 is_active (Prepare call legs keys dropped) q = absurd (let e = q in cc)
 is_active (Relay r) q = absurd (let e = q in cc)
 is_active (Expire due) q = absurd (let e = q in cc)
-is_active (Read told) q = absurd (let e = q in cc)
+is_active (Read log) q = absurd (let e = q in cc)
 is_active End q = absurd (let e = q in cc)
 
 active_case : (e : CellEntry) (rest : List CellEntry) (a b : Bool) → (b ≡ true → a ≡ true) → ((b ≡ false) → is_some (first rest) ≡ true)
@@ -77,8 +77,8 @@ pub cell_expires : {O : Type 0} (config : Config) (old : Cell O) (h : List CellE
 cell_expires {O} config old h now moment due for is answer =
     let e = expired_at h now due in
     let s = since_end h in
-    let last : moment ≡ last_moment (e ∷ h) = is ∙ ap (λ (m : ℕ). max m now) for.moment ∙ max_again (last_moment h) now in
-    let now_is : moment ≡ e.moment = is ∙ ap (λ (m : ℕ). max m now) for.moment ∙ max_swap (last_moment h) now in
+    let last : moment ≡ cell_last_moment (e ∷ h) = is ∙ ap (λ (m : ℕ). max m now) for.moment ∙ max_again (cell_last_moment h) now in
+    let now_is : moment ≡ e.moment = is ∙ ap (λ (m : ℕ). max m now) for.moment ∙ max_swap (cell_last_moment h) now in
     record {
       fits = answer ∙ due_so config old h moment for ∙ ap (λ (m : ℕ). is_due config s m) now_is;
       stands = record {

@@ -16,15 +16,15 @@ use Rattle.srtp_sources.specs.Notes.{Note, is_half, once, source_under, sources,
 use Rattle.srtp_sources.proofs.Tabling.{noted_elsewhere}
 use Rattle.srtp_context.specs.declared.inbound.InRtp.{InRtp}
 use Rattle.srtp_context.specs.declared.outbound.OutRtp.{OutRtp}
-use Rattle.srtp_context.specs.Opening as srtp
-use Rattle.srtp_context.specs.Wrapping as srtp_out
+use Rattle.srtp_context.specs.InboundPackets as srtp
+use Rattle.srtp_context.specs.OutboundPackets as srtp_out
 use Rattle.srtp_context.specs.Contexts as srtp_for
 use Rattle.srtcp_context.specs.declared.inbound.InRtcp.{InRtcp}
 use Rattle.srtcp_context.specs.declared.outbound.OutRtcp.{OutRtcp}
 use Rattle.srtcp_context.specs.declared.counts.Counts.{Counts}
-use Rattle.srtcp_context.specs.Counting.{CountsFor}
-use Rattle.srtcp_context.specs.Opening as srtcp
-use Rattle.srtcp_context.specs.Wrapping as srtcp_out
+use Rattle.srtcp_context.specs.Counts.{CountsFor}
+use Rattle.srtcp_context.specs.InboundPackets as srtcp
+use Rattle.srtcp_context.specs.OutboundPackets as srtcp_out
 use Rattle.srtcp_context.specs.Contexts as srtcp_for
 use Rattle.port_pool.specs.Signals.{NewKey}
 use Rattle.call_cell.specs.declared.outcome.Refused.{Refused}
@@ -32,8 +32,8 @@ use Rattle.call_cell.specs.declared.outcome.Lost.{Lost}
 use Rattle.call_cell.specs.declared.outcome.Lost.TheVariants as lost
 use Rattle.call_cell.specs.declared.contexts.Inbound.{Inbound}
 use Rattle.call_cell.specs.declared.contexts.Outbound.{Outbound}
-use Rattle.call_cell.specs.Keyed.{is_packet, Wrapped, Held, refused_by, opened_rtp, opened_rtcp, opened_under, lost_by, wrapped_rtp, wrapped_rtcp, wrapped_under}
-use Rattle.call_cell.specs.Contexts.{InboundFor, OpensTo, OutboundFor, WrapsTo, no_packet}
+use Rattle.call_cell.specs.Protection.{is_packet, Departure, Held, refused_by, opened_rtp, opened_rtcp, opened_under, lost_by, wrapped_rtp, wrapped_rtcp, wrapped_under}
+use Rattle.call_cell.specs.Contexts.{InboundFor, InboundOpensTo, OutboundFor, OutboundWrapsTo, no_packet}
 
 -- The halves of notes.
 
@@ -70,19 +70,19 @@ unfolding srtp.opening
 opening_is_rtp master suite notes bytes w q = head_is_rtp master suite notes bytes (rtp_head bytes) w q
 
 opened_is_rtcp : (master bytes : List ℕ) (ssrc : ℕ) (r : Result ℕ UnprotectFault) (w : srtcp.Opened)
-    → srtcp.opened_at master bytes ssrc r ≡ Ok w → w.note.half ≡ Rtcp
+    → srtcp.rtcp_opened_at master bytes ssrc r ≡ Ok w → w.note.half ≡ Rtcp
 opened_is_rtcp master bytes ssrc (Err cause) w q = absurd (let f = q in cc)
 opened_is_rtcp master bytes ssrc (Ok index) w q = sym (ap half_opened_control q)
 
 ssrc_is_rtcp : (master : List ℕ) (notes : List Note) (bytes : List ℕ) (o : Option ℕ) (w : srtcp.Opened)
-    → option_map_or (λ (ssrc : ℕ). srtcp.opened_at master bytes ssrc (srtcp.taken_index master notes bytes ssrc)) o (Err opening_fault.Short) ≡ Ok w
+    → option_map_or (λ (ssrc : ℕ). srtcp.rtcp_opened_at master bytes ssrc (srtcp.taken_rtcp_index master notes bytes ssrc)) o (Err opening_fault.Short) ≡ Ok w
     → w.note.half ≡ Rtcp
 ssrc_is_rtcp master notes bytes None w q = absurd (let f = q in cc)
-ssrc_is_rtcp master notes bytes (Some ssrc) w q = opened_is_rtcp master bytes ssrc (srtcp.taken_index master notes bytes ssrc) w q
+ssrc_is_rtcp master notes bytes (Some ssrc) w q = opened_is_rtcp master bytes ssrc (srtcp.taken_rtcp_index master notes bytes ssrc) w q
 
 opening_is_rtcp : (master : List ℕ) (notes : List Note) (bytes : List ℕ) (w : srtcp.Opened)
-    → srtcp.opening master notes bytes ≡ Ok w → w.note.half ≡ Rtcp
-unfolding srtcp.opening
+    → srtcp.rtcp_opening master notes bytes ≡ Ok w → w.note.half ≡ Rtcp
+unfolding srtcp.rtcp_opening
 opening_is_rtcp master notes bytes w q = ssrc_is_rtcp master notes bytes (rtcp_ssrc bytes) w q
 
 wrapped_is_rtp : (master : List ℕ) (suite : Suite) (bytes : List ℕ) (found : RtpHead) (r : Result ℕ ProtectFault) (w : srtp_out.Wrapped)
@@ -102,19 +102,19 @@ unfolding srtp_out.wrapping
 wrapping_is_rtp master suite notes bytes w q = sent_is_rtp master suite notes bytes (rtp_head bytes) w q
 
 wrapped_is_rtcp : (master bytes : List ℕ) (ssrc : ℕ) (r : Result ℕ ProtectFault) (w : srtcp_out.Wrapped)
-    → srtcp_out.wrapped_at master bytes ssrc r ≡ Ok w → w.note.half ≡ Rtcp
+    → srtcp_out.rtcp_wrapped_at master bytes ssrc r ≡ Ok w → w.note.half ≡ Rtcp
 wrapped_is_rtcp master bytes ssrc (Err cause) w q = absurd (let f = q in cc)
 wrapped_is_rtcp master bytes ssrc (Ok index) w q = sym (ap half_wrapped_control q)
 
 sent_is_rtcp : (master : List ℕ) (notes : List Note) (bytes : List ℕ) (o : Option ℕ) (w : srtcp_out.Wrapped)
-    → option_map_or (λ (ssrc : ℕ). srtcp_out.wrapped_at master bytes ssrc (srtcp_out.sent_index notes ssrc)) o (Err wrapping_fault.TooManySources) ≡ Ok w
+    → option_map_or (λ (ssrc : ℕ). srtcp_out.rtcp_wrapped_at master bytes ssrc (srtcp_out.sent_rtcp_index notes ssrc)) o (Err wrapping_fault.TooManySources) ≡ Ok w
     → w.note.half ≡ Rtcp
 sent_is_rtcp master notes bytes None w q = absurd (let f = q in cc)
-sent_is_rtcp master notes bytes (Some ssrc) w q = wrapped_is_rtcp master bytes ssrc (srtcp_out.sent_index notes ssrc) w q
+sent_is_rtcp master notes bytes (Some ssrc) w q = wrapped_is_rtcp master bytes ssrc (srtcp_out.sent_rtcp_index notes ssrc) w q
 
 wrapping_is_rtcp : (master : List ℕ) (notes : List Note) (bytes : List ℕ) (w : srtcp_out.Wrapped)
-    → srtcp_out.wrapping master notes bytes ≡ Ok w → w.note.half ≡ Rtcp
-unfolding srtcp_out.wrapping
+    → srtcp_out.rtcp_wrapping master notes bytes ≡ Ok w → w.note.half ≡ Rtcp
+unfolding srtcp_out.rtcp_wrapping
 wrapping_is_rtcp master notes bytes w q = sent_is_rtcp master notes bytes (rtcp_ssrc bytes) w q
 
 -- A note of the other half.
@@ -159,8 +159,8 @@ opened_answer (Err cause) = Err (refused_by cause)
 
 rtp_opens : (key : List ℕ × Suite) (notes : List Note) (old : Inbound) (new : InRtp) (buf_old buf_new : List ℕ) (r : Result ℕ UnprotectFault)
     → InboundFor key old notes → (o : Result srtp.Opened UnprotectFault) → ((w : srtp.Opened) → o ≡ Ok w → w.note.half ≡ Rtp)
-    → srtp_for.OpensTo o key.0 key.1 notes old.rtp new buf_old buf_new r
-    → OpensTo (opened_rtp o) key notes old (record { rtp = new; rtcp = old.rtcp }) buf_new (opened_answer r)
+    → srtp_for.OpensRtpTo o key.0 key.1 notes old.rtp new buf_old buf_new r
+    → InboundOpensTo (opened_rtp o) key notes old (record { rtp = new; rtcp = old.rtcp }) buf_new (opened_answer r)
 rtp_opens key notes old new buf_old buf_new r for (Err cause) half does =
     record { answer = ap opened_answer does.answer; contexts = ap (λ (x : InRtp). record { rtp = x; rtcp = old.rtcp }) does.context }
 rtp_opens key notes old new buf_old buf_new r for (Ok w) half does =
@@ -178,19 +178,19 @@ rtp_opens key notes old new buf_old buf_new r for (Ok w) half does =
 
 pub opens_rtp : (key : List ℕ × Suite) (notes : List Note) (bytes : List ℕ) (old : Inbound) (new : InRtp) (buf_old buf_new : List ℕ)
     (r : Result ℕ UnprotectFault) (result : Result ℕ Refused) → result ≡ opened_answer r → InboundFor key old notes
-    → srtp_for.OpensTo (srtp.opening key.0 key.1 notes bytes) key.0 key.1 notes old.rtp new buf_old buf_new r
-    → OpensTo (opened_under key notes Rtp bytes) key notes old (record { rtp = new; rtcp = old.rtcp }) buf_new result
+    → srtp_for.OpensRtpTo (srtp.opening key.0 key.1 notes bytes) key.0 key.1 notes old.rtp new buf_old buf_new r
+    → InboundOpensTo (opened_under key notes Rtp bytes) key notes old (record { rtp = new; rtcp = old.rtcp }) buf_new result
 unfolding opened_under
 opens_rtp key notes bytes old new buf_old buf_new r result is for does =
     let P : Result ℕ Refused → Type 0 = λ (x : Result ℕ Refused).
-    OpensTo (opened_rtp (srtp.opening key.0 key.1 notes bytes)) key notes old (record { rtp = new; rtcp = old.rtcp }) buf_new x in
+    InboundOpensTo (opened_rtp (srtp.opening key.0 key.1 notes bytes)) key notes old (record { rtp = new; rtcp = old.rtcp }) buf_new x in
     subst P (sym is)
     (rtp_opens key notes old new buf_old buf_new r for (srtp.opening key.0 key.1 notes bytes) (opening_is_rtp key.0 key.1 notes bytes) does)
 
 rtcp_opens : (key : List ℕ × Suite) (notes : List Note) (old : Inbound) (new : InRtcp) (buf_old buf_new : List ℕ) (r : Result ℕ UnprotectFault)
     → InboundFor key old notes → (o : Result srtcp.Opened UnprotectFault) → ((w : srtcp.Opened) → o ≡ Ok w → w.note.half ≡ Rtcp)
-    → srtcp_for.OpensTo o key.0 notes old.rtcp new buf_old buf_new r
-    → OpensTo (opened_rtcp o) key notes old (record { rtp = old.rtp; rtcp = new }) buf_new (opened_answer r)
+    → srtcp_for.OpensRtcpTo o key.0 notes old.rtcp new buf_old buf_new r
+    → InboundOpensTo (opened_rtcp o) key notes old (record { rtp = old.rtp; rtcp = new }) buf_new (opened_answer r)
 rtcp_opens key notes old new buf_old buf_new r for (Err cause) half does =
     record { answer = ap opened_answer does.answer; contexts = ap (λ (x : InRtcp). record { rtp = old.rtp; rtcp = x }) does.context }
 rtcp_opens key notes old new buf_old buf_new r for (Ok w) half does =
@@ -208,14 +208,14 @@ rtcp_opens key notes old new buf_old buf_new r for (Ok w) half does =
 
 pub opens_rtcp : (key : List ℕ × Suite) (notes : List Note) (bytes : List ℕ) (old : Inbound) (new : InRtcp) (buf_old buf_new : List ℕ)
     (r : Result ℕ UnprotectFault) (result : Result ℕ Refused) → result ≡ opened_answer r → InboundFor key old notes
-    → srtcp_for.OpensTo (srtcp.opening key.0 notes bytes) key.0 notes old.rtcp new buf_old buf_new r
-    → OpensTo (opened_under key notes Rtcp bytes) key notes old (record { rtp = old.rtp; rtcp = new }) buf_new result
+    → srtcp_for.OpensRtcpTo (srtcp.rtcp_opening key.0 notes bytes) key.0 notes old.rtcp new buf_old buf_new r
+    → InboundOpensTo (opened_under key notes Rtcp bytes) key notes old (record { rtp = old.rtp; rtcp = new }) buf_new result
 unfolding opened_under
 opens_rtcp key notes bytes old new buf_old buf_new r result is for does =
     let P : Result ℕ Refused → Type 0 = λ (x : Result ℕ Refused).
-    OpensTo (opened_rtcp (srtcp.opening key.0 notes bytes)) key notes old (record { rtp = old.rtp; rtcp = new }) buf_new x in
+    InboundOpensTo (opened_rtcp (srtcp.rtcp_opening key.0 notes bytes)) key notes old (record { rtp = old.rtp; rtcp = new }) buf_new x in
     subst P (sym is)
-    (rtcp_opens key notes old new buf_old buf_new r for (srtcp.opening key.0 notes bytes) (opening_is_rtcp key.0 notes bytes) does)
+    (rtcp_opens key notes old new buf_old buf_new r for (srtcp.rtcp_opening key.0 notes bytes) (opening_is_rtcp key.0 notes bytes) does)
 
 -- Protecting.
 
@@ -225,8 +225,8 @@ wrapped_answer (Err cause) = Err (lost_by cause)
 
 rtp_wraps : (key : NewKey) (notes : List Note) (old : Outbound) (new : OutRtp) (buf_old buf_new : List ℕ) (r : Result (ℕ × ℕ) ProtectFault)
     → OutboundFor key old notes → (o : Result srtp_out.Wrapped ProtectFault) → ((w : srtp_out.Wrapped) → o ≡ Ok w → w.note.half ≡ Rtp)
-    → srtp_for.WrapsTo o key.bytes key.suite notes old.rtp new buf_old buf_new r
-    → WrapsTo (wrapped_rtp key.number o) key notes old (record { number = old.number; rtp = new; rtcp = old.rtcp }) buf_new (wrapped_answer r)
+    → srtp_for.WrapsRtpTo o key.bytes key.suite notes old.rtp new buf_old buf_new r
+    → OutboundWrapsTo (wrapped_rtp key.number o) key notes old (record { number = old.number; rtp = new; rtcp = old.rtcp }) buf_new (wrapped_answer r)
 rtp_wraps key notes old new buf_old buf_new r for (Err cause) half does =
     record {
       answer = ap wrapped_answer does.answer;
@@ -249,19 +249,19 @@ rtp_wraps key notes old new buf_old buf_new r for (Ok w) half does =
 
 pub wraps_rtp : (key : NewKey) (notes : List Note) (bytes : List ℕ) (old : Outbound) (new : OutRtp) (buf_old buf_new : List ℕ)
     (r : Result (ℕ × ℕ) ProtectFault) (result : Result ℕ Lost) → result ≡ wrapped_answer r → OutboundFor key old notes
-    → srtp_for.WrapsTo (srtp_out.wrapping key.bytes key.suite notes bytes) key.bytes key.suite notes old.rtp new buf_old buf_new r
-    → WrapsTo (wrapped_under key notes Rtp bytes) key notes old (record { number = old.number; rtp = new; rtcp = old.rtcp }) buf_new result
+    → srtp_for.WrapsRtpTo (srtp_out.wrapping key.bytes key.suite notes bytes) key.bytes key.suite notes old.rtp new buf_old buf_new r
+    → OutboundWrapsTo (wrapped_under key notes Rtp bytes) key notes old (record { number = old.number; rtp = new; rtcp = old.rtcp }) buf_new result
 unfolding wrapped_under
 wraps_rtp key notes bytes old new buf_old buf_new r result is for does =
     let P : Result ℕ Lost → Type 0 = λ (x : Result ℕ Lost).
-    WrapsTo (wrapped_rtp key.number (srtp_out.wrapping key.bytes key.suite notes bytes)) key notes old (record { number = old.number; rtp = new; rtcp = old.rtcp }) buf_new x in
+    OutboundWrapsTo (wrapped_rtp key.number (srtp_out.wrapping key.bytes key.suite notes bytes)) key notes old (record { number = old.number; rtp = new; rtcp = old.rtcp }) buf_new x in
     subst P (sym is)
     (rtp_wraps key notes old new buf_old buf_new r for (srtp_out.wrapping key.bytes key.suite notes bytes) (wrapping_is_rtp key.bytes key.suite notes bytes) does)
 
 rtcp_wraps : (key : NewKey) (notes : List Note) (old : Outbound) (new : OutRtcp) (buf_old buf_new : List ℕ) (r : Result (ℕ × ℕ) ProtectFault)
     → OutboundFor key old notes → (o : Result srtcp_out.Wrapped ProtectFault) → ((w : srtcp_out.Wrapped) → o ≡ Ok w → w.note.half ≡ Rtcp)
-    → srtcp_for.WrapsTo o key.bytes notes old.rtcp new buf_old buf_new r
-    → WrapsTo (wrapped_rtcp key.number o) key notes old (record { number = old.number; rtp = old.rtp; rtcp = new }) buf_new (wrapped_answer r)
+    → srtcp_for.WrapsRtcpTo o key.bytes notes old.rtcp new buf_old buf_new r
+    → OutboundWrapsTo (wrapped_rtcp key.number o) key notes old (record { number = old.number; rtp = old.rtp; rtcp = new }) buf_new (wrapped_answer r)
 rtcp_wraps key notes old new buf_old buf_new r for (Err cause) half does =
     record {
       answer = ap wrapped_answer does.answer;
@@ -284,14 +284,14 @@ rtcp_wraps key notes old new buf_old buf_new r for (Ok w) half does =
 
 pub wraps_rtcp : (key : NewKey) (notes : List Note) (bytes : List ℕ) (old : Outbound) (new : OutRtcp) (buf_old buf_new : List ℕ)
     (r : Result (ℕ × ℕ) ProtectFault) (result : Result ℕ Lost) → result ≡ wrapped_answer r → OutboundFor key old notes
-    → srtcp_for.WrapsTo (srtcp_out.wrapping key.bytes notes bytes) key.bytes notes old.rtcp new buf_old buf_new r
-    → WrapsTo (wrapped_under key notes Rtcp bytes) key notes old (record { number = old.number; rtp = old.rtp; rtcp = new }) buf_new result
+    → srtcp_for.WrapsRtcpTo (srtcp_out.rtcp_wrapping key.bytes notes bytes) key.bytes notes old.rtcp new buf_old buf_new r
+    → OutboundWrapsTo (wrapped_under key notes Rtcp bytes) key notes old (record { number = old.number; rtp = old.rtp; rtcp = new }) buf_new result
 unfolding wrapped_under
 wraps_rtcp key notes bytes old new buf_old buf_new r result is for does =
     let P : Result ℕ Lost → Type 0 = λ (x : Result ℕ Lost).
-    WrapsTo (wrapped_rtcp key.number (srtcp_out.wrapping key.bytes notes bytes)) key notes old (record { number = old.number; rtp = old.rtp; rtcp = new }) buf_new x in
+    OutboundWrapsTo (wrapped_rtcp key.number (srtcp_out.rtcp_wrapping key.bytes notes bytes)) key notes old (record { number = old.number; rtp = old.rtp; rtcp = new }) buf_new x in
     subst P (sym is)
-    (rtcp_wraps key notes old new buf_old buf_new r for (srtcp_out.wrapping key.bytes notes bytes) (wrapping_is_rtcp key.bytes notes bytes) does)
+    (rtcp_wraps key notes old new buf_old buf_new r for (srtcp_out.rtcp_wrapping key.bytes notes bytes) (wrapping_is_rtcp key.bytes notes bytes) does)
 
 -- What is no packet is not protected.
 
@@ -306,13 +306,13 @@ unfolding wrapped_under srtp_out.wrapping
 no_rtp_leaves key notes bytes q = none_rtp key notes bytes (rtp_head bytes) q
 
 none_rtcp : (key : NewKey) (notes : List Note) (bytes : List ℕ) (o : Option ℕ) → is_some o ≡ false
-    → wrapped_rtcp key.number (option_map_or (λ (ssrc : ℕ). srtcp_out.wrapped_at key.bytes bytes ssrc (srtcp_out.sent_index notes ssrc)) o (Err wrapping_fault.TooManySources))
+    → wrapped_rtcp key.number (option_map_or (λ (ssrc : ℕ). srtcp_out.rtcp_wrapped_at key.bytes bytes ssrc (srtcp_out.sent_rtcp_index notes ssrc)) o (Err wrapping_fault.TooManySources))
     ≡ Held lost.OutSources
 none_rtcp key notes bytes None q = refl
 none_rtcp key notes bytes (Some ssrc) q = absurd (let f = q in cc)
 
 no_rtcp_leaves : (key : NewKey) (notes : List Note) (bytes : List ℕ) → is_packet Rtcp bytes ≡ false → wrapped_under key notes Rtcp bytes ≡ Held lost.OutSources
-unfolding wrapped_under srtcp_out.wrapping
+unfolding wrapped_under srtcp_out.rtcp_wrapping
 no_rtcp_leaves key notes bytes q = none_rtcp key notes bytes (rtcp_ssrc bytes) q
 
 no_leaves : (half : Half) (key : NewKey) (notes : List Note) (bytes : List ℕ) → is_packet half bytes ≡ false → wrapped_under key notes half bytes ≡ Held (no_packet half)
@@ -320,7 +320,7 @@ no_leaves Rtp key notes bytes q = no_rtp_leaves key notes bytes q
 no_leaves Rtcp key notes bytes q = no_rtcp_leaves key notes bytes q
 
 pub wraps_nothing : (half : Half) (key : NewKey) (notes : List Note) (bytes : List ℕ) (old : Outbound) (buf : List ℕ) (cause : Lost) → is_packet half bytes ≡ false
-    → cause ≡ no_packet half → WrapsTo (wrapped_under key notes half bytes) key notes old old buf (Err cause)
+    → cause ≡ no_packet half → OutboundWrapsTo (wrapped_under key notes half bytes) key notes old old buf (Err cause)
 wraps_nothing half key notes bytes old buf cause q is =
-    let P : Wrapped → Type 0 = λ (w : Wrapped). WrapsTo w key notes old old buf (Err cause) in
+    let P : Departure → Type 0 = λ (w : Departure). OutboundWrapsTo w key notes old old buf (Err cause) in
     subst P (sym (no_leaves half key notes bytes q)) (record { answer = ap loss is; contexts = refl })

@@ -14,11 +14,11 @@ use Rattle.call_cell.specs.declared.leg.Leg.{Leg}
 use Rattle.call_cell.specs.declared.prepare.Prepare as prepared
 use Rattle.call_cell.specs.declared.cell.Cell.{Cell}
 use Rattle.call_cell.specs.Cells.{CellEntry, in_force, since_end}
-use Rattle.call_cell.specs.CellStanding.{CellFor}
-use Rattle.call_cell.specs.Ending.{parts_of}
-use Rattle.call_cell.specs.Parting.{goes, stays, Part}
-use Rattle.call_cell.specs.Committing.{contexts_due, contexts_due_after, needs_contexts, needs_inbound, said_of}
-use Rattle.call_cell.specs.Preparing.{PrepareFor, CanCome, FitsPlaces, added, with_keys}
+use Rattle.call_cell.specs.CellHistories.{CellFor}
+use Rattle.call_cell.specs.CellEnds.{parts_of}
+use Rattle.call_cell.specs.DroppedLegs.{goes, stays, Part}
+use Rattle.call_cell.specs.Commits.{contexts_due, contexts_due_after, needs_contexts, needs_inbound, said_of}
+use Rattle.call_cell.specs.Preparations.{PrepareFor, CanCome, FitsPlaces, added, with_keys}
 use Rattle.call_cell.proofs.Few.{few, each_in}
 use Rattle.call_cell.proofs.Offered.{offered, filter_by}
 use Rattle.call_cell.proofs.Answered.{map_filter}

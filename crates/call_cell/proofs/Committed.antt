@@ -36,7 +36,7 @@ commit_event moment (Commit signal) leg s q = record { signal = signal; is_commi
 commit_event moment (Prepare call legs keys dropped) leg s q = absurd (let e = q in cc)
 commit_event moment (Relay r) leg s q = absurd (let e = q in cc)
 commit_event moment (Expire due) leg s q = absurd (let e = q in cc)
-commit_event moment (Read told) leg s q = absurd (let e = q in cc)
+commit_event moment (Read log) leg s q = absurd (let e = q in cc)
 commit_event moment End leg s q = absurd (let e = q in cc)
 
 abbrev adds : Holder → CellEntry → Bool

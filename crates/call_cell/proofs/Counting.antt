@@ -12,10 +12,10 @@ use Rattle.port_pool.specs.Signals.{NewKey, same_leg}
 use Rattle.call_cell.specs.declared.counts.Counts.{Counts}
 use Rattle.call_cell.specs.Cells.{CellEntry, Receipt, Relayed, Deed, is_accepted, is_end, legs_of, life, relayed, accepted_of, since_end}
 use Rattle.call_cell.specs.Deeds.{found, opposite_of, is_leaving}
-use Rattle.call_cell.specs.Asked.{accepted_count, sent_count, is_sent, is_sent_by, CountsBelow}
-use Rattle.call_cell.specs.Standing.{relay_entry}
-use Rattle.call_cell.specs.Preparing.{prepare_entry}
-use Rattle.call_cell.specs.Counting.{IsCounted, no_counts, as_counted, accepted_in, sent_in, more_accepted, more_sent}
+use Rattle.call_cell.specs.Demands.{accepted_count, sent_count, is_sent, is_sent_by, CountsBelow}
+use Rattle.call_cell.specs.LegHistories.{relay_entry}
+use Rattle.call_cell.specs.Preparations.{prepare_entry}
+use Rattle.call_cell.specs.Counts.{IsCounted, no_counts, as_counted, accepted_in, sent_in, more_accepted, more_sent}
 use Rattle.call_cell.proofs.Steps.{prepare_goes_on, prepare_begins}
 
 -- One packet more.

@@ -5,7 +5,7 @@ use Rattle.std.specs.List.{cons_option}
 use Rattle.std.proofs.lemmas.List.{length-set}
 use Rattle.relay_outside.specs.declared.settings.Config.{Config}
 use Rattle.relay_outside.specs.declared.ports.OutCall.{OutCall}
-use Rattle.relay_outside.specs.Told.{EndTold}
+use Rattle.relay_outside.specs.DeviceLogs.{EndLog}
 use Rattle.rtp_packet.specs.declared.head.Half.{Half}
 use Rattle.srtp_sources.specs.Notes.{Note}
 use Rattle.histories.specs.Words.{first}
@@ -16,11 +16,11 @@ use Rattle.call_cell.specs.declared.outcome.Lost.TheVariants as lost
 use Rattle.call_cell.specs.declared.outcome.Outcome.TheVariants as outcomes
 use Rattle.call_cell.specs.declared.leg.Leg.{Leg}
 use Rattle.call_cell.specs.Cells.{CellEntry, Receipt, Deed, is_accepted, is_opposite, opposite, key_numbered}
-use Rattle.call_cell.specs.Keyed.{accepted, Judged, Stopped, Passed}
-use Rattle.call_cell.specs.Learning.{learned}
+use Rattle.call_cell.specs.Protection.{accepted, Judged, Stopped, Passed}
+use Rattle.call_cell.specs.Lessons.{learned}
 use Rattle.call_cell.specs.Deeds.{found, judged, lost_deed, opposite_of, is_leaving}
 use Rattle.call_cell.specs.Parts.{ReceivingFor, taught_half}
-use Rattle.call_cell.specs.Standing.{LegFor, LegsFor, LegsDo, LegsRelay, LegTakes, LegAccepts, relay_entry, sent_ok}
+use Rattle.call_cell.specs.LegHistories.{LegStandsFor, LegsStandFor, LegsDo, LegsRelay, LegTakes, LegAccepts, relay_entry, sent_ok}
 use Rattle.call_cell.proofs.Counting.{sent_from}
 use Rattle.call_cell.proofs.LegSteps.{takes, IsElsewhere, leg_keeps, leg_takes}
 use Rattle.call_cell.proofs.Placing.{holders_of, IsPlace, same_or_not, at_set, off_set, same_holders, same_swap, same_both, true_or_not, other_default, apart_over}
@@ -30,7 +30,7 @@ use Rattle.call_cell.proofs.Splits.{both}
 -- a leg took the packet
 pub record Taking {O : Type 0} (config : Config) (h : List CellEntry) (p : Receipt) (those : List (Leg O)) (i : ℕ) (x new : Leg O) (noted : Option Note)
     (plain : List ℕ) (buf : List ℕ) (size : ℕ) : Type 0 where
-  pub for : LegsFor config h those
+  pub for : LegsStandFor config h those
   pub place : IsPlace (same_leg p.holder) those i x
   pub is_judged : judged h p (get_or those i x).holder ≡ Passed noted plain
   pub takes : LegTakes p.half p.source (learned h (get_or those i x).holder) (accepted h (get_or those i x).holder) noted plain (get_or those i x) new buf (Ok size)
@@ -47,16 +47,16 @@ pub taken_at : {O : Type 0} (config : Config) (h : List CellEntry) (p : Receipt)
     (plain buf : List ℕ) (size : ℕ) → Taking config h p those i x new noted plain buf size → (m : ℕ) (ok : Bool) (d : Deed)
     → is_accepted d.outcome ≡ true → d.noted ≡ noted → d.kind ≡ p.half → ((half : Half) → sent_from h (get_or those i x).holder half p d ≡ false)
     → IsElsewhere (get_or those i x).holder (key_numbered h) d.shield
-    → LegFor config (relay_entry m p ok d ∷ h) new
+    → LegStandsFor config (relay_entry m p ok d ∷ h) new
 taken_at {O} config h p those i x new noted plain buf size t m ok d acc is_noted kind unsent apart =
     let leg = get_or those i x in
     let is_so : takes leg.holder p d ≡ true = both (same_leg leg.holder p.holder) (is_accepted d.outcome) (same_swap p.holder leg.holder t.place.passes) acc in
     let it = subst (λ (n : Option Note). ReceivingFor (Some t.takes.signal) new.receiving (taught_half p.half t.takes.signal.flags p.source (learned h leg.holder)) (cons_option n (accepted h leg.holder)))
     (sym is_noted) t.takes.receiving in
-    let P : Leg O → Type 0 = λ (l : Leg O). LegFor config (relay_entry m p ok d ∷ h) l in
+    let P : Leg O → Type 0 = λ (l : Leg O). LegStandsFor config (relay_entry m p ok d ∷ h) l in
     subst P (sym t.takes.rest) (leg_takes config m p ok d h leg t.takes.signal new.receiving is_so kind unsent apart t.takes.in_force it (t.for.each i x t.place.below))
 
-pub not_same : {O : Type 0} (config : Config) (h : List CellEntry) (p : Receipt) (those : List (Leg O)) (i : ℕ) (x : Leg O) → LegsFor config h those
+pub not_same : {O : Type 0} (config : Config) (h : List CellEntry) (p : Receipt) (those : List (Leg O)) (i : ℕ) (x : Leg O) → LegsStandFor config h those
     → IsPlace (same_leg p.holder) those i x → (j : ℕ) (y : Leg O) → j < length those → (j ≡ i → ⊥) → same_leg (get_or those j y).holder p.holder ≡ false
 not_same {O} config h p those i x for place j y within apart = elim (true_or_not (same_leg (get_or those j y).holder p.holder)) [
   | inl same ↦ absurd (apart (for.apart.leases j i y within place.below
@@ -65,9 +65,9 @@ not_same {O} config h p those i x for place j y within apart = elim (true_or_not
   | inr other ↦ other
 ]
 
-pub taken_off : {O : Type 0} (config : Config) (h : List CellEntry) (p : Receipt) (those : List (Leg O)) (i : ℕ) (x : Leg O) → LegsFor config h those
+pub taken_off : {O : Type 0} (config : Config) (h : List CellEntry) (p : Receipt) (those : List (Leg O)) (i : ℕ) (x : Leg O) → LegsStandFor config h those
     → IsPlace (same_leg p.holder) those i x → (m : ℕ) (ok : Bool) (d : Deed) (j : ℕ) (y : Leg O) → j < length those → (j ≡ i → ⊥)
-    → ((half : Half) → sent_from h (get_or those j y).holder half p d ≡ false) → IsElsewhere (get_or those j y).holder (key_numbered h) d.shield → LegFor config (relay_entry m p ok d ∷ h) (get_or those j y)
+    → ((half : Half) → sent_from h (get_or those j y).holder half p d ≡ false) → IsElsewhere (get_or those j y).holder (key_numbered h) d.shield → LegStandsFor config (relay_entry m p ok d ∷ h) (get_or those j y)
 taken_off config h p those i x for place m ok d j y within apart unsent elsewhere =
     leg_keeps config m p ok d h (get_or those j y)
     (ap (λ (b : Bool). b && is_accepted d.outcome) (not_same config h p those i x for place j y within apart)) unsent elsewhere (for.each j y within)
@@ -76,10 +76,10 @@ taken_off config h p those i x for place m ok d j y within apart unsent elsewher
 
 lost_each : {O : Type 0} (config : Config) (h : List CellEntry) (p : Receipt) (those : List (Leg O)) (i : ℕ) (x new : Leg O) (noted : Option Note)
     (plain buf : List ℕ) (size : ℕ) (cause : Lost) → Taking config h p those i x new noted plain buf size → (m : ℕ) (ok : Bool) (j : ℕ) (y : Leg O) → j < length those
-    → LegFor config (relay_entry m p ok (lost_deed p.half noted cause) ∷ h) (get_or (set those i new) j y)
+    → LegStandsFor config (relay_entry m p ok (lost_deed p.half noted cause) ∷ h) (get_or (set those i new) j y)
 lost_each {O} config h p those i x new noted plain buf size cause t m ok j y within =
     let d : Deed = lost_deed p.half noted cause in
-    let P : Leg O → Type 0 = λ (l : Leg O). LegFor config (relay_entry m p ok d ∷ h) l in
+    let P : Leg O → Type 0 = λ (l : Leg O). LegStandsFor config (relay_entry m p ok d ∷ h) l in
     elim (same_or_not j i) [
       | inl is ↦ subst P (sym (ap (λ (k : ℕ). get_or (set those i new) k y) is ∙ at_set those i new y t.place.below))
           (taken_at config h p those i x new noted plain buf size t m ok d refl refl refl (λ half. refl) (none_elsewhere (get_or those i x).holder (key_numbered h)))
@@ -89,7 +89,7 @@ lost_each {O} config h p those i x new noted plain buf size cause t m ok j y wit
 
 lost_legs : {O : Type 0} (config : Config) (h : List CellEntry) (p : Receipt) (those : List (Leg O)) (i : ℕ) (x new : Leg O) (noted : Option Note)
     (plain buf : List ℕ) (size : ℕ) (cause : Lost) → Taking config h p those i x new noted plain buf size → (m : ℕ) (ok : Bool)
-    → LegsFor config (relay_entry m p ok (lost_deed p.half noted cause) ∷ h) (set those i new)
+    → LegsStandFor config (relay_entry m p ok (lost_deed p.half noted cause) ∷ h) (set those i new)
 lost_legs config h p those i x new noted plain buf size cause t m ok =
     let q = same_holder config h p those i x new noted plain buf size t in
     record {
@@ -110,21 +110,21 @@ taker_sending {O} config h p those i x new noted plain buf size t j y = elim (sa
   | inr apart ↦ ap (λ (leg : Leg O). leg.sending) (off_set those i j new y apart)
 ]
 
-pub lost_do : {O : Type 0} (told : O → EndTold OutCall) (faults : O → ℕ) (config : Config) (h : List CellEntry) (p : Receipt) (those : List (Leg O)) (i : ℕ)
+pub lost_do : {O : Type 0} (log : O → EndLog OutCall) (faults : O → ℕ) (config : Config) (h : List CellEntry) (p : Receipt) (those : List (Leg O)) (i : ℕ)
     (x new : Leg O) (noted : Option Note) (plain buf out : List ℕ) (size : ℕ) (cause : Lost) → Taking config h p those i x new noted plain buf size
-    → LegsDo told faults config h p those (set those i new) out (outcomes.Lost cause) (lost_deed p.half noted cause)
-lost_do told faults config h p those i x new noted plain buf out size cause t =
+    → LegsDo log faults config h p those (set those i new) out (outcomes.Lost cause) (lost_deed p.half noted cause)
+lost_do log faults config h p those i x new noted plain buf out size cause t =
     record {
       outcome = refl;
       front = tt;
       legs_for = λ m. lost_legs config h p those i x new noted plain buf size cause t m (sent_ok (outcomes.Lost cause));
-      ends = λ j y within. ends_none told faults (is_leaving (opposite_of h (found h p)) (get_or those j y).holder) (sent_ok (outcomes.Lost cause))
+      ends = λ j y within. ends_none log faults (is_leaving (opposite_of h (found h p)) (get_or those j y).holder) (sent_ok (outcomes.Lost cause))
           (get_or those j y).sending (get_or (set those i new) j y).sending (taker_sending config h p those i x new noted plain buf size t j y);
     }
 
 -- the leg that the packet was taken for, with how it judged it
 pub takes_it : {O : Type 0} (config : Config) (h : List CellEntry) (p : Receipt) (those : List (Leg O)) (i : ℕ) (x new : Leg O) (buf : List ℕ) (size : ℕ)
-    → LegsFor config h those → IsPlace (same_leg p.holder) those i x → (j : Judged) → judged h p (get_or those i x).holder ≡ j
+    → LegsStandFor config h those → IsPlace (same_leg p.holder) those i x → (j : Judged) → judged h p (get_or those i x).holder ≡ j
     → LegAccepts j p.half p.source (learned h (get_or those i x).holder) (accepted h (get_or those i x).holder) (get_or those i x) new buf (Ok size)
     → (noted : Option Note) × (plain : List ℕ) × Taking config h p those i x new noted plain buf size
 takes_it config h p those i x new buf size for place (Stopped cause) is does = absurd (let f = does.answer in cc)
@@ -138,12 +138,12 @@ opposite_is config h p those i x new noted plain buf size t r q =
     ap (λ (l : List Holder). first (filter (is_opposite (get_or those i x).holder) l))
     (sym (same_holders those i new x (same_holder config h p those i x new noted plain buf size t) ∙ t.for.holders)) ∙ q
 
-pub relays_unopposed : {O : Type 0} (told : O → EndTold OutCall) (faults : O → ℕ) (config : Config) (h : List CellEntry) (p : Receipt) (those : List (Leg O)) (i : ℕ)
+pub relays_unopposed : {O : Type 0} (log : O → EndLog OutCall) (faults : O → ℕ) (config : Config) (h : List CellEntry) (p : Receipt) (those : List (Leg O)) (i : ℕ)
     (x new : Leg O) (noted : Option Note) (plain buf out : List ℕ) (size : ℕ) → Taking config h p those i x new noted plain buf size
     → first (filter (is_opposite (get_or those i x).holder) (holders_of (set those i new))) ≡ None
-    → LegsRelay told faults config h p those (set those i new) out (outcomes.Lost lost.Hold)
-relays_unopposed {O} told faults config h p those i x new noted plain buf out size t none =
-    let P : Deed → Type 0 = λ (d : Deed). LegsDo told faults config h p those (set those i new) out (outcomes.Lost lost.Hold) d in
+    → LegsRelay log faults config h p those (set those i new) out (outcomes.Lost lost.Hold)
+relays_unopposed {O} log faults config h p those i x new noted plain buf out size t none =
+    let P : Deed → Type 0 = λ (d : Deed). LegsDo log faults config h p those (set those i new) out (outcomes.Lost lost.Hold) d in
     subst P (sym (deed_alone config h p true (get_or those i x).holder noted plain (found_at config h p those i x t.for t.place) t.is_judged
     (opposite_is config h p those i x new noted plain buf size t None none)))
-    (lost_do told faults config h p those i x new noted plain buf out size lost.Hold t)
+    (lost_do log faults config h p those i x new noted plain buf out size lost.Hold t)

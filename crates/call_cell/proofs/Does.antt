@@ -6,8 +6,8 @@ use Rattle.rtp_packet.specs.declared.head.Half.TheVariants.{Rtp, Rtcp}
 use Rattle.srtp_keys.specs.declared.faults.ProtectFault.{ProtectFault}
 use Rattle.srtp_keys.specs.declared.faults.ProtectFault.TheVariants.{TooOld, IndexUsed, TooManySources, KeySpent}
 use Rattle.srtp_sources.specs.Notes.{Note}
-use Rattle.srtp_context.specs.Wrapping as srtp_out
-use Rattle.srtcp_context.specs.Wrapping as srtcp_out
+use Rattle.srtp_context.specs.OutboundPackets as srtp_out
+use Rattle.srtcp_context.specs.OutboundPackets as srtcp_out
 use Rattle.port_pool.specs.declared.holder.Holder.{Holder}
 use Rattle.port_pool.specs.declared.signal.LegSignal.{LegSignal}
 use Rattle.port_pool.specs.Signals.{NewKey}
@@ -16,8 +16,8 @@ use Rattle.call_cell.specs.declared.outcome.Refused.TheVariants as refused
 use Rattle.call_cell.specs.declared.outcome.Lost.{Lost}
 use Rattle.call_cell.specs.declared.outcome.Lost.TheVariants as lost
 use Rattle.call_cell.specs.Cells.{CellEntry, Receipt, Shield, Sending, Deed, opposite, in_force, key_numbered}
-use Rattle.call_cell.specs.Keyed.{protected, Judged, Stopped, Passed, Wrapped, Held, Leaves, lost_by, wrapped_rtp, wrapped_rtcp, wrapped_under, wrapped_with}
-use Rattle.call_cell.specs.Learning.{learned, endpoint_by}
+use Rattle.call_cell.specs.Protection.{protected, Judged, Stopped, Passed, Departure, Held, Leaves, lost_by, wrapped_rtp, wrapped_rtcp, wrapped_under, wrapped_with}
+use Rattle.call_cell.specs.Lessons.{learned, leg_endpoint_by}
 use Rattle.call_cell.specs.Deeds.{kind, way, found, judged, wrapped_numbered, wrapped_towards, refused_deed, lost_deed, sent_deed, deed_wrapped, deed_towards, deed_opposite, deed_judged, deed_found, deed}
 
 -- a packet that was taken: the leg that is found for it, what is noted, and the plain packet
@@ -41,7 +41,7 @@ pub record Leaving (h : List CellEntry) (p : Receipt) (t : Taken h p) : Type 0 w
 -- the one send
 abbrev pub sending_of : (h : List CellEntry) (p : Receipt) (other : Holder) (signal : LegSignal) (bytes : List ℕ) → Sending
 sending_of h p other signal bytes =
-    record { pair = other.pair; half = way h p; to = endpoint_by signal (learned h other (way h p)) (way h p); bytes = bytes }
+    record { pair = other.pair; half = way h p; to = leg_endpoint_by signal (learned h other (way h p)) (way h p); bytes = bytes }
 
 -- the cause is no failed send
 abbrev pub IsNoFault : Lost → Type 0
@@ -73,7 +73,7 @@ under_never : (key : NewKey) (notes : List Note) (half : Half) (plain : List ℕ
     → wrapped_under key notes half plain ≡ Held cause → IsNoFault cause
 unfolding wrapped_under
 under_never key notes Rtp plain cause q port e = rtp_never key.number (srtp_out.wrapping key.bytes key.suite notes plain) cause q port e
-under_never key notes Rtcp plain cause q port e = rtcp_never key.number (srtcp_out.wrapping key.bytes notes plain) cause q port e
+under_never key notes Rtcp plain cause q port e = rtcp_never key.number (srtcp_out.rtcp_wrapping key.bytes notes plain) cause q port e
 
 with_never : (key : Option NewKey) (notes : List Note) (half : Half) (plain : List ℕ) (cause : Lost)
     → wrapped_with key notes half plain ≡ Held cause → IsNoFault cause
@@ -100,7 +100,7 @@ hold_is_none port q = let e = q in cc
 -- the cases
 
 by_wrapped : (config : Config) (h : List CellEntry) (p : Receipt) (ok : Bool) (t : Taken h p) (other : Holder) (s : LegSignal)
-    → opposite h t.leg ≡ Some other → in_force h other ≡ Some s → (w : Wrapped) → wrapped_towards h s (kind h p) t.plain ≡ w
+    → opposite h t.leg ≡ Some other → in_force h other ≡ Some s → (w : Departure) → wrapped_towards h s (kind h p) t.plain ≡ w
     → Does config h p ok (deed_wrapped config h p t.note other s ok w)
 by_wrapped config h p ok t other s o f (Held cause) e = loses t cause (towards_never h s (kind h p) t.plain cause e) refl
 by_wrapped config h p ok t other s o f (Leaves shield bytes) e =

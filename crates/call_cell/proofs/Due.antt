@@ -18,9 +18,9 @@ use Rattle.port_pool.specs.declared.signal.SectionSignal.{SectionSignal}
 use Rattle.port_pool.specs.Signals.{side_of, signal_at}
 use Rattle.call_cell.specs.declared.leg.Leg.{Leg}
 use Rattle.call_cell.specs.Cells.{CellEntry, differs}
-use Rattle.call_cell.specs.Keyed.{same_inbound}
-use Rattle.call_cell.specs.Standing.{LegsFor}
-use Rattle.call_cell.specs.Committing.{needs_inbound, needs_contexts, said_of, contexts_due, has_inbound, inbound_keys}
+use Rattle.call_cell.specs.Protection.{same_inbound}
+use Rattle.call_cell.specs.LegHistories.{LegsStandFor}
+use Rattle.call_cell.specs.Commits.{needs_inbound, needs_contexts, said_of, contexts_due, has_inbound, inbound_keys}
 use Rattle.call_cell.proofs.Few.{Apart, pairs_of, side_number, number, numbers_apart}
 
 -- A leg that needs a context is named a key.
@@ -90,7 +90,7 @@ is_any q (x ∷ xs) (there i) = ap (λ (b : Bool). eqb q x || b) (is_any q xs i)
     or_true false = refl
 
 -- Each leg that needs a context has a number of its own among them.
-pub due_named : {O : Type 0} (config : Config) (h : List CellEntry) (those : List (Leg O)) (signal : List SectionSignal) → LegsFor config h those
+pub due_named : {O : Type 0} (config : Config) (h : List CellEntry) (those : List (Leg O)) (signal : List SectionSignal) → LegsStandFor config h those
     → contexts_due signal those ≤ inbound_keys signal
 due_named {O} config h those signal for =
     let p : Leg O → Bool = λ (leg : Leg O). needs_contexts signal leg in

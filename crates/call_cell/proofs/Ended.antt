@@ -5,9 +5,9 @@ use Rattle.histories.specs.Words.{In, here, there}
 use Rattle.port_pool.specs.declared.pairs.Lease.{Lease}
 use Rattle.call_cell.specs.declared.leg.Leg.{Leg}
 use Rattle.call_cell.specs.Cells.{CellEntry}
-use Rattle.call_cell.specs.Standing.{LegsFor}
-use Rattle.call_cell.specs.Ending.{parts_of}
-use Rattle.call_cell.specs.Parting.{goes, stays, Part}
+use Rattle.call_cell.specs.LegHistories.{LegsStandFor}
+use Rattle.call_cell.specs.CellEnds.{parts_of}
+use Rattle.call_cell.specs.DroppedLegs.{goes, stays, Part}
 use Rattle.call_cell.proofs.Few.{few, each_in}
 
 all_case : {X : Type 0} (p : X → Bool) (x : X) (xs : List X) → p x ≡ true → filter p xs ≡ xs → filter p (x ∷ xs) ≡ x ∷ xs
@@ -25,7 +25,7 @@ filter_none p [] none = refl
 filter_none p (x ∷ xs) none = none_case p x xs (none x (here refl)) (filter_none p xs (λ y i. none y (there i)))
 
 pub all_go : {O : Type 0} (config : Config) (h : List CellEntry) (flags : List Bool) (old new : List (Leg O)) (before after : List (Lease × O × O))
-    → LegsFor config h old → ((section : ℕ) → section < 8 → get_or flags section false ≡ true) → before ≡ [] → Part flags old new before after
+    → LegsStandFor config h old → ((section : ℕ) → section < 8 → get_or flags section false ≡ true) → before ≡ [] → Part flags old new before after
     → (new ≡ []) × (after ≡ map (λ (leg : Leg O). parts_of leg) old)
 all_go {O} config h flags old new before after for flagged empty part =
     let room : length before + length old ≤ 16

@@ -5,14 +5,14 @@ use Rattle.port_pool.specs.declared.pairs.Lease.{Lease}
 use Rattle.call_cell.specs.declared.leg.Leg.{Leg}
 use Rattle.call_cell.specs.declared.cell.Cell.{Cell}
 use Rattle.call_cell.specs.Cells.{CellEntry}
-use Rattle.call_cell.specs.Standing.{LegsFor}
-use Rattle.call_cell.specs.CellStanding.{CellFor, last_moment}
-use Rattle.call_cell.specs.Ending.{parts_of, CellEnds}
+use Rattle.call_cell.specs.LegHistories.{LegsStandFor}
+use Rattle.call_cell.specs.CellHistories.{CellFor, cell_last_moment}
+use Rattle.call_cell.specs.CellEnds.{parts_of, CellEnds}
 
 max_same : (m : ℕ) → m ≡ max m m
 max_same m = omega arith
 
-pub no_legs : {O : Type 0} (config : Config) → LegsFor {O = O} config [] []
+pub no_legs : {O : Type 0} (config : Config) → LegsStandFor {O = O} config [] []
 no_legs config = record {
   holders = refl;
   apart = record {
@@ -30,13 +30,13 @@ cell_ends {O} config old new h after for same_config same_moment call committed 
       fits = tt;
       stands = record {
         config_is = same_config ∙ for.config_is;
-        moment = same_moment ∙ for.moment ∙ max_same (last_moment h);
+        moment = same_moment ∙ for.moment ∙ max_same (cell_last_moment h);
         call_is = call;
         began = tt;
         is_committed = committed;
         active = tt;
         unnoted = λ number q. refl;
-        legs_for = subst (λ (l : List (Leg O)). LegsFor config [] l) (sym none) (no_legs config);
+        legs_for = subst (λ (l : List (Leg O)). LegsStandFor config [] l) (sym none) (no_legs config);
       };
       went = went;
     }

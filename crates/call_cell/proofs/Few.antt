@@ -14,7 +14,7 @@ use Rattle.port_pool.specs.declared.holder.Side.TheVariants.{A, B}
 use Rattle.port_pool.specs.Signals.{same_leg}
 use Rattle.call_cell.specs.declared.leg.Leg.{Leg}
 use Rattle.call_cell.specs.Cells.{CellEntry}
-use Rattle.call_cell.specs.Standing.{LegFor, LegsFor, AreApart}
+use Rattle.call_cell.specs.LegHistories.{LegStandsFor, LegsStandFor, AreApart}
 use Rattle.call_cell.proofs.Placing.{same_swap}
 
 -- Elements and places.
@@ -37,10 +37,10 @@ at_in [] i d below = absurd (omega (arith, below))
 at_in (x ∷ xs) zero d below = here refl
 at_in (x ∷ xs) (suc i) d below = there (at_in xs i d (omega (arith, below)))
 
-pub each_in : {O : Type 0} (config : Config) (h : List CellEntry) (those : List (Leg O)) (leg : Leg O) → LegsFor config h those → In leg those → LegFor config h leg
+pub each_in : {O : Type 0} (config : Config) (h : List CellEntry) (those : List (Leg O)) (leg : Leg O) → LegsStandFor config h those → In leg those → LegStandsFor config h leg
 each_in {O} config h those leg for i =
     let a = in_at those i in
-    subst (λ (l : Leg O). LegFor config h l) (a.is leg) (for.each a.at leg a.below)
+    subst (λ (l : Leg O). LegStandsFor config h l) (a.is leg) (for.each a.at leg a.below)
 
 -- Legs that are apart.
 
@@ -115,7 +115,7 @@ numbers_apart {O} those pairs i j d less below =
     (subst (λ (n : ℕ). number (get_or those i x) ≢ n) (sym (at_number those j d x two))
     (number_apart (get_or those i x) (get_or those j x) (pairs i j x less two)))
 
-pub few : {O : Type 0} (config : Config) (h : List CellEntry) (those : List (Leg O)) → LegsFor config h those → length those ≤ 16
+pub few : {O : Type 0} (config : Config) (h : List CellEntry) (those : List (Leg O)) → LegsStandFor config h those → length those ≤ 16
 few {O} config h those for =
     let f : Leg O → ℕ = λ (leg : Leg O). number leg in
     let long : length (map f those) ≡ length those = length-map those f in

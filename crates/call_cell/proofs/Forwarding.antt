@@ -5,7 +5,7 @@ use Rattle.std.specs.Global.{Global}
 use Rattle.relay_outside.specs.declared.address.Addr.{Addr}
 use Rattle.relay_outside.specs.declared.ports.OutCall.{OutCall}
 use Rattle.relay_outside.specs.declared.ports.OutCall.TheVariants.{Send}
-use Rattle.relay_outside.specs.Told.{EndTold, EndGains, Rose}
+use Rattle.relay_outside.specs.DeviceLogs.{EndLog, EndGains, Rose}
 use Rattle.rtp_packet.specs.declared.head.Half.{Half}
 use Rattle.rtp_packet.specs.declared.head.Half.TheVariants.{Rtp, Rtcp}
 use Rattle.sdes_lines.specs.declared.crypto_line.Suite.TheVariants.{Tag80, Tag32}
@@ -15,35 +15,35 @@ use Rattle.port_pool.specs.declared.signal.LegSignal.{LegSignal}
 use Rattle.port_pool.specs.Signals.{NewKey}
 use Rattle.endpoint_learn.specs.declared.learner.Learner.{Learner}
 use Rattle.call_cell.specs.Parts.{learner_in, endpoint_of}
-use Rattle.call_cell.specs.Standing.{in_force_with}
+use Rattle.call_cell.specs.LegHistories.{in_force_with}
 use Rattle.call_cell.specs.declared.outcome.Lost.{Lost}
 use Rattle.call_cell.specs.declared.outcome.Lost.TheVariants as lost
 use Rattle.call_cell.specs.declared.outcome.Outcome.{Outcome}
 use Rattle.call_cell.specs.declared.contexts.Outbound.{Outbound}
-use Rattle.call_cell.specs.declared.sending.Sending.{Sending}
+use Rattle.call_cell.specs.declared.sender.Sending.{Sending}
 use Rattle.call_cell.specs.declared.leg.Leg.{Leg}
 use Rattle.call_cell.specs.declared.counts.Counts.{Counts}
-use Rattle.call_cell.specs.Keyed.{Wrapped, Held, Leaves}
-use Rattle.call_cell.specs.Counting.{more_sent}
+use Rattle.call_cell.specs.Protection.{Departure, Held, Leaves}
+use Rattle.call_cell.specs.Counts.{more_sent}
 use Rattle.call_cell.specs.Parts.{boxed_in, OutboundIn, ProtectsTo, ForwardsTo, SendsBy, SameEnds, SameKeys, ends_of, other_half, noted_under, wrapped_by, wrapped_for, send_answer}
-use Rattle.call_cell.specs.Standing.{LegForwards, LegForwardsBy, with_send, port_by, outcome_of, send_outcome, sent_ok}
+use Rattle.call_cell.specs.LegHistories.{LegForwards, LegForwardsBy, with_send, port_by, outcome_of, send_outcome, sent_ok}
 
 -- A refusal.
 
-held_case : {O : Type 0} (told : O → EndTold OutCall) (faults : O → ℕ) (leg : Holder) (keys : ℕ → Option NewKey) (notes : ℕ → List Note) (half : Half)
-    (port : ℕ) (to : Addr) (old new : Sending O) (buf : List ℕ) (cause : Lost) (w : Wrapped) → ProtectsTo w leg keys notes old new buf (Err cause)
-    → ForwardsTo told faults w leg keys notes half port to old new buf (Err cause)
-held_case told faults leg keys notes half port to old new buf cause (Held other) does = does
-held_case told faults leg keys notes half port to old new buf cause (Leaves shield bytes) does = absurd (let f = does.answer in cc)
+held_case : {O : Type 0} (log : O → EndLog OutCall) (faults : O → ℕ) (leg : Holder) (keys : ℕ → Option NewKey) (notes : ℕ → List Note) (half : Half)
+    (port : ℕ) (to : Addr) (old new : Sending O) (buf : List ℕ) (cause : Lost) (w : Departure) → ProtectsTo w leg keys notes old new buf (Err cause)
+    → ForwardsTo log faults w leg keys notes half port to old new buf (Err cause)
+held_case log faults leg keys notes half port to old new buf cause (Held other) does = does
+held_case log faults leg keys notes half port to old new buf cause (Leaves shield bytes) does = absurd (let f = does.answer in cc)
 
-pub held : {O : Type 0} (told : O → EndTold OutCall) (faults : O → ℕ) (leg : Holder) (keys : ℕ → Option NewKey) (notes : ℕ → List Note) (s : LegSignal)
+pub held : {O : Type 0} (log : O → EndLog OutCall) (faults : O → ℕ) (leg : Holder) (keys : ℕ → Option NewKey) (notes : ℕ → List Note) (s : LegSignal)
     (half : Half) (bytes : List ℕ) (port : ℕ) (to : Addr) (old new : Sending O) (buf : List ℕ) (cause : Lost) → s.hold ≡ false
     → ProtectsTo (wrapped_by keys notes s.outbound half bytes) leg keys notes old new buf (Err cause)
-    → ForwardsTo told faults (wrapped_for keys notes s half bytes) leg keys notes half port to old new buf (Err cause)
-held {O} told faults leg keys notes s half bytes port to old new buf cause free does =
+    → ForwardsTo log faults (wrapped_for keys notes s half bytes) leg keys notes half port to old new buf (Err cause)
+held {O} log faults leg keys notes s half bytes port to old new buf cause free does =
     let P : Bool → Type 0 = λ (b : Bool).
-    ForwardsTo {O = O} told faults (if b then Held lost.Hold else wrapped_by keys notes s.outbound half bytes) leg keys notes half port to old new buf (Err cause) in
-    subst P (sym free) (held_case told faults leg keys notes half port to old new buf cause (wrapped_by keys notes s.outbound half bytes) does)
+    ForwardsTo {O = O} log faults (if b then Held lost.Hold else wrapped_by keys notes s.outbound half bytes) leg keys notes half port to old new buf (Err cause) in
+    subst P (sym free) (held_case log faults leg keys notes half port to old new buf cause (wrapped_by keys notes s.outbound half bytes) does)
 
 -- A send.
 
@@ -51,12 +51,12 @@ same_end : {O : Type 0} (half : Half) (old mid : Sending O) → SameEnds old mid
 same_end Rtp old mid same = same.rtp
 same_end Rtcp old mid same = same.rtcp
 
-sends_from : {O : Type 0} (told : O → EndTold OutCall) (faults : O → ℕ) (half : Half) (to : Addr) (bytes : List ℕ) (ok : Bool) (old mid new : Sending O)
-    → SameEnds old mid → SendsBy told faults half to bytes ok mid new → SendsBy told faults half to bytes ok old new
-sends_from {O} told faults half to bytes ok old mid new same sends =
+sends_from : {O : Type 0} (log : O → EndLog OutCall) (faults : O → ℕ) (half : Half) (to : Addr) (bytes : List ℕ) (ok : Bool) (old mid new : Sending O)
+    → SameEnds old mid → SendsBy log faults half to bytes ok mid new → SendsBy log faults half to bytes ok old new
+sends_from {O} log faults half to bytes ok old mid new same sends =
     let here : ends_of half mid ≡ ends_of half old = same_end half old mid same in
     record {
-      gains = subst (λ (x : O). EndGains (told x) (told (ends_of half new)) (Send to bytes ok)) here sends.gains;
+      gains = subst (λ (x : O). EndGains (log x) (log (ends_of half new)) (Send to bytes ok)) here sends.gains;
       later = subst (λ (x : O). faults x ≤ faults (ends_of half new)) here sends.later;
       cause = λ q. subst (λ (x : O). Rose (faults x) (faults (ends_of half new))) here (sends.cause q);
       other = sends.other ∙ same_end (other_half half) old mid same;
@@ -69,19 +69,19 @@ answered port size false = refl
 same_size : (size n : ℕ) → ◌≡◌ {A = Result ℕ Lost} (Ok size) (Ok n) → size ≡ n
 same_size size n q = let f = q in cc
 
-sent_case : {O : Type 0} (told : O → EndTold OutCall) (faults : O → ℕ) (leg : Holder) (keys : ℕ → Option NewKey) (notes : ℕ → List Note) (half : Half)
-    (port : ℕ) (to : Addr) (old mid new : Sending O) (buf : List ℕ) (size : ℕ) (done : Bool) (result : Result ℕ Lost) (w : Wrapped)
-    → ProtectsTo w leg keys notes old mid buf (Ok size) → SameEnds old mid → SameKeys mid new → SendsBy told faults half to (take size buf) done mid new
-    → result ≡ send_answer port size done → ForwardsTo told faults w leg keys notes half port to old new buf result
-sent_case told faults leg keys notes half port to old mid new buf size done result (Held cause) does ends same sends is = absurd (let f = does.answer in cc)
-sent_case {O} told faults leg keys notes half port to old mid new buf size done result (Leaves shield bytes) does ends same sends is =
+sent_case : {O : Type 0} (log : O → EndLog OutCall) (faults : O → ℕ) (leg : Holder) (keys : ℕ → Option NewKey) (notes : ℕ → List Note) (half : Half)
+    (port : ℕ) (to : Addr) (old mid new : Sending O) (buf : List ℕ) (size : ℕ) (done : Bool) (result : Result ℕ Lost) (w : Departure)
+    → ProtectsTo w leg keys notes old mid buf (Ok size) → SameEnds old mid → SameKeys mid new → SendsBy log faults half to (take size buf) done mid new
+    → result ≡ send_answer port size done → ForwardsTo log faults w leg keys notes half port to old new buf result
+sent_case log faults leg keys notes half port to old mid new buf size done result (Held cause) does ends same sends is = absurd (let f = does.answer in cc)
+sent_case {O} log faults leg keys notes half port to old mid new buf size done result (Leaves shield bytes) does ends same sends is =
     let many : size ≡ length bytes = same_size size (length bytes) does.answer in
     let ok : done ≡ is_ok result = sym (answered port size done) ∙ ap (λ (r : Result ℕ Lost). is_ok r) (sym is) in
     let front : take size buf ≡ bytes = ap (λ (n : ℕ). take n buf) many ∙ does.buffer in
-    let sent : SendsBy told faults half to bytes (is_ok result) old new
-    = subst (λ (l : List ℕ). SendsBy told faults half to l (is_ok result) old new) front
-    (subst (λ (b : Bool). SendsBy told faults half to (take size buf) b old new) ok
-    (sends_from told faults half to (take size buf) done old mid new ends sends)) in
+    let sent : SendsBy log faults half to bytes (is_ok result) old new
+    = subst (λ (l : List ℕ). SendsBy log faults half to l (is_ok result) old new) front
+    (subst (λ (b : Bool). SendsBy log faults half to (take size buf) b old new) ok
+    (sends_from log faults half to (take size buf) done old mid new ends sends)) in
     record {
       answer = is ∙ ap (λ (n : ℕ). send_answer port n done) many ∙ ap (λ (b : Bool). send_answer port (length bytes) b) ok;
       buffer = does.buffer;
@@ -93,16 +93,16 @@ sent_case {O} told faults leg keys notes half port to old mid new buf size done 
       sends = sent;
     }
 
-pub sent : {O : Type 0} (told : O → EndTold OutCall) (faults : O → ℕ) (leg : Holder) (keys : ℕ → Option NewKey) (notes : ℕ → List Note) (s : LegSignal)
+pub sent : {O : Type 0} (log : O → EndLog OutCall) (faults : O → ℕ) (leg : Holder) (keys : ℕ → Option NewKey) (notes : ℕ → List Note) (s : LegSignal)
     (half : Half) (bytes : List ℕ) (port : ℕ) (to : Addr) (old mid new : Sending O) (buf : List ℕ) (size : ℕ) (done : Bool) (result : Result ℕ Lost) → s.hold ≡ false
     → ProtectsTo (wrapped_by keys notes s.outbound half bytes) leg keys notes old mid buf (Ok size) → SameEnds old mid → SameKeys mid new
-    → SendsBy told faults half to (take size buf) done mid new → result ≡ send_answer port size done
-    → ForwardsTo told faults (wrapped_for keys notes s half bytes) leg keys notes half port to old new buf result
-sent {O} told faults leg keys notes s half bytes port to old mid new buf size done result free does ends same sends is =
+    → SendsBy log faults half to (take size buf) done mid new → result ≡ send_answer port size done
+    → ForwardsTo log faults (wrapped_for keys notes s half bytes) leg keys notes half port to old new buf result
+sent {O} log faults leg keys notes s half bytes port to old mid new buf size done result free does ends same sends is =
     let P : Bool → Type 0 = λ (b : Bool).
-    ForwardsTo {O = O} told faults (if b then Held lost.Hold else wrapped_by keys notes s.outbound half bytes) leg keys notes half port to old new buf result in
+    ForwardsTo {O = O} log faults (if b then Held lost.Hold else wrapped_by keys notes s.outbound half bytes) leg keys notes half port to old new buf result in
     subst P (sym free)
-    (sent_case told faults leg keys notes half port to old mid new buf size done result (wrapped_by keys notes s.outbound half bytes) does ends same sends is)
+    (sent_case log faults leg keys notes half port to old mid new buf size done result (wrapped_by keys notes s.outbound half bytes) does ends same sends is)
 
 -- A leg.
 
@@ -114,17 +114,17 @@ ok_of : (port : ℕ) (to : Addr) (size : ℕ) (ok : Bool) → sent_ok (send_outc
 ok_of port to size true = refl
 ok_of port to size false = refl
 
-leg_case : {O : Type 0} (told : O → EndTold OutCall) (faults : O → ℕ) (keys : ℕ → Option NewKey) (notes : ℕ → List Note) (half : Half) (port : ℕ)
+leg_case : {O : Type 0} (log : O → EndLog OutCall) (faults : O → ℕ) (keys : ℕ → Option NewKey) (notes : ℕ → List Note) (half : Half) (port : ℕ)
     (to : Addr) (old : Leg O) (new : Sending O) (buf : List ℕ) (sent : Result ℕ Lost) (result : Outcome) → port ≡ port_by half old.lease.rtp_port
-    → result ≡ outcome_of port to sent → (w : Wrapped) → ForwardsTo told faults w old.holder keys notes half port to old.sending new buf sent
-    → LegForwards told faults w keys notes half to old (with_send half (is_ok sent) old new) buf result
-leg_case {O} told faults keys notes half port to old new buf sent result port_is is (Held cause) does =
+    → result ≡ outcome_of port to sent → (w : Departure) → ForwardsTo log faults w old.holder keys notes half port to old.sending new buf sent
+    → LegForwards log faults w keys notes half to old (with_send half (is_ok sent) old new) buf result
+leg_case {O} log faults keys notes half port to old new buf sent result port_is is (Held cause) does =
     record {
       answer = is ∙ ap (λ (r : Result ℕ Lost). outcome_of port to r) does.answer;
       leg = ap (λ (r : Result ℕ Lost). with_send half (is_ok r) old new) does.answer
           ∙ ap (λ (x : Sending O). with_send half false old x) does.contexts;
     }
-leg_case {O} told faults keys notes half port to old new buf sent result port_is is (Leaves shield bytes) does =
+leg_case {O} log faults keys notes half port to old new buf sent result port_is is (Leaves shield bytes) does =
     let whole : result ≡ send_outcome port to (length bytes) (is_ok sent)
     = is ∙ ap (λ (r : Result ℕ Lost). outcome_of port to r) does.answer ∙ by_answer port to (length bytes) (is_ok sent) in
     let ok : is_ok sent ≡ sent_ok result = sym (ap (λ (o : Outcome). sent_ok o) whole ∙ ok_of port to (length bytes) (is_ok sent)) in
@@ -133,7 +133,7 @@ leg_case {O} told faults keys notes half port to old new buf sent result port_is
       buffer = does.buffer;
       under = does.under;
       sending = does.keeps;
-      sends = subst (λ (b : Bool). SendsBy told faults half to bytes b old.sending new) ok does.sends;
+      sends = subst (λ (b : Bool). SendsBy log faults half to bytes b old.sending new) ok does.sends;
       rest = ap (λ (b : Bool). with_send half b old new) ok;
     }
 
@@ -141,17 +141,17 @@ abbrev leg_over : {O : Type 0} → Leg O → Sending O → Counts → Leg O
 leg_over old sending counts =
     record { holder = old.holder; lease = old.lease; signal = old.signal; receiving = old.receiving; sending = sending; counts = counts }
 
-pub leg_forwards : {O : Type 0} (told : O → EndTold OutCall) (faults : O → ℕ) (keys : ℕ → Option NewKey) (notes : ℕ → List Note) (half : Half)
+pub leg_forwards : {O : Type 0} (log : O → EndLog OutCall) (faults : O → ℕ) (keys : ℕ → Option NewKey) (notes : ℕ → List Note) (half : Half)
     (learner : Learner) (plain : List ℕ) (s : LegSignal) (to : Addr) (port : ℕ) (old : Leg O) (new : Sending O) (counts : Counts) (buf : List ℕ)
     (sent : Result ℕ Lost) (result : Outcome) → in_force_with old.signal (learner_in half old.receiving) ≡ Some (s, learner) → to ≡ endpoint_of learner → port ≡ port_by half old.lease.rtp_port
     → counts ≡ more_sent half (is_ok sent) old.counts → result ≡ outcome_of port to sent
-    → ForwardsTo told faults (wrapped_for keys notes s half plain) old.holder keys notes half port to old.sending new buf sent
-    → LegForwardsBy told faults (in_force_with old.signal (learner_in half old.receiving)) keys notes half plain old (leg_over old new counts) buf result
-leg_forwards {O} told faults keys notes half learner plain s to port old new counts buf sent result signal to_is port_is counted is does =
-    let P : Option (LegSignal × Learner) → Type 0 = λ (o : Option (LegSignal × Learner)). LegForwardsBy {O = O} told faults o keys notes half plain old (leg_over old new counts) buf result in
-    let Q : Counts → Type 0 = λ (c : Counts). LegForwards {O = O} told faults (wrapped_for keys notes s half plain) keys notes half (endpoint_of learner) old (leg_over old new c) buf result in
-    let R : Addr → Type 0 = λ (a : Addr). LegForwards {O = O} told faults (wrapped_for keys notes s half plain) keys notes half a old (with_send half (is_ok sent) old new) buf result in
+    → ForwardsTo log faults (wrapped_for keys notes s half plain) old.holder keys notes half port to old.sending new buf sent
+    → LegForwardsBy log faults (in_force_with old.signal (learner_in half old.receiving)) keys notes half plain old (leg_over old new counts) buf result
+leg_forwards {O} log faults keys notes half learner plain s to port old new counts buf sent result signal to_is port_is counted is does =
+    let P : Option (LegSignal × Learner) → Type 0 = λ (o : Option (LegSignal × Learner)). LegForwardsBy {O = O} log faults o keys notes half plain old (leg_over old new counts) buf result in
+    let Q : Counts → Type 0 = λ (c : Counts). LegForwards {O = O} log faults (wrapped_for keys notes s half plain) keys notes half (endpoint_of learner) old (leg_over old new c) buf result in
+    let R : Addr → Type 0 = λ (a : Addr). LegForwards {O = O} log faults (wrapped_for keys notes s half plain) keys notes half a old (with_send half (is_ok sent) old new) buf result in
     subst P (sym signal)
     (subst Q (sym counted)
     (subst R to_is
-    (leg_case told faults keys notes half port to old new buf sent result port_is is (wrapped_for keys notes s half plain) does)))
+    (leg_case log faults keys notes half port to old new buf sent result port_is is (wrapped_for keys notes s half plain) does)))

@@ -9,7 +9,7 @@ use Rattle.rtp_packet.specs.Head.{rtp_head, rtcp_ssrc}
 use Rattle.call_cell.specs.declared.heads.Head.{Head}
 use Rattle.call_cell.specs.declared.heads.Head.TheVariants as heads
 use Rattle.call_cell.specs.Heads.{head_of, half_of, IsHead}
-use Rattle.call_cell.specs.Keyed.{is_packet}
+use Rattle.call_cell.specs.Protection.{is_packet}
 
 mapped_some : {X : Type 0} (f : X → Head) (o : Option X) → is_some o ≡ is_some (option_map f o)
 mapped_some f None = refl

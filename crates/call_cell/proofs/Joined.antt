@@ -11,8 +11,8 @@ use Rattle.port_pool.specs.declared.holder.Holder.{Holder}
 use Rattle.port_pool.specs.Signals.{side_eq}
 use Rattle.call_cell.specs.declared.leg.Leg.{Leg}
 use Rattle.call_cell.specs.declared.prepare.PreparedKey.{PreparedKey}
-use Rattle.call_cell.specs.Standing.{AreApart, with_sending}
-use Rattle.call_cell.specs.Preparing.{is_at, with_contexts, with_key, put_if, with_keys}
+use Rattle.call_cell.specs.LegHistories.{AreApart, with_sending}
+use Rattle.call_cell.specs.Preparations.{is_key_at, with_contexts, with_key, put_if, with_keys}
 use Rattle.call_cell.proofs.Splits.{both_left, both_right}
 use Rattle.call_cell.proofs.Placing.{place_is, other_default, true_or_not}
 use Rattle.call_cell.proofs.Answered.{apart_so}
@@ -80,11 +80,11 @@ one_place key a b p q = (
       ∙ side_is key.side b.side (both_right (key.section == b.section) (side_eq key.side b.side) q),
 )
 
-pub put_by : {O : Type 0} (key : PreparedKey) (leg : Leg O) (b : Bool) → is_at key leg ≡ b → put_if key leg ≡ cond b (with_key key leg) leg
+pub put_by : {O : Type 0} (key : PreparedKey) (leg : Leg O) (b : Bool) → is_key_at key leg ≡ b → put_if key leg ≡ cond b (with_key key leg) leg
 put_by {O} key leg b q = ap (λ (c : Bool). cond c (with_key key leg) leg) q
 
 pub put_at : {O : Type 0} (key : PreparedKey) (those : List (Leg O)) (at : ℕ) (x new : Leg O) → AreApart those
-    → position (λ (leg : Leg O). is_at key leg) those ≡ Some at
+    → position (λ (leg : Leg O). is_key_at key leg) those ≡ Some at
     → new ≡ with_sending (get_or those at x) (with_contexts key.suite key.contexts (get_or those at x).sending)
     → set those at new ≡ map (λ (leg : Leg O). put_if key leg) those
 put_at {O} key those at x new apart is new_is =
@@ -101,17 +101,17 @@ put_at {O} key those at x new apart is new_is =
       | inr off_it ↦ off_it
     ]))
 
-pub put_nowhere : {O : Type 0} (key : PreparedKey) (those : List (Leg O)) → position (λ (leg : Leg O). is_at key leg) those ≡ None
+pub put_nowhere : {O : Type 0} (key : PreparedKey) (those : List (Leg O)) → position (λ (leg : Leg O). is_key_at key leg) those ≡ None
     → those ≡ map (λ (leg : Leg O). put_if key leg) those
 put_nowhere {O} key those none =
-    let p : Leg O → Bool = λ (leg : Leg O). is_at key leg in
+    let p : Leg O → Bool = λ (leg : Leg O). is_key_at key leg in
     let any : list_any p those ≡ false = any-position p those ∙ ap (λ (o : Option ℕ). is_some o) none in
     sym (map_same (λ (leg : Leg O). put_if key leg) those (λ leg i. put_by key leg false (none_passes p those any leg i)))
 
 -- All keys.
 
 pub put_holder : {O : Type 0} (key : PreparedKey) (leg : Leg O) → (put_if key leg).holder ≡ leg.holder
-put_holder key leg = of_case (is_at key leg)
+put_holder key leg = of_case (is_key_at key leg)
   where
     of_case : (b : Bool) → (cond b (with_key key leg) leg).holder ≡ leg.holder
     of_case true = refl

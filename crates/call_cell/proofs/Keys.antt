@@ -14,7 +14,7 @@ brings_event moment (Prepare call legs keys dropped) i =
 brings_event moment (Commit signal) i = elim i [ ]
 brings_event moment (Relay r) i = elim i [ ]
 brings_event moment (Expire due) i = elim i [ ]
-brings_event moment (Read told) i = elim i [ ]
+brings_event moment (Read log) i = elim i [ ]
 brings_event moment End i = elim i [ ]
 
 brought_case : {key : NewKey} (x : CellEntry) (h : List CellEntry) → (In key (keys_in h) → (e : CellEntry) × In e h × In key (keys_of e.event))

@@ -9,15 +9,15 @@ use Rattle.port_pool.specs.declared.reports.LegReport.{LegReport}
 use Rattle.endpoint_learn.specs.declared.learner.Learner.{Learner}
 use Rattle.endpoint_learn.specs.declared.learner.Judge.{Judge}
 use Rattle.endpoint_learn.specs.declared.learner.Judge.TheVariants.{Pass, WrongSource}
-use Rattle.endpoint_learn.specs.Learning.{Step, Signalled, Heard, taught, endpoint, is_wrong, is_wrong_source}
-use Rattle.endpoint_learn.specs.Learners.{StandsFor, judge_of}
+use Rattle.endpoint_learn.specs.Lessons.{LearnStep, Signalled, Heard, taught, endpoint_after, is_wrong_after, is_wrong_source}
+use Rattle.endpoint_learn.specs.Learners.{LearnerStandsFor, judge_of}
 use Rattle.endpoint_learn.proofs.Exact.{learner, learns, signals, judges, goes_to}
 use Rattle.call_cell.specs.declared.leg.Leg.{Leg}
-use Rattle.call_cell.specs.Learning.{address}
+use Rattle.call_cell.specs.Lessons.{address}
 use Rattle.call_cell.specs.Parts.{learner_of, endpoint_of, is_wrong_for}
-use Rattle.call_cell.specs.Standing.{in_force_with}
-use Rattle.call_cell.specs.Committing.{relearned}
-use Rattle.call_cell.specs.Reading.{told_under}
+use Rattle.call_cell.specs.LegHistories.{in_force_with}
+use Rattle.call_cell.specs.Commits.{relearned}
+use Rattle.call_cell.specs.LegReports.{leg_report_under}
 
 some_is : (a b : Learner) → Some a ≡ Some b → a ≡ b
 some_is a b p = let q = p in cc
@@ -32,18 +32,18 @@ fails false q = absurd (let p = q in cc)
 
 -- how a learner judges a source
 pub is_right : (o : Option Learner) (l : Learner) (source : Addr) (answer : Judge) → o ≡ Some l
-    → ((steps : List Step) → StandsFor l steps → answer ≡ judge_of (is_wrong steps source)) → answer ≡ Pass → false ≡ is_wrong_for o source
+    → ((steps : List LearnStep) → LearnerStandsFor l steps → answer ≡ judge_of (is_wrong_after steps source)) → answer ≡ Pass → false ≡ is_wrong_for o source
 is_right o l source answer is does q =
     sym (ap (λ (x : Option Learner). is_wrong_for x source) is ∙ passes (is_wrong_source l.flags l.learned source) (sym (judges l source answer does) ∙ q))
 
 pub is_wrong_so : (o : Option Learner) (l : Learner) (source : Addr) (answer : Judge) → o ≡ Some l
-    → ((steps : List Step) → StandsFor l steps → answer ≡ judge_of (is_wrong steps source)) → answer ≡ WrongSource → true ≡ is_wrong_for o source
+    → ((steps : List LearnStep) → LearnerStandsFor l steps → answer ≡ judge_of (is_wrong_after steps source)) → answer ≡ WrongSource → true ≡ is_wrong_for o source
 is_wrong_so o l source answer is does q =
     sym (ap (λ (x : Option Learner). is_wrong_for x source) is ∙ fails (is_wrong_source l.flags l.learned source) (sym (judges l source answer does) ∙ q))
 
 -- a learner with a received source
 pub teaches : (o : Option Learner) (l new : Learner) (source : Addr) (half : Half) (s : LegSignal) (known : Option Addr) → o ≡ Some l
-    → ((steps : List Step) → StandsFor l steps → StandsFor new (Heard source ∷ steps))
+    → ((steps : List LearnStep) → LearnerStandsFor l steps → LearnerStandsFor new (Heard source ∷ steps))
     → o ≡ learner_of half (Some s) known → Some new ≡ learner_of half (Some s) (taught s.flags known source)
 teaches o l new source half s known is does was =
     ap Some (learns l new source does)
@@ -52,7 +52,7 @@ teaches o l new source half s known is does was =
 
 -- the learner of a later one
 pub later_signal : (o : Option Learner) (l new : Learner) (a : Addr) (half : Half) (s : LegSignal) (earlier : Option LegSignal) (known : Option Addr)
-    → o ≡ Some l → a ≡ address half s → ((steps : List Step) → StandsFor l steps → StandsFor new (Signalled a s.flags ∷ steps))
+    → o ≡ Some l → a ≡ address half s → ((steps : List LearnStep) → LearnerStandsFor l steps → LearnerStandsFor new (Signalled a s.flags ∷ steps))
     → o ≡ learner_of half earlier known → Some new ≡ learner_of half (Some s) (relearned earlier s half known)
 later_signal o l new a half s None known is at does was = absurd (let p = sym is ∙ was in cc)
 later_signal o l new a half s (Some e) known is at does was =
@@ -72,7 +72,7 @@ is_in_force (Some t) None s l q = absurd (let p = q in cc)
 is_in_force (Some t) (Some y) s l q = ap signal_in q
 
 -- where a learner has packets go
-pub goes : (l : Learner) (answer : Addr) → ((steps : List Step) → StandsFor l steps → endpoint steps ≡ Some answer) → answer ≡ endpoint_of l
+pub goes : (l : Learner) (answer : Addr) → ((steps : List LearnStep) → LearnerStandsFor l steps → endpoint_after steps ≡ Some answer) → answer ≡ endpoint_of l
 goes l answer does = goes_to l answer does
 
 abbrev pub told_as : {O : Type 0} → Leg O → (port : ℕ) → Addr → Option LegReport
@@ -89,7 +89,7 @@ told_as leg port to = Some (record {
 
 -- what a leg tells
 pub reports : {O : Type 0} (leg : Leg O) (s : LegSignal) (l : Learner) (port : ℕ) (to : Addr) (o : Option (LegSignal × Learner)) → o ≡ Some (s, l)
-    → port ≡ leg.lease.rtp_port → to ≡ endpoint_of l → told_as leg port to ≡ told_under leg o
+    → port ≡ leg.lease.rtp_port → to ≡ endpoint_of l → told_as leg port to ≡ leg_report_under leg o
 reports leg s l port to o is at goes =
     ap (λ (n : ℕ). told_as leg n to) at ∙ ap (λ (a : Addr). told_as leg leg.lease.rtp_port a) goes
-    ∙ sym (ap (λ (x : Option (LegSignal × Learner)). told_under leg x) is)
+    ∙ sym (ap (λ (x : Option (LegSignal × Learner)). leg_report_under leg x) is)

@@ -11,19 +11,19 @@ use Rattle.port_pool.specs.declared.holder.Holder.{Holder}
 use Rattle.port_pool.specs.declared.signal.LegSignal.{LegSignal}
 use Rattle.port_pool.specs.Signals.{NewKey, same_leg}
 use Rattle.call_cell.specs.declared.contexts.Outbound.{Outbound}
-use Rattle.call_cell.specs.declared.receiving.Receiving.{Receiving}
-use Rattle.call_cell.specs.declared.sending.Sending.{Sending}
+use Rattle.call_cell.specs.declared.receiver.Receiving.{Receiving}
+use Rattle.call_cell.specs.declared.sender.Sending.{Sending}
 use Rattle.call_cell.specs.declared.leg.Leg.{Leg}
 use Rattle.call_cell.specs.Cells.{CellEntry, Relayed, Receipt, Shield, Deed, in_force, is_accepted, key_numbered}
-use Rattle.call_cell.specs.Keyed.{accepted, protected}
-use Rattle.call_cell.specs.Learning.{address, steps_of, learned}
+use Rattle.call_cell.specs.Protection.{accepted, protected}
+use Rattle.call_cell.specs.Lessons.{address, steps_of, learned}
 use Rattle.call_cell.specs.Contexts.{OutboundFor}
 use Rattle.relay_outside.specs.declared.address.Addr.{Addr}
-use Rattle.endpoint_learn.specs.Learning as learner
-use Rattle.endpoint_learn.specs.Learning.{Heard, taught}
+use Rattle.endpoint_learn.specs.Lessons as learner
+use Rattle.endpoint_learn.specs.Lessons.{Heard, taught}
 use Rattle.endpoint_learn.proofs.Lessons.{learned_more}
-use Rattle.call_cell.specs.Parts.{boxed_in, inbound_of, learner_of, ReceivingFor, InboundIn, SendingFor, OutboundIn, HasNamed, HasIt, SameNumbers, contexts_of, has_number, is_numbered, number_in, noted_under, taught_half}
-use Rattle.call_cell.specs.Standing.{LegFor, outbound_of, relay_entry, with_receiving, with_send}
+use Rattle.call_cell.specs.Parts.{boxed_in, inbound_of, learner_of, ReceivingFor, InboundIn, SendingFor, OutboundIn, HasNamed, HasIt, SameNumbers, contexts_of, has_number, is_numbered, key_number_in, noted_under, taught_half}
+use Rattle.call_cell.specs.LegHistories.{LegStandsFor, outbound_of, relay_entry, with_receiving, with_send}
 use Rattle.call_cell.proofs.Steps.{if_true, relay_accepted, relay_protected, signal_is}
 use Rattle.call_cell.proofs.Protecting.{other_kept}
 use Rattle.call_cell.proofs.Counting.{sent_from, counted_still, counted_accepts, counted_sends}
@@ -40,7 +40,7 @@ relayed_of p ok d = record { packet = p; sent_ok = ok; deed = d }
 learned_keeps : (m : ℕ) (p : Receipt) (ok : Bool) (d : Deed) (h : List CellEntry) (leg : Holder) (half : Half) → takes leg p d ≡ false
     → learned (relay_entry m p ok d ∷ h) leg half ≡ learned h leg half
 learned_keeps m p ok d h leg half is_not =
-    ap (λ (b : Bool). learner.learned (cons_option (if b && is_half p.half half then Some (Heard p.source) else None) (steps_of h leg half))) is_not
+    ap (λ (b : Bool). learner.learned_after (cons_option (if b && is_half p.half half then Some (Heard p.source) else None) (steps_of h leg half))) is_not
 
 accepted_keeps : (m : ℕ) (p : Receipt) (ok : Bool) (d : Deed) (h : List CellEntry) (leg : Holder) → takes leg p d ≡ false
     → accepted (relay_entry m p ok d ∷ h) leg ≡ accepted h leg
@@ -57,7 +57,7 @@ receiving_keeps m p ok d h leg signal receiving is_not for =
     }
 
 taught_case : (h : List CellEntry) (leg : Holder) (half : Half) (s : LegSignal) (source : Addr) → in_force h leg ≡ Some s → (b : Bool)
-    → learner.learned (cons_option (if b then Some (Heard source) else None) (steps_of h leg half))
+    → learner.learned_after (cons_option (if b then Some (Heard source) else None) (steps_of h leg half))
     ≡ (if b then taught s.flags (learned h leg half) source else learned h leg half)
 taught_case h leg half s source force true = learned_more (steps_of h leg half) (address half s) source s.flags (signal_is h leg half (Some s) force)
 taught_case h leg half s source force false = refl
@@ -65,7 +65,7 @@ taught_case h leg half s source force false = refl
 learned_takes : (m : ℕ) (p : Receipt) (ok : Bool) (d : Deed) (h : List CellEntry) (leg : Holder) (s : LegSignal) (half : Half) → takes leg p d ≡ true
     → in_force h leg ≡ Some s → learned (relay_entry m p ok d ∷ h) leg half ≡ taught_half p.half s.flags p.source (learned h leg) half
 learned_takes m p ok d h leg s half is_so force =
-    ap (λ (b : Bool). learner.learned (cons_option (if b && is_half p.half half then Some (Heard p.source) else None) (steps_of h leg half))) is_so
+    ap (λ (b : Bool). learner.learned_after (cons_option (if b && is_half p.half half then Some (Heard p.source) else None) (steps_of h leg half))) is_so
     ∙ taught_case h leg half s p.source force (is_half p.half half)
 
 accepted_takes : (m : ℕ) (p : Receipt) (ok : Bool) (d : Deed) (h : List CellEntry) (leg : Holder) → takes leg p d ≡ true
@@ -127,12 +127,12 @@ by_number : Option ℕ → ℕ → Bool
 by_number None n = false
 by_number (Some m) n = m == n
 
-numbered_by : (o : Option Outbound) (n : ℕ) → is_numbered o n ≡ by_number (number_in o) n
+numbered_by : (o : Option Outbound) (n : ℕ) → is_numbered o n ≡ by_number (key_number_in o) n
 unfolding by_number
 numbered_by None n = refl
 numbered_by (Some x) n = refl
 
-same_number : (a b : Option Outbound) (n : ℕ) → number_in a ≡ number_in b → is_numbered a n ≡ is_numbered b n
+same_number : (a b : Option Outbound) (n : ℕ) → key_number_in a ≡ key_number_in b → is_numbered a n ≡ is_numbered b n
 same_number a b n q = numbered_by a n ∙ ap (λ (o : Option ℕ). by_number o n) q ∙ sym (numbered_by b n)
 
 same_has : {O : Type 0} (old new : Sending O) (n : ℕ) → SameNumbers old new → has_number new n ≡ has_number old n
@@ -149,7 +149,7 @@ named_so None keys sending for = tt
 named_so (Some n) keys sending for = λ q. absurd (let e = sym for ∙ q in cc)
 
 held_still : {O : Type 0} (suite : Suite) (old new : Sending O) → SameNumbers old new
-    → number_in (contexts_of suite new) ≡ number_in (contexts_of suite old)
+    → key_number_in (contexts_of suite new) ≡ key_number_in (contexts_of suite old)
 held_still Tag80 old new same = same.tag80
 held_still Tag32 old new same = same.tag32
 
@@ -157,7 +157,7 @@ held_still Tag32 old new same = same.tag32
 
 pub leg_keeps : {O : Type 0} (config : Config) (m : ℕ) (p : Receipt) (ok : Bool) (d : Deed) (h : List CellEntry) (leg : Leg O)
     → takes leg.holder p d ≡ false → ((half : Half) → sent_from h leg.holder half p d ≡ false) → IsElsewhere leg.holder (key_numbered h) d.shield
-    → LegFor config h leg → LegFor config (relay_entry m p ok d ∷ h) leg
+    → LegStandsFor config h leg → LegStandsFor config (relay_entry m p ok d ∷ h) leg
 leg_keeps config m p ok d h leg is_not unsent apart for =
     record {
       pair = for.pair;
@@ -178,7 +178,7 @@ pub leg_takes : {O : Type 0} (config : Config) (m : ℕ) (p : Receipt) (ok : Boo
     → takes leg.holder p d ≡ true → d.kind ≡ p.half → ((half : Half) → sent_from h leg.holder half p d ≡ false)
     → IsElsewhere leg.holder (key_numbered h) d.shield → leg.signal ≡ Some s
     → ReceivingFor (Some s) receiving (taught_half p.half s.flags p.source (learned h leg.holder)) (cons_option d.noted (accepted h leg.holder))
-    → LegFor config h leg → LegFor config (relay_entry m p ok d ∷ h) (with_receiving p.half leg receiving)
+    → LegStandsFor config h leg → LegStandsFor config (relay_entry m p ok d ∷ h) (with_receiving p.half leg receiving)
 leg_takes config m p ok d h leg s receiving is_so kind unsent apart signal takes_it for =
     let new = receiving_takes m p ok d h leg.holder s receiving is_so (sym for.signal ∙ signal) takes_it in
     record {
@@ -198,7 +198,7 @@ leg_takes config m p ok d h leg s receiving is_so kind unsent apart signal takes
 
 pub leg_sends : {O : Type 0} (config : Config) (m : ℕ) (p : Receipt) (ok : Bool) (d : Deed) (h : List CellEntry) (leg : Leg O) (sending : Sending O)
     → takes leg.holder p d ≡ false → ((half : Half) → sent_from h leg.holder half p d ≡ (ok && is_half p.half half)) → SendingFor leg.holder (key_numbered h) (noted_under d.shield (protected h)) sending → SameNumbers leg.sending sending
-    → LegFor config h leg → LegFor config (relay_entry m p ok d ∷ h) (with_send p.half ok leg sending)
+    → LegStandsFor config h leg → LegStandsFor config (relay_entry m p ok d ∷ h) (with_send p.half ok leg sending)
 leg_sends config m p ok d h leg sending is_not sent noted same for =
     record {
       pair = for.pair;

@@ -26,7 +26,7 @@ adds_event moment (Prepare call legs keys dropped) i =
 adds_event moment (Commit signal) i = elim i [ ]
 adds_event moment (Relay r) i = elim i [ ]
 adds_event moment (Expire due) i = elim i [ ]
-adds_event moment (Read told) i = elim i [ ]
+adds_event moment (Read log) i = elim i [ ]
 adds_event moment End i = elim i [ ]
 
 -- an entry that adds a leg is a Prepare with that leg

@@ -10,10 +10,10 @@ use Rattle.port_pool.specs.declared.signal.SectionSignal.{SectionSignal}
 use Rattle.port_pool.specs.Signals.{NewKey, same_leg}
 use Rattle.call_cell.specs.declared.prepare.Prepare as prepared
 use Rattle.call_cell.specs.Cells.{CellEvent, CellEntry, Prepare, Commit, Relay, Expire, Read, End, since_end, call_prepared, prepared_call, call, legs_of, takes_away, legs, life, commits_for, committed, in_force, keys_of, keys_in, key_numbered}
-use Rattle.call_cell.specs.LegKeys.{keys_since, keys_for, is_for, OnePerSuite}
-use Rattle.call_cell.specs.Lasting.{is_lasting, kept}
-use Rattle.call_cell.specs.Committing.{NamesKeys, contexts_due_after, needs_inbound, said_of}
-use Rattle.call_cell.specs.Preparing.{CanCome, added, prepare_entry}
+use Rattle.call_cell.specs.LegKeys.{keys_since, keys_for, is_for_leg, OnePerSuite}
+use Rattle.call_cell.specs.SignalEntries.{is_lasting, lasting_entries}
+use Rattle.call_cell.specs.Commits.{NamesKeys, contexts_due_after, needs_inbound, said_of}
+use Rattle.call_cell.specs.Preparations.{CanCome, added, prepare_entry}
 use Rattle.call_cell.proofs.Legs.{legs_stay}
 use Rattle.call_cell.proofs.Offered.{filter_by}
 
@@ -24,32 +24,32 @@ entry_at moment event = record { moment = moment; event = event }
 
 -- what the lasting entries are, without their moments
 abbrev pub lasting_events : List CellEntry → List CellEvent
-lasting_events h = map (λ (e : CellEntry). e.event) (kept h)
+lasting_events h = map (λ (e : CellEntry). e.event) (lasting_entries h)
 
 abbrev pub bare : List CellEvent → List CellEntry
 bare events = map (entry_at 0) events
 
-again_case : (e : CellEntry) (h : List CellEntry) → kept (kept h) ≡ kept h → (b : Bool) → is_lasting e.event ≡ b
-    → kept (cond b (e ∷ kept h) (kept h)) ≡ cond b (e ∷ kept h) (kept h)
+again_case : (e : CellEntry) (h : List CellEntry) → lasting_entries (lasting_entries h) ≡ lasting_entries h → (b : Bool) → is_lasting e.event ≡ b
+    → lasting_entries (cond b (e ∷ lasting_entries h) (lasting_entries h)) ≡ cond b (e ∷ lasting_entries h) (lasting_entries h)
 again_case e h rest true q =
-    ap (λ (b : Bool). cond b (e ∷ kept (kept h)) (kept (kept h))) q ∙ ap (λ (l : List CellEntry). e ∷ l) rest
+    ap (λ (b : Bool). cond b (e ∷ lasting_entries (lasting_entries h)) (lasting_entries (lasting_entries h))) q ∙ ap (λ (l : List CellEntry). e ∷ l) rest
 again_case e h rest false q = rest
 
-pub kept_again : (h : List CellEntry) → kept (kept h) ≡ kept h
+pub kept_again : (h : List CellEntry) → lasting_entries (lasting_entries h) ≡ lasting_entries h
 kept_again [] = refl
 kept_again (e ∷ h) = again_case e h (kept_again h) (is_lasting e.event) refl
 
-since_event : (moment : ℕ) (event : CellEvent) (h : List CellEntry) → kept (since_end h) ≡ since_end (kept h)
-    → kept (since_end (entry_at moment event ∷ h)) ≡ since_end (kept (entry_at moment event ∷ h))
+since_event : (moment : ℕ) (event : CellEvent) (h : List CellEntry) → lasting_entries (since_end h) ≡ since_end (lasting_entries h)
+    → lasting_entries (since_end (entry_at moment event ∷ h)) ≡ since_end (lasting_entries (entry_at moment event ∷ h))
 since_event moment (Prepare call legs keys dropped) h rest = ap (λ (l : List CellEntry). entry_at moment (Prepare call legs keys dropped) ∷ l) rest
 since_event moment (Commit signal) h rest = ap (λ (l : List CellEntry). entry_at moment (Commit signal) ∷ l) rest
 since_event moment (Relay r) h rest = rest
 since_event moment (Expire due) h rest = rest
-since_event moment (Read told) h rest = rest
+since_event moment (Read log) h rest = rest
 since_event moment End h rest = refl
 
 -- the lasting entries since the last End
-pub kept_since : (h : List CellEntry) → kept (since_end h) ≡ since_end (kept h)
+pub kept_since : (h : List CellEntry) → lasting_entries (since_end h) ≡ since_end (lasting_entries h)
 kept_since [] = refl
 kept_since (e ∷ h) = since_event e.moment e.event h (kept_since h)
 
@@ -59,7 +59,7 @@ pub record IsLasting {X : Type 0} (f : List CellEntry → X) : Type 0 where
   pub skip : (moment : ℕ) (event : CellEvent) (h : List CellEntry) → is_lasting event ≡ false → f (entry_at moment event ∷ h) ≡ f h
 
 bare_case : {X : Type 0} (f : List CellEntry → X) → IsLasting f → (e : CellEntry) (h : List CellEntry) → f (bare (lasting_events h)) ≡ f h
-    → (b : Bool) → is_lasting e.event ≡ b → f (bare (map (λ (x : CellEntry). x.event) (cond b (e ∷ kept h) (kept h)))) ≡ f (e ∷ h)
+    → (b : Bool) → is_lasting e.event ≡ b → f (bare (map (λ (x : CellEntry). x.event) (cond b (e ∷ lasting_entries h) (lasting_entries h)))) ≡ f (e ∷ h)
 bare_case f asks e h rest true q = asks.step (entry_at 0 e.event) e (bare (lasting_events h)) h refl rest
 bare_case f asks e h rest false q = rest ∙ sym (asks.skip e.moment e.event h q)
 
@@ -77,7 +77,7 @@ no_legs (Prepare call legs keys dropped) q = absurd (let e = q in cc)
 no_legs (Commit signal) q = refl
 no_legs (Relay r) q = refl
 no_legs (Expire due) q = refl
-no_legs (Read told) q = refl
+no_legs (Read log) q = refl
 no_legs End q = refl
 
 takes_none : (event : CellEvent) (section : ℕ) → is_lasting event ≡ false → takes_away event section ≡ false
@@ -85,7 +85,7 @@ takes_none (Prepare call legs keys dropped) section q = absurd (let e = q in cc)
 takes_none (Commit signal) section q = absurd (let e = q in cc)
 takes_none (Relay r) section q = refl
 takes_none (Expire due) section q = refl
-takes_none (Read told) section q = refl
+takes_none (Read log) section q = refl
 takes_none End section q = refl
 
 legs_step : (d e : CellEntry) (g h : List CellEntry) → d.event ≡ e.event → legs g ≡ legs h → legs (d ∷ g) ≡ legs (e ∷ h)
@@ -104,7 +104,7 @@ keys_skip moment (Prepare call legs keys dropped) h q = absurd (let e = q in cc)
 keys_skip moment (Commit signal) h q = refl
 keys_skip moment (Relay r) h q = refl
 keys_skip moment (Expire due) h q = refl
-keys_skip moment (Read told) h q = refl
+keys_skip moment (Read log) h q = refl
 keys_skip moment End h q = refl
 
 keys_last : IsLasting keys_in
@@ -122,7 +122,7 @@ since_skip leg moment (Prepare call legs keys dropped) h q = absurd (let e = q i
 since_skip leg moment (Commit signal) h q = refl
 since_skip leg moment (Relay r) h q = refl
 since_skip leg moment (Expire due) h q = refl
-since_skip leg moment (Read told) h q = refl
+since_skip leg moment (Read log) h q = refl
 since_skip leg moment End h q = refl
 
 since_last : (leg : Holder) → IsLasting (keys_of_leg leg)
@@ -149,7 +149,7 @@ commits_skip leg moment (Prepare call legs keys dropped) h q = absurd (let e = q
 commits_skip leg moment (Commit signal) h q = absurd (let e = q in cc)
 commits_skip leg moment (Relay r) h q = refl
 commits_skip leg moment (Expire due) h q = refl
-commits_skip leg moment (Read told) h q = refl
+commits_skip leg moment (Read log) h q = refl
 commits_skip leg moment End h q = refl
 
 commits_last : (leg : Holder) → IsLasting (commits_of leg)
@@ -168,7 +168,7 @@ calls_skip moment (Prepare call legs keys dropped) h q = absurd (let e = q in cc
 calls_skip moment (Commit signal) h q = refl
 calls_skip moment (Relay r) h q = refl
 calls_skip moment (Expire due) h q = refl
-calls_skip moment (Read told) h q = refl
+calls_skip moment (Read log) h q = refl
 calls_skip moment End h q = refl
 
 calls_last : IsLasting calls_of
@@ -197,7 +197,7 @@ same_lasting h k same = record {
 }
 
 pub keys_for_same : (h k : List CellEntry) → SameLasting h k → (leg : Holder) → keys_for h leg ≡ keys_for k leg
-keys_for_same h k s leg = ap (λ (l : List NewKey). filter (is_for leg) l) (s.since_are leg)
+keys_for_same h k s leg = ap (λ (l : List NewKey). filter (is_for_leg leg) l) (s.since_are leg)
 
 pub numbered_same : (h k : List CellEntry) → SameLasting h k → (number : ℕ) → key_numbered h number ≡ key_numbered k number
 numbered_same h k s number =
@@ -220,7 +220,7 @@ can_come_same {O} config h k signal number keys dropped s can =
     let e = prepare_entry 0 number (added signal) keys dropped in
     let in_legs : (leg : Holder) → In leg (legs k) → In leg (legs h) = λ leg i. subst (λ (l : List Holder). In leg l) (sym s.legs_are) i in
     let keys_are : (leg : Holder) → keys_for (e ∷ h) leg ≡ keys_for (e ∷ k) leg
-    = λ leg. ap (λ (l : List NewKey). filter (is_for leg) (keys ++ cond (list_any (same_leg leg) (added signal)) [] l)) (s.since_are leg) in
+    = λ leg. ap (λ (l : List NewKey). filter (is_for_leg leg) (keys ++ cond (list_any (same_leg leg) (added signal)) [] l)) (s.since_are leg) in
     record {
       sections = can.sections;
       ports = can.ports;
@@ -249,31 +249,31 @@ due_same h k signal s =
 
 -- Two histories with the same lasting entries.
 
-pub same_kept : (h k : List CellEntry) → kept h ≡ kept k → SameLasting (since_end h) (since_end k)
+pub same_kept : (h k : List CellEntry) → lasting_entries h ≡ lasting_entries k → SameLasting (since_end h) (since_end k)
 same_kept h k same =
     same_lasting (since_end h) (since_end k)
     (ap (λ (l : List CellEntry). map (λ (e : CellEntry). e.event) l) (kept_since h ∙ ap (λ (l : List CellEntry). since_end l) same ∙ sym (kept_since k)))
 
 -- the keys of a history are those of its lasting entries
-pub keys_in_kept : (h : List CellEntry) → keys_in (kept h) ≡ keys_in h
+pub keys_in_kept : (h : List CellEntry) → keys_in (lasting_entries h) ≡ keys_in h
 keys_in_kept h =
-    lasts keys_in keys_last (kept h) h (ap (λ (l : List CellEntry). map (λ (e : CellEntry). e.event) l) (kept_again h))
+    lasts keys_in keys_last (lasting_entries h) h (ap (λ (l : List CellEntry). map (λ (e : CellEntry). e.event) l) (kept_again h))
 
 -- and so a history and its lasting entries
-pub kept_is_same : (h : List CellEntry) → SameLasting (since_end (kept h)) (since_end h)
-kept_is_same h = same_kept (kept h) h (kept_again h)
+pub kept_is_same : (h : List CellEntry) → SameLasting (since_end (lasting_entries h)) (since_end h)
+kept_is_same h = same_kept (lasting_entries h) h (kept_again h)
 
-pub legs_kept : (h : List CellEntry) → legs (since_end (kept h)) ≡ legs (since_end h)
+pub legs_kept : (h : List CellEntry) → legs (since_end (lasting_entries h)) ≡ legs (since_end h)
 legs_kept h = let s = kept_is_same h in s.legs_are
 
 pub can_come_kept : {O : Type 0} (config : Config) (h k : List CellEntry) (signal : prepared.Prepare O) (number : ℕ) (keys : List NewKey) (dropped : List ℕ)
-    → kept h ≡ kept k → CanCome config (since_end h) signal number keys dropped → CanCome config (since_end k) signal number keys dropped
+    → lasting_entries h ≡ lasting_entries k → CanCome config (since_end h) signal number keys dropped → CanCome config (since_end k) signal number keys dropped
 can_come_kept config h k signal number keys dropped same can =
     can_come_same config (since_end h) (since_end k) signal number keys dropped (same_kept h k same) can
 
-pub names_keys_kept : (h k : List CellEntry) (signal : List SectionSignal) → kept h ≡ kept k → NamesKeys (since_end h) signal → NamesKeys (since_end k) signal
+pub names_keys_kept : (h k : List CellEntry) (signal : List SectionSignal) → lasting_entries h ≡ lasting_entries k → NamesKeys (since_end h) signal → NamesKeys (since_end k) signal
 names_keys_kept h k signal same names = names_keys_same (since_end h) (since_end k) signal (same_kept h k same) names
 
-pub due_kept : (h k : List CellEntry) (signal : List SectionSignal) → kept h ≡ kept k
+pub due_kept : (h k : List CellEntry) (signal : List SectionSignal) → lasting_entries h ≡ lasting_entries k
     → contexts_due_after (since_end h) signal ≡ contexts_due_after (since_end k) signal
 due_kept h k signal same = due_same (since_end h) (since_end k) signal (same_kept h k same)

@@ -4,7 +4,7 @@ use Rattle.histories.specs.Words.{In, first}
 use Rattle.histories.proofs.Lists.{filtered, first_is_in, equal_if}
 use Rattle.port_pool.specs.Signals.{NewKey}
 use Rattle.call_cell.specs.Cells.{CellEvent, CellEntry, Prepare, Commit, Relay, Expire, Read, End, is_end, since_end, keys_of, keys_in, key_numbered}
-use Rattle.call_cell.specs.Lasting.{kept}
+use Rattle.call_cell.specs.SignalEntries.{lasting_entries}
 use Rattle.call_cell.specs.Numbers.{BringsNewKeys}
 use Rattle.call_cell.proofs.Keys.{key_brought, key_is_in}
 use Rattle.call_cell.proofs.Since.{since_is_in}
@@ -42,37 +42,37 @@ brings_since (e ∷ h) brings = since_case e h brings.0 (brings_since h brings.1
 
 -- Lasting entries.
 
-numbered_kept : (h : List CellEntry) (number : ℕ) → key_numbered (kept h) number ≡ key_numbered h number
+numbered_kept : (h : List CellEntry) (number : ℕ) → key_numbered (lasting_entries h) number ≡ key_numbered h number
 numbered_kept h number = ap (λ (l : List NewKey). first (filter (λ (key : NewKey). key.number == number) l)) (keys_in_kept h)
 
-brings_event : (moment : ℕ) (event : CellEvent) (h : List CellEntry) → (BringsNewKeys (kept h) → BringsNewKeys h)
-    → BringsNewKeys (kept (entry_at moment event ∷ h)) → BringsNewKeys (entry_at moment event ∷ h)
+brings_event : (moment : ℕ) (event : CellEvent) (h : List CellEntry) → (BringsNewKeys (lasting_entries h) → BringsNewKeys h)
+    → BringsNewKeys (lasting_entries (entry_at moment event ∷ h)) → BringsNewKeys (entry_at moment event ∷ h)
 brings_event moment (Prepare call legs keys dropped) h rest brings =
     ((λ key i. sym (numbered_kept h key.number) ∙ brings.0 key i), rest brings.1)
 brings_event moment (Commit signal) h rest brings = ((λ key i. elim i [ ]), rest brings.1)
 brings_event moment (Relay r) h rest brings = ((λ key i. elim i [ ]), rest brings)
 brings_event moment (Expire due) h rest brings = ((λ key i. elim i [ ]), rest brings)
-brings_event moment (Read told) h rest brings = ((λ key i. elim i [ ]), rest brings)
+brings_event moment (Read log) h rest brings = ((λ key i. elim i [ ]), rest brings)
 brings_event moment End h rest brings = ((λ key i. elim i [ ]), rest brings.1)
 
-pub brings_kept : (h : List CellEntry) → BringsNewKeys (kept h) → BringsNewKeys h
+pub brings_kept : (h : List CellEntry) → BringsNewKeys (lasting_entries h) → BringsNewKeys h
 brings_kept [] brings = tt
 brings_kept (e ∷ h) brings = brings_event e.moment e.event h (brings_kept h) brings
 
-keeps_event : (moment : ℕ) (event : CellEvent) (h : List CellEntry) → (BringsNewKeys h → BringsNewKeys (kept h))
-    → BringsNewKeys (entry_at moment event ∷ h) → BringsNewKeys (kept (entry_at moment event ∷ h))
+keeps_event : (moment : ℕ) (event : CellEvent) (h : List CellEntry) → (BringsNewKeys h → BringsNewKeys (lasting_entries h))
+    → BringsNewKeys (entry_at moment event ∷ h) → BringsNewKeys (lasting_entries (entry_at moment event ∷ h))
 keeps_event moment (Prepare call legs keys dropped) h rest brings =
     ((λ key i. numbered_kept h key.number ∙ brings.0 key i), rest brings.1)
 keeps_event moment (Commit signal) h rest brings = ((λ key i. elim i [ ]), rest brings.1)
 keeps_event moment (Relay r) h rest brings = rest brings.1
 keeps_event moment (Expire due) h rest brings = rest brings.1
-keeps_event moment (Read told) h rest brings = rest brings.1
+keeps_event moment (Read log) h rest brings = rest brings.1
 keeps_event moment End h rest brings = ((λ key i. elim i [ ]), rest brings.1)
 
-pub kept_brings : (h : List CellEntry) → BringsNewKeys h → BringsNewKeys (kept h)
+pub kept_brings : (h : List CellEntry) → BringsNewKeys h → BringsNewKeys (lasting_entries h)
 kept_brings [] brings = tt
 kept_brings (e ∷ h) brings = keeps_event e.moment e.event h (kept_brings h) brings
 
 -- so it is of two histories with the same lasting entries
-pub brings_same : (h k : List CellEntry) → kept h ≡ kept k → BringsNewKeys h → BringsNewKeys k
+pub brings_same : (h k : List CellEntry) → lasting_entries h ≡ lasting_entries k → BringsNewKeys h → BringsNewKeys k
 brings_same h k same brings = brings_kept k (subst (λ (l : List CellEntry). BringsNewKeys l) same (kept_brings h brings))

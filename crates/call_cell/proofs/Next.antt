@@ -16,13 +16,13 @@ use Rattle.replay_window.specs.Indices.{near, fresh, is_too_old, is_noted}
 use Rattle.srtp_keys.specs.declared.faults.ProtectFault.{ProtectFault}
 use Rattle.srtp_keys.specs.declared.faults.ProtectFault.TheVariants as fault
 use Rattle.srtp_sources.specs.Notes.{Note, indices, has_room}
-use Rattle.srtp_context.specs.Wrapping as srtp_out
-use Rattle.srtcp_context.specs.Wrapping as srtcp_out
+use Rattle.srtp_context.specs.OutboundPackets as srtp_out
+use Rattle.srtcp_context.specs.OutboundPackets as srtcp_out
 use Rattle.histories.specs.Words.{In, here, there}
 use Rattle.histories.proofs.Lists.{equal}
 use Rattle.port_pool.specs.Signals.{NewKey}
 use Rattle.call_cell.specs.Cells.{Shield}
-use Rattle.call_cell.specs.Keyed.{Leaves, wrapped_rtp, wrapped_rtcp, wrapped_under}
+use Rattle.call_cell.specs.Protection.{Leaves, wrapped_rtp, wrapped_rtcp, wrapped_under}
 
 -- the index that the next packet of a source gets
 abbrev pub IsNextIndex : Half → ℕ → List Note → ℕ → Type 0
@@ -64,14 +64,14 @@ room_case true i index q = let e = q in cc
 room_case false i index q = absurd (let e = q in cc)
 
 by_case : (ssrc : ℕ) (notes : List Note) (i index : ℕ) (f : Fresh) → fresh (indices Rtp ssrc notes) i ≡ f
-    → srtp_out.index_by ssrc notes i f ≡ Ok index → In index (indices Rtp ssrc notes) → ⊥
+    → srtp_out.unused_index_by ssrc notes i f ≡ Ok index → In index (indices Rtp ssrc notes) → ⊥
 by_case ssrc notes i index TooOld e q j = let f = q in cc
 by_case ssrc notes i index Used e q j = let f = q in cc
 by_case ssrc notes i index Yes e q j =
     fresh_is_new (indices Rtp ssrc notes) i e
     (subst (λ (k : ℕ). In k (indices Rtp ssrc notes)) (sym (room_case (has_room Rtp ssrc notes) i index q)) j)
 
-near_case : (ssrc : ℕ) (notes : List Note) (index : ℕ) (n : Near) → srtp_out.index_near ssrc notes n ≡ Ok index
+near_case : (ssrc : ℕ) (notes : List Note) (index : ℕ) (n : Near) → srtp_out.sent_index_near ssrc notes n ≡ Ok index
     → In index (indices Rtp ssrc notes) → ⊥
 near_case ssrc notes index (At i) q j = by_case ssrc notes i index (fresh (indices Rtp ssrc notes) i) refl q j
 near_case ssrc notes index Below q j = let f = q in cc
@@ -114,13 +114,13 @@ spent_case true true n index q = let e = q in cc
 spent_case true false n index q = absurd (let e = q in cc)
 spent_case false below n index q = absurd (let e = q in cc)
 
-sent_is_count : (notes : List Note) (ssrc index : ℕ) → srtcp_out.sent_index notes ssrc ≡ Ok index → index ≡ length (indices Rtcp ssrc notes)
-unfolding srtcp_out.sent_index
+sent_is_count : (notes : List Note) (ssrc index : ℕ) → srtcp_out.sent_rtcp_index notes ssrc ≡ Ok index → index ≡ length (indices Rtcp ssrc notes)
+unfolding srtcp_out.sent_rtcp_index
 sent_is_count notes ssrc index q =
     spent_case (has_room Rtcp ssrc notes) (nat_lt (srtcp_out.next_index ssrc notes) (2 ^ 31)) (srtcp_out.next_index ssrc notes) index q
 
 at_case_control : (master : List ℕ) (packet : List ℕ) (notes : List Note) (ssrc : ℕ) (r : Result ℕ ProtectFault)
-    → srtcp_out.sent_index notes ssrc ≡ r → (w : srtcp_out.Wrapped) → srtcp_out.wrapped_at master packet ssrc r ≡ Ok w → Next Rtcp notes w.note
+    → srtcp_out.sent_rtcp_index notes ssrc ≡ r → (w : srtcp_out.Wrapped) → srtcp_out.rtcp_wrapped_at master packet ssrc r ≡ Ok w → Next Rtcp notes w.note
 at_case_control master packet notes ssrc (Err cause) e w q = absurd (let f = q in cc)
 at_case_control master packet notes ssrc (Ok index) e w q =
     let f = q in
@@ -128,14 +128,14 @@ at_case_control master packet notes ssrc (Ok index) e w q =
     subst (λ (n : Note). Next Rtcp notes n) is_it (record { half_is = refl; is_next = sent_is_count notes ssrc index e })
 
 ssrc_case : (master : List ℕ) (packet : List ℕ) (notes : List Note) (o : Option ℕ) (w : srtcp_out.Wrapped)
-    → option_map_or (λ (ssrc : ℕ). srtcp_out.wrapped_at master packet ssrc (srtcp_out.sent_index notes ssrc)) o (Err fault.TooManySources) ≡ Ok w
+    → option_map_or (λ (ssrc : ℕ). srtcp_out.rtcp_wrapped_at master packet ssrc (srtcp_out.sent_rtcp_index notes ssrc)) o (Err fault.TooManySources) ≡ Ok w
     → Next Rtcp notes w.note
 ssrc_case master packet notes None w q = absurd (let f = q in cc)
-ssrc_case master packet notes (Some ssrc) w q = at_case_control master packet notes ssrc (srtcp_out.sent_index notes ssrc) refl w q
+ssrc_case master packet notes (Some ssrc) w q = at_case_control master packet notes ssrc (srtcp_out.sent_rtcp_index notes ssrc) refl w q
 
 pub rtcp_next : (master : List ℕ) (notes : List Note) (packet : List ℕ) (w : srtcp_out.Wrapped)
-    → srtcp_out.wrapping master notes packet ≡ Ok w → Next Rtcp notes w.note
-unfolding srtcp_out.wrapping
+    → srtcp_out.rtcp_wrapping master notes packet ≡ Ok w → Next Rtcp notes w.note
+unfolding srtcp_out.rtcp_wrapping
 rtcp_next master notes packet w q = ssrc_case master packet notes (rtcp_ssrc packet) w q
 
 -- either
@@ -167,4 +167,4 @@ unfolding wrapped_under
 wraps_next key notes Rtp plain s bytes q =
     wraps_rtp key notes (srtp_out.wrapping key.bytes key.suite notes plain) s bytes (rtp_next key.bytes key.suite notes plain) q
 wraps_next key notes Rtcp plain s bytes q =
-    wraps_rtcp key notes (srtcp_out.wrapping key.bytes notes plain) s bytes (rtcp_next key.bytes notes plain) q
+    wraps_rtcp key notes (srtcp_out.rtcp_wrapping key.bytes notes plain) s bytes (rtcp_next key.bytes notes plain) q

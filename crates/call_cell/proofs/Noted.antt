@@ -8,8 +8,8 @@ use Rattle.rtp_packet.specs.declared.head.Half.TheVariants.{Rtp, Rtcp}
 use Rattle.sdes_lines.specs.declared.crypto_line.Suite.{Suite}
 use Rattle.srtp_keys.specs.declared.faults.UnprotectFault.{UnprotectFault}
 use Rattle.srtp_sources.specs.Notes.{Note}
-use Rattle.srtp_context.specs.Opening as srtp
-use Rattle.srtcp_context.specs.Opening as srtcp
+use Rattle.srtp_context.specs.InboundPackets as srtp
+use Rattle.srtcp_context.specs.InboundPackets as srtcp
 use Rattle.histories.specs.Words.{In}
 use Rattle.port_pool.specs.declared.holder.Holder.{Holder}
 use Rattle.port_pool.specs.declared.signal.LegSignal.{LegSignal}
@@ -18,9 +18,9 @@ use Rattle.call_cell.specs.declared.outcome.Refused.{Refused}
 use Rattle.call_cell.specs.declared.outcome.Refused.TheVariants as refused
 use Rattle.call_cell.specs.declared.outcome.Outcome.TheVariants as outcomes
 use Rattle.call_cell.specs.Cells.{CellEntry, Receipt, Sending, Deed, legs, in_force, is_accepted}
-use Rattle.call_cell.specs.Keyed.{accepted, Judged, Stopped, Passed, is_packet, opened_rtp, opened_rtcp, opened_under, opened_by}
-use Rattle.call_cell.specs.Learning.{learned}
-use Rattle.endpoint_learn.specs.Learning.{is_wrong_source}
+use Rattle.call_cell.specs.Protection.{accepted, Judged, Stopped, Passed, is_packet, opened_rtp, opened_rtcp, opened_under, opened_by}
+use Rattle.call_cell.specs.Lessons.{learned}
+use Rattle.endpoint_learn.specs.Lessons.{is_wrong_source}
 use Rattle.call_cell.specs.Deeds.{deed, found, kind, judged, judged_leg, sent_outcome, refused_deed}
 use Rattle.call_cell.proofs.Legs.{found_is}
 use Rattle.call_cell.proofs.Does.{Does, refuses, loses, leaves, Taken, sending_of, does}
@@ -68,7 +68,7 @@ under_notes : (key : List ℕ × Suite) (notes : List Note) (half : Half) (bytes
     → opened_under key notes half bytes ≡ Passed noted plain → is_some noted ≡ true
 unfolding opened_under
 under_notes key notes Rtp bytes noted plain q = rtp_notes (srtp.opening key.0 key.1 notes bytes) noted plain q
-under_notes key notes Rtcp bytes noted plain q = rtcp_notes (srtcp.opening key.0 notes bytes) noted plain q
+under_notes key notes Rtcp bytes noted plain q = rtcp_notes (srtcp.rtcp_opening key.0 notes bytes) noted plain q
 
 by_notes : (key : Option (List ℕ × Suite)) (notes : List Note) (half : Half) (bytes : List ℕ) (noted : Option Note) (plain : List ℕ)
     → opened_by key notes half bytes ≡ Passed noted plain → is_some noted ≡ is_some key

@@ -18,13 +18,13 @@ use Rattle.call_cell.specs.declared.prepare.PreparedKey.{PreparedKey}
 use Rattle.call_cell.specs.declared.prepare.Prepare as prepared
 use Rattle.call_cell.specs.declared.cell.Cell.{Cell}
 use Rattle.call_cell.specs.Cells.{CellEntry, legs, since_end, call, prepared_call, key_numbered, keys_in}
-use Rattle.call_cell.specs.Keyed.{protected}
-use Rattle.call_cell.specs.Asked.{is_activity}
-use Rattle.call_cell.specs.Standing.{LegFor, LegsFor, AreApart, with_sending}
-use Rattle.call_cell.specs.CellStanding.{CellFor, WasAt, last_moment}
-use Rattle.call_cell.specs.Ending.{parts_of}
-use Rattle.call_cell.specs.Parting.{goes, stays, Part}
-use Rattle.call_cell.specs.Preparing.{PrepareFor, CanCome, AreTwo, CellPrepares, added, parts_added, prepare_entry, prepared_at, is_at, with_contexts, with_key, with_keys}
+use Rattle.call_cell.specs.Protection.{protected}
+use Rattle.call_cell.specs.Demands.{is_activity}
+use Rattle.call_cell.specs.LegHistories.{LegStandsFor, LegsStandFor, AreApart, with_sending}
+use Rattle.call_cell.specs.CellHistories.{CellFor, WasAt, cell_last_moment}
+use Rattle.call_cell.specs.CellEnds.{parts_of}
+use Rattle.call_cell.specs.DroppedLegs.{goes, stays, Part}
+use Rattle.call_cell.specs.Preparations.{PrepareFor, CanCome, AreTwo, CellPrepares, added, parts_added, prepare_entry, prepared_at, is_key_at, with_contexts, with_key, with_keys}
 use Rattle.call_cell.proofs.Placing.{same_itself}
 use Rattle.call_cell.proofs.Few.{few, in_at, at_in, each_in, Apart, pairs_of, apart_of}
 use Rattle.call_cell.proofs.Answered.{map_filter, apart_kept}
@@ -72,19 +72,19 @@ if_parts key leg false = refl
 
 keys_parts : {O : Type 0} (keys : List PreparedKey) (leg : Leg O) → parts_of (with_keys keys leg) ≡ parts_of leg
 keys_parts [] leg = refl
-keys_parts (key ∷ keys) leg = if_parts key (with_keys keys leg) (is_at key (with_keys keys leg)) ∙ keys_parts keys leg
+keys_parts (key ∷ keys) leg = if_parts key (with_keys keys leg) (is_key_at key (with_keys keys leg)) ∙ keys_parts keys leg
 
 -- The legs.
 
 pub record Offered {O : Type 0} (config : Config) (m call : ℕ) (signal : prepared.Prepare O) (keys : List NewKey) (dropped : List ℕ) (h : List CellEntry)
     (old new : List (Leg O)) (gone : List (Lease × O × O)) : Type 0 where
-  pub legs_for : LegsFor config (prepare_entry m call (added signal) keys dropped ∷ h) new
+  pub legs_for : LegsStandFor config (prepare_entry m call (added signal) keys dropped ∷ h) new
   pub went : gone ≡ map (λ (leg : Leg O). parts_of leg) (filter (λ (leg : Leg O). has dropped leg.holder.section) old)
   pub stay : map (λ (leg : Leg O). parts_of leg) new
       ≡ map (λ (leg : Leg O). parts_of leg) (filter (λ (leg : Leg O). not (has dropped leg.holder.section)) old) ++ parts_added signal
 
 pub offered : {O : Type 0} (config : Config) (m call : ℕ) (signal : prepared.Prepare O) (keys : List NewKey) (dropped : List ℕ) (h : List CellEntry)
-    (old kept joined new : List (Leg O)) (before after : List (Lease × O × O)) → LegsFor config h old
+    (old kept joined new : List (Leg O)) (before after : List (Lease × O × O)) → LegsStandFor config h old
     → ((number : ℕ) → key_numbered h number ≡ None → protected h number ≡ []) → PrepareFor signal keys dropped → CanCome config h signal call keys dropped
     → before ≡ [] → Part signal.dropped old kept before after → joined ≡ kept ++ signal.legs.items
     → (AreApart joined → new ≡ map (λ (leg : Leg O). with_keys signal.keys.items leg) joined)
@@ -122,24 +122,24 @@ offered {O} config m call signal keys dropped h old kept joined new before after
       numbers_differ = can.numbers_differ;
       unnoted = unnoted;
     } in
-    let kept_leg : (leg : Leg O) → In leg kept → LegFor config (e ∷ h) (f leg) = λ leg i.
+    let kept_leg : (leg : Leg O) → In leg kept → LegStandsFor config (e ∷ h) (f leg) = λ leg i.
     let o = in_old leg i in
     leg_stays config m call (added signal) signal.keys.items keys dropped h came leg
     (any_false (same_leg leg.holder) (added signal) (λ x j same. can.new_lease x leg.holder j (is_leg leg o.0) same))
     (can.one_each leg.holder (in_left (filter (λ (x : Holder). not (has dropped x.section)) (legs h)) (added signal)
     (keeps (λ (x : Holder). not (has dropped x.section)) (legs h) (is_leg leg o.0) o.1)))
     (each_in config h old leg for o.0) in
-    let new_leg : (leg : Leg O) → In leg signal.legs.items → LegFor config (e ∷ h) (f leg) = λ leg i.
+    let new_leg : (leg : Leg O) → In leg signal.legs.items → LegStandsFor config (e ∷ h) (f leg) = λ leg i.
     leg_begins config m call (added signal) signal.keys.items keys dropped h came leg
     (any_true (same_leg leg.holder) leg.holder (added signal) (is_added leg i) (same_itself leg.holder))
     (can.one_each leg.holder (in_right (filter (λ (x : Holder). not (has dropped x.section)) (legs h)) (added signal) (is_added leg i)))
     (can.sections leg i) (can.ports leg i) (prep.fresh leg i) in
-    let each_joined : (leg : Leg O) → In leg joined → LegFor config (e ∷ h) (f leg) = λ leg i.
+    let each_joined : (leg : Leg O) → In leg joined → LegStandsFor config (e ∷ h) (f leg) = λ leg i.
     elim (in_append kept signal.legs.items (subst (λ (l : List (Leg O)). In leg l) joins i)) [
       | inl one ↦ kept_leg leg one
       | inr two ↦ new_leg leg two
     ] in
-    let P : List (Leg O) → Type 0 = λ (l : List (Leg O)). LegsFor config (e ∷ h) l in
+    let P : List (Leg O) → Type 0 = λ (l : List (Leg O)). LegsStandFor config (e ∷ h) l in
     record {
       legs_for = subst P (sym new_is) (record {
         holders = map_map holder f joined ∙ map_by (λ (leg : Leg O). (f leg).holder) holder (λ leg. same_holder signal.keys.items leg) joined
@@ -150,7 +150,7 @@ offered {O} config m call signal keys dropped h old kept joined new before after
         apart = apart_map f joined (λ leg. same_holder signal.keys.items leg) apart;
         each = λ i d below.
             let m = mapped f joined (at_in (map f joined) i d below) in
-            subst (λ (l : Leg O). LegFor config (e ∷ h) l) m.makes (each_joined m.from m.is_in);
+            subst (λ (l : Leg O). LegStandsFor config (e ∷ h) l) m.makes (each_joined m.from m.is_in);
       });
       went = (part room).1 ∙ ap (λ (l : List (Lease × O × O)). l ++ map parts (filter (λ (leg : Leg O). goes signal.dropped leg) old)) empty
           ∙ ap (λ (l : List (Leg O)). map parts l) (filter_by drop (λ (leg : Leg O). goes signal.dropped leg) old flags_are);
@@ -219,8 +219,8 @@ cell_prepares {O} config old new h signal number keys dropped now gone for same_
     let e = prepared_at h signal number keys dropped now in
     let s = since_end h in
     let F = filter (λ (x : CellEntry). is_some (prepared_call x)) s in
-    let last : new.moment ≡ last_moment (e ∷ h) = moment ∙ ap (λ (m : ℕ). max m now) for.moment ∙ max_again (last_moment h) now in
-    let now_is : e.moment ≡ new.moment = max_swap now (last_moment h) ∙ sym (moment ∙ ap (λ (m : ℕ). max m now) for.moment) in
+    let last : new.moment ≡ cell_last_moment (e ∷ h) = moment ∙ ap (λ (m : ℕ). max m now) for.moment ∙ max_again (cell_last_moment h) now in
+    let now_is : e.moment ≡ new.moment = max_swap now (cell_last_moment h) ∙ sym (moment ∙ ap (λ (m : ℕ). max m now) for.moment) in
     let did = legs_do e.moment in
     let some_is : is_some old.call ≡ is_some (final F) = ap (λ (o : Option ℕ). is_some o) for.call_is ∙ both_final prepared_call s in
     let began_is : new.began ≡ (if is_some (final F) then old.began else new.moment)

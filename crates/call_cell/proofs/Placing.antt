@@ -14,7 +14,7 @@ use Rattle.port_pool.specs.declared.holder.Holder.{Holder}
 use Rattle.port_pool.specs.Signals.{same_leg, side_eq}
 use Rattle.call_cell.specs.declared.leg.Leg.{Leg}
 use Rattle.call_cell.specs.Cells.{is_opposite}
-use Rattle.call_cell.specs.Standing.{AreApart}
+use Rattle.call_cell.specs.LegHistories.{AreApart}
 use Rattle.call_cell.proofs.Splits.{both, both_left, both_right}
 
 abbrev pub holders_of : {O : Type 0} → List (Leg O) → List Holder

@@ -17,13 +17,13 @@ use Rattle.srtp_keys.specs.declared.faults.UnprotectFault.{UnprotectFault}
 use Rattle.srtp_keys.specs.declared.faults.UnprotectFault.TheVariants as fault
 use Rattle.srtp_sources.specs.Notes.{Note, indices}
 use Rattle.srtp_context.specs.Packets as srtp
-use Rattle.srtp_context.specs.Opening as srtp_in
+use Rattle.srtp_context.specs.InboundPackets as srtp_in
 use Rattle.srtcp_context.specs.Packets as srtcp
-use Rattle.srtcp_context.specs.Opening as srtcp_in
+use Rattle.srtcp_context.specs.InboundPackets as srtcp_in
 use Rattle.port_pool.specs.declared.signal.LegSignal.{LegSignal}
 use Rattle.call_cell.specs.declared.outcome.Refused.TheVariants as refused
-use Rattle.call_cell.specs.Keyed.{Judged, Stopped, Passed, is_packet, opened_rtp, opened_rtcp, opened_under, opened_by}
-use Rattle.endpoint_learn.specs.Learning.{is_wrong_source}
+use Rattle.call_cell.specs.Protection.{Judged, Stopped, Passed, is_packet, opened_rtp, opened_rtcp, opened_under, opened_by}
+use Rattle.endpoint_learn.specs.Lessons.{is_wrong_source}
 use Rattle.call_cell.specs.Deeds.{judged_leg}
 
 -- the front of a front
@@ -107,8 +107,8 @@ rtp_plain master suite notes bytes w q = head_case master suite notes bytes (rtp
 -- RTCP
 
 ciphered_control : (master : List ℕ) (ssrc index m : ℕ) (xs : List ℕ) → 8 ≤ m → m ≤ length xs
-    → Front 8 xs (srtcp.ciphered master ssrc index (take m xs))
-unfolding srtcp.ciphered
+    → Front 8 xs (srtcp.rtcp_ciphered master ssrc index (take m xs))
+unfolding srtcp.rtcp_ciphered
 ciphered_control master ssrc index m xs small held =
     front_of 8 m xs _ small held
 
@@ -123,45 +123,45 @@ either_front xs a b true f g = f
 either_front xs a b false f g = g
 
 opened_control : (master : List ℕ) (bytes : List ℕ) (ssrc : ℕ) → rtcp_ssrc bytes ≡ Some ssrc → 22 ≤ length bytes
-    → rtcp_ssrc (srtcp.opened master bytes) ≡ Some ssrc
-unfolding srtcp.opened
+    → rtcp_ssrc (srtcp.opened_srtcp master bytes) ≡ Some ssrc
+unfolding srtcp.opened_srtcp
 opened_control master bytes ssrc is long =
-    let whole : option_map_or (λ (s : ℕ). cond (srtcp.is_enciphered bytes) (srtcp.ciphered master s (srtcp.carried_index bytes) (srtcp.body bytes)) (srtcp.body bytes)) (rtcp_ssrc bytes) []
-    ≡ cond (srtcp.is_enciphered bytes) (srtcp.ciphered master ssrc (srtcp.carried_index bytes) (srtcp.body bytes)) (srtcp.body bytes)
-    = ap (λ (o : Option ℕ). option_map_or (λ (s : ℕ). cond (srtcp.is_enciphered bytes) (srtcp.ciphered master s (srtcp.carried_index bytes) (srtcp.body bytes)) (srtcp.body bytes)) o []) is in
-    let front = either_front bytes (srtcp.ciphered master ssrc (srtcp.carried_index bytes) (srtcp.body bytes)) (srtcp.body bytes) (srtcp.is_enciphered bytes)
+    let whole : option_map_or (λ (s : ℕ). cond (srtcp.is_enciphered bytes) (srtcp.rtcp_ciphered master s (srtcp.carried_index bytes) (srtcp.rtcp_body bytes)) (srtcp.rtcp_body bytes)) (rtcp_ssrc bytes) []
+    ≡ cond (srtcp.is_enciphered bytes) (srtcp.rtcp_ciphered master ssrc (srtcp.carried_index bytes) (srtcp.rtcp_body bytes)) (srtcp.rtcp_body bytes)
+    = ap (λ (o : Option ℕ). option_map_or (λ (s : ℕ). cond (srtcp.is_enciphered bytes) (srtcp.rtcp_ciphered master s (srtcp.carried_index bytes) (srtcp.rtcp_body bytes)) (srtcp.rtcp_body bytes)) o []) is in
+    let front = either_front bytes (srtcp.rtcp_ciphered master ssrc (srtcp.carried_index bytes) (srtcp.rtcp_body bytes)) (srtcp.rtcp_body bytes) (srtcp.is_enciphered bytes)
     (ciphered_control master ssrc (srtcp.carried_index bytes) (length bytes - 14) bytes (omega (arith, long)) (omega arith))
     (body_control (length bytes - 14) bytes (omega (arith, long)) (omega arith)) in
     subst (λ (l : List ℕ). rtcp_ssrc l ≡ Some ssrc) (sym whole)
-    (rtcp_ssrc-front bytes (cond (srtcp.is_enciphered bytes) (srtcp.ciphered master ssrc (srtcp.carried_index bytes) (srtcp.body bytes)) (srtcp.body bytes)) ssrc is front.same front.held)
+    (rtcp_ssrc-front bytes (cond (srtcp.is_enciphered bytes) (srtcp.rtcp_ciphered master ssrc (srtcp.carried_index bytes) (srtcp.rtcp_body bytes)) (srtcp.rtcp_body bytes)) ssrc is front.same front.held)
 
 long_control : (master : List ℕ) (notes : List Note) (bytes : List ℕ) (ssrc index : ℕ)
-    → srtcp_in.taken_index master notes bytes ssrc ≡ Ok index → 22 ≤ length bytes
-unfolding srtcp_in.taken_index
+    → srtcp_in.taken_rtcp_index master notes bytes ssrc ≡ Ok index → 22 ≤ length bytes
+unfolding srtcp_in.taken_rtcp_index
 long_control master notes bytes ssrc index q =
     ltb-false (length bytes) 22
     (long_case (nat_lt (length bytes) 22)
-    (cond (srtcp.is_authentic master bytes) (srtcp_in.index_by Rtcp ssrc notes (srtcp.carried_index bytes) (fresh (indices Rtcp ssrc notes) (srtcp.carried_index bytes))) (Err fault.NotAuthentic))
+    (cond (srtcp.is_rtcp_authentic master bytes) (srtcp_in.index_by Rtcp ssrc notes (srtcp.carried_index bytes) (fresh (indices Rtcp ssrc notes) (srtcp.carried_index bytes))) (Err fault.NotAuthentic))
     index q)
 
 at_control : (master : List ℕ) (notes : List Note) (bytes : List ℕ) (ssrc : ℕ) → rtcp_ssrc bytes ≡ Some ssrc
-    → (r : Result ℕ UnprotectFault) → srtcp_in.taken_index master notes bytes ssrc ≡ r → (w : srtcp_in.Opened)
-    → srtcp_in.opened_at master bytes ssrc r ≡ Ok w → rtcp_ssrc w.packet ≡ Some ssrc
+    → (r : Result ℕ UnprotectFault) → srtcp_in.taken_rtcp_index master notes bytes ssrc ≡ r → (w : srtcp_in.Opened)
+    → srtcp_in.rtcp_opened_at master bytes ssrc r ≡ Ok w → rtcp_ssrc w.packet ≡ Some ssrc
 at_control master notes bytes ssrc is (Err cause) e w q = absurd (let f = q in cc)
 at_control master notes bytes ssrc is (Ok index) e w q =
     let f = q in
-    let is_it : srtcp.opened master bytes ≡ w.packet = cc in
+    let is_it : srtcp.opened_srtcp master bytes ≡ w.packet = cc in
     subst (λ (l : List ℕ). rtcp_ssrc l ≡ Some ssrc) is_it (opened_control master bytes ssrc is (long_control master notes bytes ssrc index e))
 
 ssrc_case : (master : List ℕ) (notes : List Note) (bytes : List ℕ) (o : Option ℕ) → rtcp_ssrc bytes ≡ o → (w : srtcp_in.Opened)
-    → option_map_or (λ (ssrc : ℕ). srtcp_in.opened_at master bytes ssrc (srtcp_in.taken_index master notes bytes ssrc)) o (Err fault.Short) ≡ Ok w
+    → option_map_or (λ (ssrc : ℕ). srtcp_in.rtcp_opened_at master bytes ssrc (srtcp_in.taken_rtcp_index master notes bytes ssrc)) o (Err fault.Short) ≡ Ok w
     → rtcp_ssrc w.packet ≡ o
 ssrc_case master notes bytes None e w q = absurd (let f = q in cc)
-ssrc_case master notes bytes (Some ssrc) e w q = at_control master notes bytes ssrc e (srtcp_in.taken_index master notes bytes ssrc) refl w q
+ssrc_case master notes bytes (Some ssrc) e w q = at_control master notes bytes ssrc e (srtcp_in.taken_rtcp_index master notes bytes ssrc) refl w q
 
 pub rtcp_plain : (master : List ℕ) (notes : List Note) (bytes : List ℕ) (w : srtcp_in.Opened)
-    → srtcp_in.opening master notes bytes ≡ Ok w → rtcp_ssrc w.packet ≡ rtcp_ssrc bytes
-unfolding srtcp_in.opening
+    → srtcp_in.rtcp_opening master notes bytes ≡ Ok w → rtcp_ssrc w.packet ≡ rtcp_ssrc bytes
+unfolding srtcp_in.rtcp_opening
 rtcp_plain master notes bytes w q = ssrc_case master notes bytes (rtcp_ssrc bytes) refl w q
 
 -- either
@@ -193,7 +193,7 @@ unfolding opened_under
 under_case key notes Rtp bytes noted plain q =
     rtp_case (srtp_in.opening key.0 key.1 notes bytes) bytes (rtp_plain key.0 key.1 notes bytes) noted plain q
 under_case key notes Rtcp bytes noted plain q =
-    rtcp_case (srtcp_in.opening key.0 notes bytes) bytes (rtcp_plain key.0 notes bytes) noted plain q
+    rtcp_case (srtcp_in.rtcp_opening key.0 notes bytes) bytes (rtcp_plain key.0 notes bytes) noted plain q
 
 same_of_itself : (half : Half) (bytes : List ℕ) → HasHeadOf half bytes bytes
 same_of_itself Rtp bytes = refl

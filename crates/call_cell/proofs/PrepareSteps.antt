@@ -19,17 +19,17 @@ use Rattle.port_pool.specs.declared.signal.LegSignal.{LegSignal}
 use Rattle.port_pool.specs.Signals.{NewKey, same_leg, side_eq, suite_eq}
 use Rattle.call_cell.specs.Parts.{inbound_of, learner_of}
 use Rattle.call_cell.specs.declared.contexts.Outbound.{Outbound}
-use Rattle.call_cell.specs.declared.sending.Sending.{Sending}
+use Rattle.call_cell.specs.declared.sender.Sending.{Sending}
 use Rattle.call_cell.specs.declared.leg.Leg.{Leg}
 use Rattle.call_cell.specs.declared.prepare.PreparedKey.{PreparedKey}
 use Rattle.call_cell.specs.Cells.{CellEntry, key_numbered, keys_in}
-use Rattle.call_cell.specs.Keyed.{accepted, protected}
-use Rattle.call_cell.specs.Learning.{learned}
-use Rattle.call_cell.specs.LegKeys.{keys_for, keys_since, is_for, key_of, number_of, OnePerSuite}
+use Rattle.call_cell.specs.Protection.{accepted, protected}
+use Rattle.call_cell.specs.Lessons.{learned}
+use Rattle.call_cell.specs.LegKeys.{keys_for, keys_since, is_for_leg, key_number_for, key_number_of, OnePerSuite}
 use Rattle.call_cell.specs.Contexts.{OutboundFor}
-use Rattle.call_cell.specs.Parts.{InboundIn, OutboundIn, SendingFor, HasIt, boxed_in, contexts_of, has_number, is_numbered, number_in}
-use Rattle.call_cell.specs.Standing.{LegFor, outbound_of, port_by, with_sending}
-use Rattle.call_cell.specs.Preparing.{IsPrepared, IsFresh, IsOutboundAnew, prepare_entry, is_at, with_contexts, with_key, put_if, with_keys}
+use Rattle.call_cell.specs.Parts.{InboundIn, OutboundIn, SendingFor, HasIt, boxed_in, contexts_of, has_number, is_numbered, key_number_in}
+use Rattle.call_cell.specs.LegHistories.{LegStandsFor, outbound_of, port_by, with_sending}
+use Rattle.call_cell.specs.Preparations.{IsPrepared, IsFreshLeg, IsOutboundAnew, prepare_entry, is_key_at, with_contexts, with_key, put_if, with_keys}
 use Rattle.call_cell.proofs.Splits.{both_left, both_right}
 use Rattle.call_cell.proofs.Keys.{finds_key}
 use Rattle.call_cell.proofs.Placing.{true_or_not}
@@ -42,7 +42,7 @@ use Rattle.call_cell.proofs.Counting.{counted_stays, counted_begins}
 -- A leg with keys is the leg with another part for sending.
 
 one_put : {O : Type 0} (key : PreparedKey) (leg : Leg O) → put_if key leg ≡ with_sending leg (put_if key leg).sending
-one_put {O} key leg = of_case (is_at key leg)
+one_put {O} key leg = of_case (is_key_at key leg)
   where
     of_case : (b : Bool) → cond b (with_key key leg) leg ≡ with_sending leg (cond b (with_key key leg) leg).sending
     of_case true = refl
@@ -72,69 +72,69 @@ put_case s key leg false = refl
 
 -- the test is that of the key and the leg
 at_is : {O : Type 0} (prepared : PreparedKey) (key : NewKey) (leg : Leg O) (holder : Holder) → IsPrepared prepared key → leg.holder ≡ holder
-    → is_at prepared leg ≡ is_for holder key
+    → is_key_at prepared leg ≡ is_for_leg holder key
 at_is prepared key leg holder is same =
     ap (λ (x : Holder). (prepared.section == x.section) && side_eq prepared.side x.side) same
     ∙ ap (λ (n : ℕ). (n == holder.section) && side_eq prepared.side holder.side) is.section
     ∙ ap (λ (x : Side). (key.section == holder.section) && side_eq x holder.side) is.side
 
 pub put_contexts : {O : Type 0} (s : Suite) (prepared : PreparedKey) (key : NewKey) (leg : Leg O) (holder : Holder) → IsPrepared prepared key → leg.holder ≡ holder
-    → contexts_of s (put_if prepared leg).sending ≡ cond (is_for holder key && suite_eq key.suite s) prepared.contexts.value (contexts_of s leg.sending)
+    → contexts_of s (put_if prepared leg).sending ≡ cond (is_for_leg holder key && suite_eq key.suite s) prepared.contexts.value (contexts_of s leg.sending)
 put_contexts s prepared key leg holder is same =
-    put_case s prepared leg (is_at prepared leg)
+    put_case s prepared leg (is_key_at prepared leg)
     ∙ ap (λ (b : Bool). cond (b && suite_eq prepared.suite s) prepared.contexts.value (contexts_of s leg.sending)) (at_is prepared key leg holder is same)
-    ∙ ap (λ (x : Suite). cond (is_for holder key && suite_eq x s) prepared.contexts.value (contexts_of s leg.sending)) is.suite
+    ∙ ap (λ (x : Suite). cond (is_for_leg holder key && suite_eq x s) prepared.contexts.value (contexts_of s leg.sending)) is.suite
 
 -- The number of the key for a suite.
 
-anew_number : (key : NewKey) (o : Option Outbound) → IsOutboundAnew key o → number_in o ≡ Some key.number
+anew_number : (key : NewKey) (o : Option Outbound) → IsOutboundAnew key o → key_number_in o ≡ Some key.number
 anew_number key None is = absurd is
 anew_number key (Some x) is = ap Some is.number
 
 abbrev for_suite : Suite → NewKey → Bool
 for_suite suite key = suite_eq key.suite suite
 
-suite_case : (t : Bool) (o rest : Option Outbound) (key : NewKey) (keys : List NewKey) (old : Option ℕ) → number_in o ≡ Some key.number
-    → number_in rest ≡ or_else (number_of (first keys)) old → number_in (cond t o rest) ≡ or_else (number_of (first (cond t (key ∷ keys) keys))) old
+suite_case : (t : Bool) (o rest : Option Outbound) (key : NewKey) (keys : List NewKey) (old : Option ℕ) → key_number_in o ≡ Some key.number
+    → key_number_in rest ≡ or_else (key_number_of (first keys)) old → key_number_in (cond t o rest) ≡ or_else (key_number_of (first (cond t (key ∷ keys) keys))) old
 suite_case true o rest key keys old is more = is
 suite_case false o rest key keys old is more = more
 
-number_case : (b : Bool) (suite : Suite) (o rest : Option Outbound) (key : NewKey) (keys : List NewKey) (old : Option ℕ) → number_in o ≡ Some key.number
-    → number_in rest ≡ or_else (key_of suite keys) old
-    → number_in (cond (b && suite_eq key.suite suite) o rest) ≡ or_else (key_of suite (cond b (key ∷ keys) keys)) old
+number_case : (b : Bool) (suite : Suite) (o rest : Option Outbound) (key : NewKey) (keys : List NewKey) (old : Option ℕ) → key_number_in o ≡ Some key.number
+    → key_number_in rest ≡ or_else (key_number_for suite keys) old
+    → key_number_in (cond (b && suite_eq key.suite suite) o rest) ≡ or_else (key_number_for suite (cond b (key ∷ keys) keys)) old
 number_case true suite o rest key keys old is more = suite_case (suite_eq key.suite suite) o rest key (filter (for_suite suite) keys) old is more
 number_case false suite o rest key keys old is more = more
 
 pub number_so : {O : Type 0} (suite : Suite) (prepared : List PreparedKey) (keys : List NewKey) (leg : Leg O) → AllZip IsPrepared prepared keys
-    → number_in (contexts_of suite (with_keys prepared leg).sending)
-    ≡ or_else (key_of suite (filter (is_for leg.holder) keys)) (number_in (contexts_of suite leg.sending))
+    → key_number_in (contexts_of suite (with_keys prepared leg).sending)
+    ≡ or_else (key_number_for suite (filter (is_for_leg leg.holder) keys)) (key_number_in (contexts_of suite leg.sending))
 number_so suite [] [] leg zip = refl
 number_so suite [] (key ∷ keys) leg zip = absurd zip
 number_so suite (p ∷ prepared) [] leg zip = absurd zip
 number_so suite (p ∷ prepared) (key ∷ keys) leg zip =
     let x = with_keys prepared leg in
-    ap number_in (put_contexts suite p key x leg.holder zip.0 (same_holder prepared leg))
-    ∙ number_case (is_for leg.holder key) suite p.contexts.value (contexts_of suite x.sending) key (filter (is_for leg.holder) keys)
-    (number_in (contexts_of suite leg.sending)) (anew_number key p.contexts.value zip.0.contexts) (number_so suite prepared keys leg zip.1)
+    ap key_number_in (put_contexts suite p key x leg.holder zip.0 (same_holder prepared leg))
+    ∙ number_case (is_for_leg leg.holder key) suite p.contexts.value (contexts_of suite x.sending) key (filter (is_for_leg leg.holder) keys)
+    (key_number_in (contexts_of suite leg.sending)) (anew_number key p.contexts.value zip.0.contexts) (number_so suite prepared keys leg zip.1)
 
-first_append : (keys more : List NewKey) → number_of (first (keys ++ more)) ≡ or_else (number_of (first keys)) (number_of (first more))
+first_append : (keys more : List NewKey) → key_number_of (first (keys ++ more)) ≡ or_else (key_number_of (first keys)) (key_number_of (first more))
 first_append [] more = refl
 first_append (key ∷ keys) more = refl
 
-pub key_of_append : (suite : Suite) (keys more : List NewKey) → key_of suite (keys ++ more) ≡ or_else (key_of suite keys) (key_of suite more)
+pub key_of_append : (suite : Suite) (keys more : List NewKey) → key_number_for suite (keys ++ more) ≡ or_else (key_number_for suite keys) (key_number_for suite more)
 key_of_append suite keys more =
-    ap (λ (l : List NewKey). number_of (first l)) (filter-append (for_suite suite) keys more)
+    ap (λ (l : List NewKey). key_number_of (first l)) (filter-append (for_suite suite) keys more)
     ∙ first_append (filter (for_suite suite) keys) (filter (for_suite suite) more)
 
 -- The contexts stand for their keys.
 
-side_test : (leg : Holder) (key : NewKey) → is_for leg key ≡ true → (key.section ≡ leg.section) × (key.side ≡ leg.side)
+side_test : (leg : Holder) (key : NewKey) → is_for_leg leg key ≡ true → (key.section ≡ leg.section) × (key.side ≡ leg.side)
 side_test leg key q = (
   equal_if key.section leg.section (both_left (key.section == leg.section) (side_eq key.side leg.side) q),
   side_is key.side leg.side (both_right (key.section == leg.section) (side_eq key.side leg.side) q),
 )
 
-anew_kept : (leg : Holder) (suite : Suite) (keys : ℕ → Option NewKey) (notes : ℕ → List Note) (key : NewKey) (o : Option Outbound) → is_for leg key ≡ true
+anew_kept : (leg : Holder) (suite : Suite) (keys : ℕ → Option NewKey) (notes : ℕ → List Note) (key : NewKey) (o : Option Outbound) → is_for_leg leg key ≡ true
     → suite_eq key.suite suite ≡ true → keys key.number ≡ Some key → notes key.number ≡ [] → IsOutboundAnew key o → OutboundIn leg suite keys notes o
 anew_kept leg suite keys notes key None for right known none is = absurd is
 anew_kept leg suite keys notes key (Some x) for right known none is =
@@ -149,7 +149,7 @@ anew_kept leg suite keys notes key (Some x) for right known none is =
     }
 
 kept_case : (leg : Holder) (suite : Suite) (keys : ℕ → Option NewKey) (notes : ℕ → List Note) (key : NewKey) (o rest : Option Outbound) (b t : Bool)
-    → is_for leg key ≡ b → suite_eq key.suite suite ≡ t → keys key.number ≡ Some key → notes key.number ≡ [] → IsOutboundAnew key o
+    → is_for_leg leg key ≡ b → suite_eq key.suite suite ≡ t → keys key.number ≡ Some key → notes key.number ≡ [] → IsOutboundAnew key o
     → OutboundIn leg suite keys notes rest → OutboundIn leg suite keys notes (cond (b && t) o rest)
 kept_case leg suite keys notes key o rest true true for right known none is more = anew_kept leg suite keys notes key o for right known none is
 kept_case leg suite keys notes key o rest true false for right known none is more = more
@@ -165,7 +165,7 @@ kept_so suite keys notes (p ∷ prepared) [] leg zip known none old = absurd zip
 kept_so suite keys notes (p ∷ prepared) (key ∷ new) leg zip known none old =
     let x = with_keys prepared leg in
     subst (λ (o : Option Outbound). OutboundIn leg.holder suite keys notes o) (sym (put_contexts suite p key x leg.holder zip.0 (same_holder prepared leg)))
-    (kept_case leg.holder suite keys notes key p.contexts.value (contexts_of suite x.sending) (is_for leg.holder key) (suite_eq key.suite suite) refl refl
+    (kept_case leg.holder suite keys notes key p.contexts.value (contexts_of suite x.sending) (is_for_leg leg.holder key) (suite_eq key.suite suite) refl refl
     (known key (here refl)) (none key (here refl)) zip.0.contexts
     (kept_so suite keys notes prepared new leg zip.1 (λ k i. known k (there i)) (λ k i. none k (there i)) old))
 
@@ -249,18 +249,18 @@ any_true p x (y ∷ ys) (here e) q = ap (λ (b : Bool). b || list_any p ys) (sym
 any_true p x (y ∷ ys) (there i) q = ap (λ (b : Bool). p y || b) (any_true p x ys i q) ∙ or_true (p y)
 
 pub keys_stay : (m call : ℕ) (legs : List Holder) (keys : List NewKey) (dropped : List ℕ) (h : List CellEntry) (leg : Holder) → list_any (same_leg leg) legs ≡ false
-    → keys_for (prepare_entry m call legs keys dropped ∷ h) leg ≡ filter (is_for leg) keys ++ keys_for h leg
+    → keys_for (prepare_entry m call legs keys dropped ∷ h) leg ≡ filter (is_for_leg leg) keys ++ keys_for h leg
 keys_stay m call legs keys dropped h leg q =
-    ap (λ (b : Bool). filter (is_for leg) (keys ++ cond b [] (keys_since h leg))) q ∙ filter-append (is_for leg) keys (keys_since h leg)
+    ap (λ (b : Bool). filter (is_for_leg leg) (keys ++ cond b [] (keys_since h leg))) q ∙ filter-append (is_for_leg leg) keys (keys_since h leg)
 
 pub keys_new : (m call : ℕ) (legs : List Holder) (keys : List NewKey) (dropped : List ℕ) (h : List CellEntry) (leg : Holder) → list_any (same_leg leg) legs ≡ true
-    → keys_for (prepare_entry m call legs keys dropped ∷ h) leg ≡ filter (is_for leg) keys ++ []
+    → keys_for (prepare_entry m call legs keys dropped ∷ h) leg ≡ filter (is_for_leg leg) keys ++ []
 keys_new m call legs keys dropped h leg q =
-    ap (λ (b : Bool). filter (is_for leg) (keys ++ cond b [] (keys_since h leg))) q
-    ∙ ap (λ (l : List NewKey). filter (is_for leg) l) (append-nil keys) ∙ sym (append-nil (filter (is_for leg) keys))
+    ap (λ (b : Bool). filter (is_for_leg leg) (keys ++ cond b [] (keys_since h leg))) q
+    ∙ ap (λ (l : List NewKey). filter (is_for_leg leg) l) (append-nil keys) ∙ sym (append-nil (filter (is_for_leg leg) keys))
 
 -- a number that has its contexts is that of a key
-numbered_in : (o : Option Outbound) (n : ℕ) → is_numbered o n ≡ true → number_in o ≡ Some n
+numbered_in : (o : Option Outbound) (n : ℕ) → is_numbered o n ≡ true → key_number_in o ≡ Some n
 numbered_in None n q = absurd (let e = q in cc)
 numbered_in (Some x) n q = ap Some (equal_if x.number n q)
 
@@ -268,16 +268,16 @@ or_case : (a b : Bool) → (a || b) ≡ true → (a ≡ true) ⊎ (b ≡ true)
 or_case true b q = inl refl
 or_case false b q = inr q
 
-key_back : (n : ℕ) (keys all : List NewKey) → ((key : NewKey) → In key keys → In key all) → number_of (first keys) ≡ Some n
+key_back : (n : ℕ) (keys all : List NewKey) → ((key : NewKey) → In key keys → In key all) → key_number_of (first keys) ≡ Some n
     → (key : NewKey) × In key all × (key.number ≡ n)
 key_back n [] all sub q = absurd (let e = q in cc)
 key_back n (key ∷ keys) all sub q = (key, sub key (here refl), (let e = q in cc))
 
-key_in : (n : ℕ) (suite : Suite) (keys : List NewKey) → key_of suite keys ≡ Some n → (key : NewKey) × In key keys × (key.number ≡ n)
+key_in : (n : ℕ) (suite : Suite) (keys : List NewKey) → key_number_for suite keys ≡ Some n → (key : NewKey) × In key keys × (key.number ≡ n)
 key_in n suite keys q = key_back n (filter (for_suite suite) keys) keys (λ key i. (filtered (for_suite suite) keys i).0) q
 
 pub key_of_contexts : {O : Type 0} (keys : List NewKey) (sending : Sending O) (n : ℕ)
-    → ((suite : Suite) → number_in (contexts_of suite sending) ≡ key_of suite keys) → has_number sending n ≡ true
+    → ((suite : Suite) → key_number_in (contexts_of suite sending) ≡ key_number_for suite keys) → has_number sending n ≡ true
     → (key : NewKey) × In key keys × (key.number ≡ n)
 key_of_contexts keys sending n held q = elim (or_case (is_numbered (boxed_in sending.tag80) n) (is_numbered (boxed_in sending.tag32) n) q) [
   | inl one ↦ key_in n Tag80 keys (sym (held Tag80) ∙ numbered_in (boxed_in sending.tag80) n one)
@@ -295,13 +295,13 @@ pub record Came (config : Config) (m call : ℕ) (legs : List Holder) (prepared 
 
 held_so : {O : Type 0} (config : Config) (m call : ℕ) (legs : List Holder) (prepared : List PreparedKey) (keys : List NewKey) (dropped : List ℕ) (h : List CellEntry)
     → Came config m call legs prepared keys dropped h → (leg : Leg O) (base : List NewKey)
-    → keys_for (prepare_entry m call legs keys dropped ∷ h) leg.holder ≡ filter (is_for leg.holder) keys ++ base
-    → ((suite : Suite) → number_in (contexts_of suite leg.sending) ≡ key_of suite base) → (suite : Suite)
-    → number_in (contexts_of suite (with_keys prepared leg).sending) ≡ key_of suite (keys_for (prepare_entry m call legs keys dropped ∷ h) leg.holder)
+    → keys_for (prepare_entry m call legs keys dropped ∷ h) leg.holder ≡ filter (is_for_leg leg.holder) keys ++ base
+    → ((suite : Suite) → key_number_in (contexts_of suite leg.sending) ≡ key_number_for suite base) → (suite : Suite)
+    → key_number_in (contexts_of suite (with_keys prepared leg).sending) ≡ key_number_for suite (keys_for (prepare_entry m call legs keys dropped ∷ h) leg.holder)
 held_so config m call legs prepared keys dropped h came leg base are held suite =
     number_so suite prepared keys leg came.zip
-    ∙ ap (λ (o : Option ℕ). or_else (key_of suite (filter (is_for leg.holder) keys)) o) (held suite)
-    ∙ sym (key_of_append suite (filter (is_for leg.holder) keys) base) ∙ ap (λ (l : List NewKey). key_of suite l) (sym are)
+    ∙ ap (λ (o : Option ℕ). or_else (key_number_for suite (filter (is_for_leg leg.holder) keys)) o) (held suite)
+    ∙ sym (key_of_append suite (filter (is_for_leg leg.holder) keys) base) ∙ ap (λ (l : List NewKey). key_number_for suite l) (sym are)
 
 sending_so : {O : Type 0} (config : Config) (m call : ℕ) (legs : List Holder) (prepared : List PreparedKey) (keys : List NewKey) (dropped : List ℕ) (h : List CellEntry)
     → Came config m call legs prepared keys dropped h → (leg : Leg O)
@@ -324,7 +324,7 @@ of_suite leg keys notes sending for Tag80 = for.tag80
 of_suite leg keys notes sending for Tag32 = for.tag32
 
 named_over : {O : Type 0} (keys base more : List NewKey) (old new : Sending O) (o : Option ℕ) → keys ≡ more ++ base
-    → ((suite : Suite) → number_in (contexts_of suite old) ≡ key_of suite base) → ((suite : Suite) → number_in (contexts_of suite new) ≡ key_of suite keys)
+    → ((suite : Suite) → key_number_in (contexts_of suite old) ≡ key_number_for suite base) → ((suite : Suite) → key_number_in (contexts_of suite new) ≡ key_number_for suite keys)
     → OnePerSuite keys → HasIt o old → HasIt o new
 named_over keys base more old new None are held now one for = tt
 named_over keys base more old new (Some n) are held now one for =
@@ -333,12 +333,12 @@ named_over keys base more old new (Some n) are held now one for =
 
 pub leg_stays : {O : Type 0} (config : Config) (m call : ℕ) (legs : List Holder) (prepared : List PreparedKey) (keys : List NewKey) (dropped : List ℕ) (h : List CellEntry)
     → Came config m call legs prepared keys dropped h → (leg : Leg O) → list_any (same_leg leg.holder) legs ≡ false
-    → OnePerSuite (keys_for (prepare_entry m call legs keys dropped ∷ h) leg.holder) → LegFor config h leg
-    → LegFor config (prepare_entry m call legs keys dropped ∷ h) (with_keys prepared leg)
+    → OnePerSuite (keys_for (prepare_entry m call legs keys dropped ∷ h) leg.holder) → LegStandsFor config h leg
+    → LegStandsFor config (prepare_entry m call legs keys dropped ∷ h) (with_keys prepared leg)
 leg_stays {O} config m call legs prepared keys dropped h came leg stays one for =
     let are = keys_stay m call legs keys dropped h leg.holder stays in
     let held = held_so config m call legs prepared keys dropped h came leg (keys_for h leg.holder) are for.held in
-    subst (λ (l : Leg O). LegFor config (prepare_entry m call legs keys dropped ∷ h) l) (sym (sending_only prepared leg))
+    subst (λ (l : Leg O). LegStandsFor config (prepare_entry m call legs keys dropped ∷ h) l) (sym (sending_only prepared leg))
     (record {
       pair = for.pair;
       generation = for.generation;
@@ -350,7 +350,7 @@ leg_stays {O} config m call legs prepared keys dropped h came leg stays one for 
             (sym (prepare_accepted m call legs keys dropped h leg.holder stays)) for.receiving.inbound;
       };
       sending = sending_so config m call legs prepared keys dropped h came leg (of_suite leg.holder (key_numbered h) (protected h) leg.sending for.sending);
-      named = named_over (keys_for (prepare_entry m call legs keys dropped ∷ h) leg.holder) (keys_for h leg.holder) (filter (is_for leg.holder) keys)
+      named = named_over (keys_for (prepare_entry m call legs keys dropped ∷ h) leg.holder) (keys_for h leg.holder) (filter (is_for_leg leg.holder) keys)
           leg.sending (with_keys prepared leg).sending (outbound_of leg.signal) are for.held held one for.named;
       section = for.section;
       held = held;
@@ -361,12 +361,12 @@ leg_stays {O} config m call legs prepared keys dropped h came leg stays one for 
 pub leg_begins : {O : Type 0} (config : Config) (m call : ℕ) (legs : List Holder) (prepared : List PreparedKey) (keys : List NewKey) (dropped : List ℕ) (h : List CellEntry)
     → Came config m call legs prepared keys dropped h → (leg : Leg O) → list_any (same_leg leg.holder) legs ≡ true
     → OnePerSuite (keys_for (prepare_entry m call legs keys dropped ∷ h) leg.holder) → leg.holder.section < 8
-    → ((half : Half) → port_by half leg.lease.rtp_port ≡ half_port config leg.holder.pair half) → IsFresh leg
-    → LegFor config (prepare_entry m call legs keys dropped ∷ h) (with_keys prepared leg)
+    → ((half : Half) → port_by half leg.lease.rtp_port ≡ half_port config leg.holder.pair half) → IsFreshLeg leg
+    → LegStandsFor config (prepare_entry m call legs keys dropped ∷ h) (with_keys prepared leg)
 leg_begins {O} config m call legs prepared keys dropped h came leg new one small port fresh =
     let are = keys_new m call legs keys dropped h leg.holder new in
-    let held = held_so config m call legs prepared keys dropped h came leg [] are (λ suite. ap number_in (fresh.keyless suite)) in
-    subst (λ (l : Leg O). LegFor config (prepare_entry m call legs keys dropped ∷ h) l) (sym (sending_only prepared leg))
+    let held = held_so config m call legs prepared keys dropped h came leg [] are (λ suite. ap key_number_in (fresh.keyless suite)) in
+    subst (λ (l : Leg O). LegStandsFor config (prepare_entry m call legs keys dropped ∷ h) l) (sym (sending_only prepared leg))
     (record {
       pair = fresh.pair;
       generation = fresh.generation;

@@ -8,8 +8,8 @@ use Rattle.port_pool.specs.Signals.{NewKey}
 use Rattle.call_cell.specs.declared.leg.Leg.{Leg}
 use Rattle.call_cell.specs.declared.prepare.PreparedKey.{PreparedKey}
 use Rattle.call_cell.specs.declared.prepare.Prepare as prepared
-use Rattle.call_cell.specs.Parting.{FlagsAre}
-use Rattle.call_cell.specs.Preparing.{PrepareFor, IsPrepared, IsFresh, added, parts_added}
+use Rattle.call_cell.specs.DroppedLegs.{FlagsAre}
+use Rattle.call_cell.specs.Preparations.{PrepareFor, IsPrepared, IsFreshLeg, added, parts_added}
 
 pub no_flags : (section : ℕ) → section < 8
     → get_or (false ∷ false ∷ false ∷ false ∷ false ∷ false ∷ false ∷ false ∷ []) section false ≡ has [] section
@@ -38,11 +38,11 @@ nothing {O} signal keys legs drops = (
     parts_of_leg : Leg O → Lease × O × O
     parts_of_leg leg = (leg.lease, leg.sending.rtp, leg.sending.rtcp)
 
-fresh_more : {O : Type 0} (legs : List (Leg O)) (new : Leg O) → ((leg : Leg O) → In leg legs → IsFresh leg) → IsFresh new
-    → (leg : Leg O) → In leg (legs ++ new ∷ []) → IsFresh leg
+fresh_more : {O : Type 0} (legs : List (Leg O)) (new : Leg O) → ((leg : Leg O) → In leg legs → IsFreshLeg leg) → IsFreshLeg new
+    → (leg : Leg O) → In leg (legs ++ new ∷ []) → IsFreshLeg leg
 fresh_more {O} legs new all is leg i = elim (in_append legs (new ∷ []) i) [
   | inl old ↦ all leg old
-  | inr one ↦ subst (λ (l : Leg O). IsFresh l) (sym (is_one one)) is
+  | inr one ↦ subst (λ (l : Leg O). IsFreshLeg l) (sym (is_one one)) is
 ]
   where
     is_one : In leg (new ∷ []) → leg ≡ new
@@ -50,7 +50,7 @@ fresh_more {O} legs new all is leg i = elim (in_append legs (new ∷ []) i) [
     is_one (there j) = elim j [ ]
 
 pub one_more_leg : {O : Type 0} (old new : prepared.Prepare O) (leg : Leg O) (keys : List NewKey) (dropped : List ℕ) → new.keys.items ≡ old.keys.items
-    → new.dropped ≡ old.dropped → new.legs.items ≡ old.legs.items ++ leg ∷ [] → IsFresh leg → PrepareFor old keys dropped → PrepareFor new keys dropped
+    → new.dropped ≡ old.dropped → new.legs.items ≡ old.legs.items ++ leg ∷ [] → IsFreshLeg leg → PrepareFor old keys dropped → PrepareFor new keys dropped
 one_more_leg {O} old new leg keys dropped same_keys same_dropped legs is for =
     record {
       keys_are = subst (λ (l : List PreparedKey). AllZip IsPrepared l keys) (sym same_keys) for.keys_are;

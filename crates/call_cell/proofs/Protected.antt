@@ -8,7 +8,7 @@ use Rattle.srtp_sources.specs.Notes.{Note, indices, index_under, is_half}
 use Rattle.histories.specs.Words.{In, here, there}
 use Rattle.histories.proofs.Lists.{picks, maps, keeps, equal, equal_if}
 use Rattle.call_cell.specs.Cells.{CellEntry, Shield}
-use Rattle.call_cell.specs.Keyed.{shield_of, protected}
+use Rattle.call_cell.specs.Protection.{shield_of, protected}
 use Rattle.call_cell.proofs.Splits.{both, both_left, both_right}
 
 -- what an entry protected is among the notes of its key

@@ -13,10 +13,10 @@ use Rattle.port_pool.specs.declared.holder.Holder.{Holder}
 use Rattle.port_pool.specs.Signals.{NewKey}
 use Rattle.call_cell.specs.declared.outcome.Lost.{Lost}
 use Rattle.call_cell.specs.declared.contexts.Outbound.{Outbound}
-use Rattle.call_cell.specs.declared.sending.Sending.{Sending}
+use Rattle.call_cell.specs.declared.sender.Sending.{Sending}
 use Rattle.call_cell.specs.Cells.{Shield}
-use Rattle.call_cell.specs.Keyed.{Wrapped, Held, Leaves, wrapped_under, wrapped_with}
-use Rattle.call_cell.specs.Contexts.{OutboundFor, WrapsTo, IsUnder, note_of}
+use Rattle.call_cell.specs.Protection.{Departure, Held, Leaves, wrapped_under, wrapped_with}
+use Rattle.call_cell.specs.Contexts.{OutboundFor, OutboundWrapsTo, IsUnder, note_of}
 use Rattle.call_cell.specs.Parts.{boxed_in, WrapsInTo, IsKept, IsOf, OutboundIn, is_numbered, note_under, noted_under, SendingFor, ProtectsTo}
 use Rattle.call_cell.proofs.Boxed.{same_place}
 
@@ -51,7 +51,7 @@ shield_of_key leg suite keys notes old k (Some t) under s q =
 
 wraps_case : (leg : Holder) (suite : Suite) (keys : ℕ → Option NewKey) (notes : ℕ → List Note) (place : Box (Option Outbound) Global) (old new : Outbound)
     (buf : List ℕ) (result : Result ℕ Lost) (o : Option (Box (Option Outbound) Global)) → Some (with_value place (Some old)) ≡ o
-    → (k : IsKept leg suite keys notes old) → (w : Wrapped) → WrapsTo w k.key (notes old.number) old new buf result
+    → (k : IsKept leg suite keys notes old) → (w : Departure) → OutboundWrapsTo w k.key (notes old.number) old new buf result
     → WrapsInTo w leg suite keys notes o (Some (with_value place (Some new))) buf result
 wraps_case leg suite keys notes place old new buf result o same k (Held cause) does =
     record { answer = does.answer; contexts = ap (λ (x : Outbound). Some (with_value place (Some x))) does.contexts ∙ same }
@@ -79,7 +79,7 @@ wraps_case leg suite keys notes place old new buf result o same k (Leaves shield
 pub wraps_in : (leg : Holder) (suite : Suite) (keys : ℕ → Option NewKey) (notes : ℕ → List Note) (number : ℕ) (half : Half) (bytes : List ℕ)
     (place : Box (Option Outbound) Global) (old new : Outbound) (buf : List ℕ) (result : Result ℕ Lost) (o : Option (Box (Option Outbound) Global)) → o ≡ Some place
     → place.value ≡ Some old
-    → ((key : NewKey) (l : List Note) → OutboundFor key old l → WrapsTo (wrapped_under key l half bytes) key l old new buf result)
+    → ((key : NewKey) (l : List Note) → OutboundFor key old l → OutboundWrapsTo (wrapped_under key l half bytes) key l old new buf result)
     → OutboundIn leg suite keys notes (boxed_in o) → is_numbered (boxed_in o) number ≡ true
     → WrapsInTo (wrapped_with (keys number) (notes number) half bytes) leg suite keys notes o (Some (with_value place (Some new))) buf result
 wraps_in leg suite keys notes number half bytes place old new buf result o is there does for numbered =
@@ -136,7 +136,7 @@ tags_differ : ◌≡◌ {A = Suite} Tag80 Tag32 → ⊥
 tags_differ q = let f = q in cc
 
 pub protects_80 : {O : Type 0} (leg : Holder) (keys : ℕ → Option NewKey) (notes : ℕ → List Note) (old : Sending O) (new : Option (Box (Option Outbound) Global)) (buf : List ℕ)
-    (result : Result ℕ Lost) → SendingFor leg keys notes old → (w : Wrapped) → WrapsInTo w leg Tag80 keys notes old.tag80 new buf result
+    (result : Result ℕ Lost) → SendingFor leg keys notes old → (w : Departure) → WrapsInTo w leg Tag80 keys notes old.tag80 new buf result
     → ProtectsTo w leg keys notes old (record { rtp = old.rtp; rtcp = old.rtcp; tag80 = new; tag32 = old.tag32 }) buf result
 protects_80 {O} leg keys notes old new buf result for (Held cause) does =
     record {
@@ -158,7 +158,7 @@ protects_80 leg keys notes old new buf result for (Leaves shield bytes) does =
     }
 
 pub protects_32 : {O : Type 0} (leg : Holder) (keys : ℕ → Option NewKey) (notes : ℕ → List Note) (old : Sending O) (new : Option (Box (Option Outbound) Global)) (buf : List ℕ)
-    (result : Result ℕ Lost) → SendingFor leg keys notes old → (w : Wrapped) → WrapsInTo w leg Tag32 keys notes old.tag32 new buf result
+    (result : Result ℕ Lost) → SendingFor leg keys notes old → (w : Departure) → WrapsInTo w leg Tag32 keys notes old.tag32 new buf result
     → ProtectsTo w leg keys notes old (record { rtp = old.rtp; rtcp = old.rtcp; tag80 = old.tag80; tag32 = new }) buf result
 protects_32 {O} leg keys notes old new buf result for (Held cause) does =
     record {

@@ -4,7 +4,7 @@ use Rattle.std.specs.Prelude.{◌&&◌}
 use Rattle.std.proofs.lemmas.List.{set-get_or}
 use Rattle.relay_outside.specs.declared.settings.Config.{Config}
 use Rattle.relay_outside.specs.declared.ports.OutCall.{OutCall}
-use Rattle.relay_outside.specs.Told.{EndTold}
+use Rattle.relay_outside.specs.DeviceLogs.{EndLog}
 use Rattle.srtp_sources.specs.Notes.{Note}
 use Rattle.histories.specs.Words.{first}
 use Rattle.port_pool.specs.declared.holder.Holder.{Holder}
@@ -14,13 +14,13 @@ use Rattle.call_cell.specs.declared.outcome.Refused.{Refused}
 use Rattle.call_cell.specs.declared.outcome.Refused.TheVariants as refused
 use Rattle.call_cell.specs.declared.outcome.Lost.TheVariants as lost
 use Rattle.call_cell.specs.declared.outcome.Outcome.TheVariants as outcomes
-use Rattle.call_cell.specs.declared.sending.Sending as parts
+use Rattle.call_cell.specs.declared.sender.Sending as parts
 use Rattle.call_cell.specs.declared.leg.Leg.{Leg}
 use Rattle.call_cell.specs.Cells.{CellEntry, Receipt, Deed, legs, in_force, opposite, key_numbered}
-use Rattle.call_cell.specs.Keyed.{accepted, Judged, Stopped, Passed}
-use Rattle.call_cell.specs.Learning.{learned}
+use Rattle.call_cell.specs.Protection.{accepted, Judged, Stopped, Passed}
+use Rattle.call_cell.specs.Lessons.{learned}
 use Rattle.call_cell.specs.Deeds.{deed, deed_found, deed_judged, deed_opposite, deed_towards, found, opposite_of, is_leaving, judged, judged_leg, refused_deed, lost_deed}
-use Rattle.call_cell.specs.Standing.{LegFor, LegsFor, LegsDo, LegsRelay, LegAccepts, EndsFor, relay_entry}
+use Rattle.call_cell.specs.LegHistories.{LegStandsFor, LegsStandFor, LegsDo, LegsRelay, LegAccepts, EndsFor, relay_entry}
 use Rattle.call_cell.proofs.Steps.{relay_legs}
 use Rattle.call_cell.proofs.LegSteps.{IsElsewhere, leg_keeps}
 use Rattle.call_cell.proofs.Placing.{holders_of, IsPlace}
@@ -58,10 +58,10 @@ and_false false = refl
 pub none_elsewhere : (leg : Holder) (keys : ℕ → Option NewKey) → IsElsewhere leg keys None
 none_elsewhere leg keys s q = absurd (let f = q in cc)
 
-pub ends_none : {O : Type 0} (told : O → EndTold OutCall) (faults : O → ℕ) (leaves ok : Bool) (old new : parts.Sending O) → new ≡ old
-    → EndsFor told faults leaves None ok old new
-ends_none {O} told faults true ok old new q = (ap (λ (x : parts.Sending O). x.rtp) q, ap (λ (x : parts.Sending O). x.rtcp) q)
-ends_none {O} told faults false ok old new q = (ap (λ (x : parts.Sending O). x.rtp) q, ap (λ (x : parts.Sending O). x.rtcp) q)
+pub ends_none : {O : Type 0} (log : O → EndLog OutCall) (faults : O → ℕ) (leaves ok : Bool) (old new : parts.Sending O) → new ≡ old
+    → EndsFor log faults leaves None ok old new
+ends_none {O} log faults true ok old new q = (ap (λ (x : parts.Sending O). x.rtp) q, ap (λ (x : parts.Sending O). x.rtcp) q)
+ends_none {O} log faults false ok old new q = (ap (λ (x : parts.Sending O). x.rtp) q, ap (λ (x : parts.Sending O). x.rtcp) q)
 
 pub holders_over : {O : Type 0} (m : ℕ) (p : Receipt) (ok : Bool) (d : Deed) (h : List CellEntry) (those : List (Leg O)) → holders_of those ≡ legs h
     → holders_of those ≡ legs (relay_entry m p ok d ∷ h)
@@ -69,7 +69,7 @@ holders_over m p ok d h those q = q ∙ sym (relay_legs m (record { packet = p; 
 
 -- a refused packet
 legs_keep : {O : Type 0} (config : Config) (m : ℕ) (p : Receipt) (ok : Bool) (cause : Refused) (h : List CellEntry) (those : List (Leg O))
-    → LegsFor config h those → LegsFor config (relay_entry m p ok (refused_deed p.half cause) ∷ h) those
+    → LegsStandFor config h those → LegsStandFor config (relay_entry m p ok (refused_deed p.half cause) ∷ h) those
 legs_keep config m p ok cause h those for =
     record {
       holders = holders_over m p ok (refused_deed p.half cause) h those for.holders;
@@ -78,28 +78,28 @@ legs_keep config m p ok cause h those for =
           (and_false (same_leg (get_or those i x).holder p.holder)) (λ half. refl) (none_elsewhere (get_or those i x).holder (key_numbered h)) (for.each i x below);
     }
 
-legs_refuse : {O : Type 0} (told : O → EndTold OutCall) (faults : O → ℕ) (config : Config) (h : List CellEntry) (p : Receipt) (those : List (Leg O))
-    (buf : List ℕ) (cause : Refused) → LegsFor config h those
-    → LegsDo told faults config h p those those buf (outcomes.Refused cause) (refused_deed p.half cause)
-legs_refuse told faults config h p those buf cause for =
+legs_refuse : {O : Type 0} (log : O → EndLog OutCall) (faults : O → ℕ) (config : Config) (h : List CellEntry) (p : Receipt) (those : List (Leg O))
+    (buf : List ℕ) (cause : Refused) → LegsStandFor config h those
+    → LegsDo log faults config h p those those buf (outcomes.Refused cause) (refused_deed p.half cause)
+legs_refuse log faults config h p those buf cause for =
     record {
       outcome = refl;
       front = tt;
       legs_for = λ m. legs_keep config m p true cause h those for;
-      ends = λ i x below. ends_none told faults (is_leaving (opposite_of h (found h p)) (get_or those i x).holder) true (get_or those i x).sending (get_or those i x).sending refl;
+      ends = λ i x below. ends_none log faults (is_leaving (opposite_of h (found h p)) (get_or those i x).holder) true (get_or those i x).sending (get_or those i x).sending refl;
     }
 
-pub relays_stale : {O : Type 0} (told : O → EndTold OutCall) (faults : O → ℕ) (config : Config) (h : List CellEntry) (p : Receipt) (those : List (Leg O))
-    (buf : List ℕ) → LegsFor config h those → first (filter (same_leg p.holder) (holders_of those)) ≡ None
-    → LegsRelay told faults config h p those those buf (outcomes.Refused refused.Stale)
-relays_stale {O} told faults config h p those buf for none =
+pub relays_stale : {O : Type 0} (log : O → EndLog OutCall) (faults : O → ℕ) (config : Config) (h : List CellEntry) (p : Receipt) (those : List (Leg O))
+    (buf : List ℕ) → LegsStandFor config h those → first (filter (same_leg p.holder) (holders_of those)) ≡ None
+    → LegsRelay log faults config h p those those buf (outcomes.Refused refused.Stale)
+relays_stale {O} log faults config h p those buf for none =
     let gone : found h p ≡ None = ap (λ (l : List Holder). first (filter (same_leg p.holder) l)) (sym for.holders) ∙ none in
-    let P : Deed → Type 0 = λ (d : Deed). LegsDo told faults config h p those those buf (outcomes.Refused refused.Stale) d in
-    subst P (sym (deed_stale config h p true gone)) (legs_refuse told faults config h p those buf refused.Stale for)
+    let P : Deed → Type 0 = λ (d : Deed). LegsDo log faults config h p those those buf (outcomes.Refused refused.Stale) d in
+    subst P (sym (deed_stale config h p true gone)) (legs_refuse log faults config h p those buf refused.Stale for)
 
 -- The leg that a packet was taken for.
 
-pub found_at : {O : Type 0} (config : Config) (h : List CellEntry) (p : Receipt) (those : List (Leg O)) (i : ℕ) (x : Leg O) → LegsFor config h those
+pub found_at : {O : Type 0} (config : Config) (h : List CellEntry) (p : Receipt) (those : List (Leg O)) (i : ℕ) (x : Leg O) → LegsStandFor config h those
     → IsPlace (same_leg p.holder) those i x → found h p ≡ Some (get_or those i x).holder
 found_at config h p those i x for place =
     ap (λ (l : List Holder). first (filter (same_leg p.holder) l)) (sym for.holders) ∙ place.is_first
@@ -108,30 +108,30 @@ found_at config h p those i x for place =
 abbrev pub judges : {O : Type 0} → List CellEntry → Receipt → Leg O → Judged
 judges h p leg = judged_leg leg.signal (learned h leg.holder p.half) (accepted h leg.holder) p.half p.source p.bytes
 
-pub judges_so : {O : Type 0} (config : Config) (h : List CellEntry) (p : Receipt) (leg : Leg O) → LegFor config h leg → judged h p leg.holder ≡ judges h p leg
+pub judges_so : {O : Type 0} (config : Config) (h : List CellEntry) (p : Receipt) (leg : Leg O) → LegStandsFor config h leg → judged h p leg.holder ≡ judges h p leg
 judges_so config h p leg for =
     ap (λ (o : Option LegSignal). judged_leg o (learned h leg.holder p.half) (accepted h leg.holder) p.half p.source p.bytes) (sym for.signal)
 
-refuse_case : {O : Type 0} (told : O → EndTold OutCall) (faults : O → ℕ) (config : Config) (h : List CellEntry) (p : Receipt) (those : List (Leg O)) (i : ℕ)
-    (x new : Leg O) (buf other : List ℕ) (cause : Refused) → LegsFor config h those → IsPlace (same_leg p.holder) those i x → (j : Judged)
+refuse_case : {O : Type 0} (log : O → EndLog OutCall) (faults : O → ℕ) (config : Config) (h : List CellEntry) (p : Receipt) (those : List (Leg O)) (i : ℕ)
+    (x new : Leg O) (buf other : List ℕ) (cause : Refused) → LegsStandFor config h those → IsPlace (same_leg p.holder) those i x → (j : Judged)
     → judged h p (get_or those i x).holder ≡ j
     → LegAccepts j p.half p.source (learned h (get_or those i x).holder) (accepted h (get_or those i x).holder) (get_or those i x) new other (Err cause)
-    → LegsRelay told faults config h p those (set those i new) buf (outcomes.Refused cause)
-refuse_case {O} told faults config h p those i x new buf other cause for place (Passed noted plain) is does = absurd (let f = does.answer in cc)
-refuse_case {O} told faults config h p those i x new buf other cause for place (Stopped why) is does =
+    → LegsRelay log faults config h p those (set those i new) buf (outcomes.Refused cause)
+refuse_case {O} log faults config h p those i x new buf other cause for place (Passed noted plain) is does = absurd (let f = does.answer in cc)
+refuse_case {O} log faults config h p those i x new buf other cause for place (Stopped why) is does =
     let same : cause ≡ why = (let f = does.answer in cc) in
-    let P : Deed → Type 0 = λ (d : Deed). LegsDo told faults config h p those (set those i new) buf (outcomes.Refused cause) d in
-    let Q : List (Leg O) → Type 0 = λ (l : List (Leg O)). LegsDo told faults config h p those l buf (outcomes.Refused cause) (refused_deed p.half cause) in
+    let P : Deed → Type 0 = λ (d : Deed). LegsDo log faults config h p those (set those i new) buf (outcomes.Refused cause) d in
+    let Q : List (Leg O) → Type 0 = λ (l : List (Leg O)). LegsDo log faults config h p those l buf (outcomes.Refused cause) (refused_deed p.half cause) in
     let kept : those ≡ set those i new = sym (ap (λ (y : Leg O). set those i y) does.contexts ∙ set-get_or those i x) in
     let it : deed config h p true ≡ refused_deed p.half cause
     = deed_of config h p true (get_or those i x).holder (Stopped why) (found_at config h p those i x for place) is
     ∙ ap (λ (c : Refused). refused_deed p.half c) (sym same) in
-    subst P (sym it) (subst Q kept (legs_refuse told faults config h p those buf cause for))
+    subst P (sym it) (subst Q kept (legs_refuse log faults config h p those buf cause for))
 
-pub relays_refused : {O : Type 0} (told : O → EndTold OutCall) (faults : O → ℕ) (config : Config) (h : List CellEntry) (p : Receipt) (those : List (Leg O)) (i : ℕ)
-    (x new : Leg O) (buf other : List ℕ) (cause : Refused) → LegsFor config h those → IsPlace (same_leg p.holder) those i x
+pub relays_refused : {O : Type 0} (log : O → EndLog OutCall) (faults : O → ℕ) (config : Config) (h : List CellEntry) (p : Receipt) (those : List (Leg O)) (i : ℕ)
+    (x new : Leg O) (buf other : List ℕ) (cause : Refused) → LegsStandFor config h those → IsPlace (same_leg p.holder) those i x
     → LegAccepts (judges h p (get_or those i x)) p.half p.source (learned h (get_or those i x).holder) (accepted h (get_or those i x).holder) (get_or those i x) new other (Err cause)
-    → LegsRelay told faults config h p those (set those i new) buf (outcomes.Refused cause)
-relays_refused told faults config h p those i x new buf other cause for place does =
-    refuse_case told faults config h p those i x new buf other cause for place (judges h p (get_or those i x))
+    → LegsRelay log faults config h p those (set those i new) buf (outcomes.Refused cause)
+relays_refused log faults config h p those i x new buf other cause for place does =
+    refuse_case log faults config h p those i x new buf other cause for place (judges h p (get_or those i x))
     (judges_so config h p (get_or those i x) (for.each i x place.below)) does

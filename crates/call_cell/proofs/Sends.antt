@@ -12,9 +12,9 @@ use Rattle.call_cell.specs.declared.outcome.Lost.{Lost}
 use Rattle.call_cell.specs.declared.outcome.Lost.TheVariants as lost
 use Rattle.call_cell.specs.declared.outcome.Outcome.TheVariants as outcomes
 use Rattle.call_cell.specs.Cells.{CellEntry, Receipt, Sending, Deed, legs, opposite, in_force}
-use Rattle.call_cell.specs.Keyed.{Judged, Wrapped}
-use Rattle.endpoint_learn.specs.Learning.{Signalling, endpoint_under}
-use Rattle.call_cell.specs.Learning.{learned, endpoint}
+use Rattle.call_cell.specs.Protection.{Judged, Departure}
+use Rattle.endpoint_learn.specs.Lessons.{Signalling, endpoint_under}
+use Rattle.call_cell.specs.Lessons.{learned, endpoint}
 use Rattle.call_cell.specs.Deeds.{deed, found, way, bytes_of, transform, transformed, plain_of, sent_outcome}
 use Rattle.call_cell.proofs.Legs.{found_is}
 use Rattle.call_cell.proofs.Steps.{signal_is}
@@ -42,7 +42,7 @@ pub record Sends (h : List CellEntry) (p : Receipt) (w : Sending) : Type 0 where
 transform_is : (h : List CellEntry) (p : Receipt) (t : Taken h p) (l : Leaving h p t) → transform h p t.leg l.signal ≡ Some l.bytes
 unfolding transform
 transform_is h p t l =
-    ap (λ (j : Judged). transformed h p l.signal (plain_of j)) t.is_judged ∙ ap (λ (w : Wrapped). bytes_of w) l.is_wrapped
+    ap (λ (j : Judged). transformed h p l.signal (plain_of j)) t.is_judged ∙ ap (λ (w : Departure). bytes_of w) l.is_wrapped
 
 sends_case : (config : Config) (h : List CellEntry) (p : Receipt) (ok : Bool) (w : Sending) (d : Deed) → Does config h p ok d
     → d.sending ≡ Some w → Sends h p w

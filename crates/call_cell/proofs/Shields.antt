@@ -10,7 +10,7 @@ use Rattle.port_pool.specs.declared.signal.LegSignal.{LegSignal}
 use Rattle.port_pool.specs.Signals.{same_leg, NewKey}
 use Rattle.call_cell.specs.declared.outcome.Lost.TheVariants as lost
 use Rattle.call_cell.specs.Cells.{CellEvent, CellEntry, Prepare, Commit, Relay, Expire, Read, End, Relayed, Receipt, Shield, Sending, Deed, legs, opposite, in_force, key_numbered}
-use Rattle.call_cell.specs.Keyed.{Judged, shield_of, protected, Held, Leaves, wrapped_under, wrapped_with}
+use Rattle.call_cell.specs.Protection.{Judged, shield_of, protected, Held, Leaves, wrapped_under, wrapped_with}
 use Rattle.call_cell.specs.Deeds.{deed, found, kind, judged, plain_of, wrapped_numbered}
 use Rattle.call_cell.specs.Good.{IsGood, GoodCell, begins, goes_on}
 use Rattle.call_cell.proofs.Legs.{found_is}
@@ -164,7 +164,7 @@ next_in config h moment (Relay r) good s q = next_by config h r s good q
 next_in config h moment (Prepare call legs keys dropped) good s q = absurd (let f = q in cc)
 next_in config h moment (Commit signal) good s q = absurd (let f = q in cc)
 next_in config h moment (Expire due) good s q = absurd (let f = q in cc)
-next_in config h moment (Read told) good s q = absurd (let f = q in cc)
+next_in config h moment (Read log) good s q = absurd (let f = q in cc)
 next_in config h moment End good s q = absurd (let f = q in cc)
 
 nothing_counted : (key ssrc index : ℕ) → In index (indices Rtcp ssrc (protected [] key)) → index < length (indices Rtcp ssrc (protected [] key))

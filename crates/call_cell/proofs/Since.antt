@@ -6,7 +6,7 @@ use Rattle.histories.specs.Words.{In, here, there, final}
 use Rattle.histories.proofs.Lists.{picks, picked}
 use Rattle.call_cell.specs.Cells.{CellEvent, CellEntry, Prepare, Commit, Relay, Expire, Read, End, Relayed, is_end, since_end, prepared_call, call}
 use Rattle.call_cell.specs.Deeds.{deed}
-use Rattle.call_cell.specs.Asked.{FitsAt}
+use Rattle.call_cell.specs.Demands.{CellFitsAt}
 use Rattle.call_cell.specs.Good.{FittingCell, empty, longer, GoodCell, begins, goes_on}
 use Rattle.call_cell.proofs.Splits.{none_in, or_first}
 
@@ -165,13 +165,13 @@ call_is h c e i q all =
 
 -- histories whose every entry fits
 
-good_event : {config : Config} (h : List CellEntry) (moment : ℕ) (event : CellEvent) → FitsAt config h moment event
+good_event : {config : Config} (h : List CellEntry) (moment : ℕ) (event : CellEvent) → CellFitsAt config h moment event
     → GoodCell config (since_end h) → GoodCell config (since_end (record { moment = moment; event = event } ∷ h))
 good_event h moment (Relay r) f g = goes_on f.does g
 good_event h moment (Prepare call legs keys dropped) f g = goes_on tt g
 good_event h moment (Commit signal) f g = goes_on tt g
 good_event h moment (Expire due) f g = goes_on tt g
-good_event h moment (Read told) f g = goes_on tt g
+good_event h moment (Read log) f g = goes_on tt g
 good_event h moment End f g = begins
 
 pub good_since : {config : Config} (h : List CellEntry) → FittingCell config h → GoodCell config (since_end h)

@@ -11,10 +11,10 @@ use Rattle.port_pool.specs.declared.signal.LegSignal.{LegSignal}
 use Rattle.port_pool.specs.declared.signal.SectionSignal.{SectionSignal}
 use Rattle.port_pool.specs.Signals.{NewKey, same_leg, signal_at, is_rejected}
 use Rattle.call_cell.specs.Cells.{CellEvent, CellEntry, Prepare, Commit, Relay, Relayed, Shield, call, legs, life, committed, in_force, differs, is_accepted, accepted_of, relayed, since_change}
-use Rattle.call_cell.specs.Keyed.{same_inbound, span, accepted, shield_of, protected}
-use Rattle.endpoint_learn.specs.Learning as learner
-use Rattle.endpoint_learn.specs.Learning.{Step, Heard, last_signal}
-use Rattle.call_cell.specs.Learning.{signalling, hears, step_by, steps_of, learned}
+use Rattle.call_cell.specs.Protection.{same_inbound, span, accepted, shield_of, protected}
+use Rattle.endpoint_learn.specs.Lessons as learner
+use Rattle.endpoint_learn.specs.Lessons.{LearnStep, Heard, last_signal}
+use Rattle.call_cell.specs.Lessons.{signalling, hears, step_by, steps_of, learned}
 use Rattle.call_cell.specs.Parts.{note_under}
 use Rattle.call_cell.proofs.Legs.{legs_stay}
 
@@ -115,7 +115,7 @@ prepare_accepted moment call new keys dropped h leg q =
 pub prepare_learned : (moment call : ℕ) (new : List Holder) (keys : List NewKey) (dropped : List ℕ) (h : List CellEntry) (leg : Holder) (half : Half)
     → adds leg new ≡ false → learned (entry moment (Prepare call new keys dropped) ∷ h) leg half ≡ learned h leg half
 prepare_learned moment call new keys dropped h leg half q =
-    ap (λ (k : List CellEntry). learner.learned (filter_map (λ (e : CellEntry). step_by leg half (committed leg e) (relayed e)) k))
+    ap (λ (k : List CellEntry). learner.learned_after (filter_map (λ (e : CellEntry). step_by leg half (committed leg e) (relayed e)) k))
     (prepare_goes_on moment call new keys dropped h leg q)
 
 pub new_leg_unanswered : (moment call : ℕ) (new : List Holder) (keys : List NewKey) (dropped : List ℕ) (h : List CellEntry) (leg : Holder)
@@ -131,11 +131,11 @@ new_leg_notes_nothing moment call new keys dropped h leg q =
 
 -- What the learner of a half was signalled last is in force.
 
-heard_last : (source : Addr) (steps : List Step) (b : Bool) → last_signal (cons_option (cond b (Some (Heard source)) None) steps) ≡ last_signal steps
+heard_last : (source : Addr) (steps : List LearnStep) (b : Bool) → last_signal (cons_option (cond b (Some (Heard source)) None) steps) ≡ last_signal steps
 heard_last source steps true = refl
 heard_last source steps false = refl
 
-last_case : (leg : Holder) (half : Half) (o : Option LegSignal) (r : Option Relayed) (steps : List Step) (before : List LegSignal)
+last_case : (leg : Holder) (half : Half) (o : Option LegSignal) (r : Option Relayed) (steps : List LearnStep) (before : List LegSignal)
     → last_signal steps ≡ option_map (signalling half) (first before)
     → last_signal (cons_option (step_by leg half o r) steps) ≡ option_map (signalling half) (first (cons_option o before))
 last_case leg half (Some s) r steps before q = refl

@@ -4,7 +4,7 @@ use Rattle.std.specs.Prelude.{◌&&◌, if◌then◌else◌}
 use Rattle.std.proofs.lemmas.List.{length-set, set-get_or}
 use Rattle.relay_outside.specs.declared.settings.Config.{Config}
 use Rattle.relay_outside.specs.declared.ports.OutCall.{OutCall}
-use Rattle.relay_outside.specs.Told.{EndTold}
+use Rattle.relay_outside.specs.DeviceLogs.{EndLog}
 use Rattle.rtp_packet.specs.declared.head.Half.{Half}
 use Rattle.sdes_lines.specs.declared.crypto_line.Suite.{Suite}
 use Rattle.srtp_sources.specs.Notes.{Note, is_half}
@@ -13,20 +13,20 @@ use Rattle.port_pool.specs.declared.holder.Holder.{Holder}
 use Rattle.port_pool.specs.declared.signal.LegSignal.{LegSignal}
 use Rattle.port_pool.specs.Signals.{NewKey, same_leg}
 use Rattle.endpoint_learn.specs.declared.learner.Learner.{Learner}
-use Rattle.call_cell.specs.Standing.{in_force_with}
+use Rattle.call_cell.specs.LegHistories.{in_force_with}
 use Rattle.call_cell.specs.declared.outcome.Lost.{Lost}
 use Rattle.call_cell.specs.declared.outcome.Lost.TheVariants as lost
 use Rattle.call_cell.specs.declared.outcome.Outcome.{Outcome}
 use Rattle.call_cell.specs.declared.outcome.Outcome.TheVariants as outcomes
-use Rattle.call_cell.specs.declared.sending.Sending as parts
+use Rattle.call_cell.specs.declared.sender.Sending as parts
 use Rattle.call_cell.specs.declared.leg.Leg.{Leg}
 use Rattle.call_cell.specs.Cells.{CellEntry, Receipt, Shield, Sending, Deed, in_force, is_accepted, is_opposite, opposite, key_numbered}
-use Rattle.call_cell.specs.Keyed.{protected, Wrapped, Held, Leaves}
-use Rattle.call_cell.specs.Learning.{learned, endpoint_by}
+use Rattle.call_cell.specs.Protection.{protected, Departure, Held, Leaves}
+use Rattle.call_cell.specs.Lessons.{learned, leg_endpoint_by}
 use Rattle.call_cell.specs.Deeds.{sent_outcome, deed, deed_wrapped, found, opposite_of, is_leaving, lost_deed, sent_deed, wrapped_towards, wrapped_numbered}
-use Rattle.call_cell.specs.Asked.{is_sent}
+use Rattle.call_cell.specs.Demands.{is_sent}
 use Rattle.call_cell.specs.Parts.{SendingFor, HasNamed, learner_in, learner_of, SendsBy, SameNumbers, IsOf, wrapped_by, wrapped_for}
-use Rattle.call_cell.specs.Standing.{FrontIs, outbound_of, LegFor, LegsFor, LegsDo, LegsRelay, LegSends, LegKeeps, LegForwards, LegForwardsBy, EndsFor, relay_entry, sent_ok, send_outcome}
+use Rattle.call_cell.specs.LegHistories.{FrontIs, outbound_of, LegStandsFor, LegsStandFor, LegsDo, LegsRelay, LegSends, LegKeeps, LegForwards, LegForwardsBy, EndsFor, relay_entry, sent_ok, send_outcome}
 use Rattle.call_cell.proofs.Counting.{sent_from}
 use Rattle.call_cell.proofs.LegSteps.{IsElsewhere, leg_sends, named_so}
 use Rattle.call_cell.proofs.Placing.{IsPlace, same_or_not, at_set, off_set, same_holders, same_itself, not_opposite, true_or_not, other_default, apart_over}
@@ -42,7 +42,7 @@ towards_is h s half bytes (Some n) = refl
 
 pub towards_so : (h : List CellEntry) (s : LegSignal) (half : Half) (bytes : List ℕ)
     → wrapped_towards h s half bytes ≡ wrapped_for (key_numbered h) (protected h) s half bytes
-towards_so h s half bytes = ap (λ (w : Wrapped). if s.hold then Held lost.Hold else w) (towards_is h s half bytes s.outbound)
+towards_so h s half bytes = ap (λ (w : Departure). if s.hold then Held lost.Hold else w) (towards_is h s half bytes s.outbound)
 
 -- the leg on the other side, at its place, which is another one
 pub record Facing {O : Type 0} (config : Config) (h : List CellEntry) (p : Receipt) (those : List (Leg O)) (i : ℕ) (x new : Leg O) (noted : Option Note)
@@ -74,25 +74,25 @@ faces {O} config h p those i x new noted plain buf size k z t place =
           ∙ ap (λ (leg : Leg O). Some leg.holder) (off_set those i k new z apart);
     }
 
-pub kept_lost : {O : Type 0} (told : O → EndTold OutCall) (faults : O → ℕ) (config : Config) (h : List CellEntry) (p : Receipt) (those : List (Leg O)) (i : ℕ)
+pub kept_lost : {O : Type 0} (log : O → EndLog OutCall) (faults : O → ℕ) (config : Config) (h : List CellEntry) (p : Receipt) (those : List (Leg O)) (i : ℕ)
     (x new : Leg O) (noted : Option Note) (plain buf : List ℕ) (size k : ℕ) (z y : Leg O) (out : List ℕ) (cause : Lost) (result : Outcome)
     → Facing config h p those i x new noted plain buf size k z → LegKeeps cause (get_or those k z) y result
     → deed config h p (sent_ok (outcomes.Lost cause)) ≡ lost_deed p.half noted cause
-    → LegsRelay told faults config h p those (set (set those i new) k y) out result
-kept_lost {O} told faults config h p those i x new noted plain buf size k z y out cause result f keeps it =
+    → LegsRelay log faults config h p those (set (set those i new) k y) out result
+kept_lost {O} log faults config h p those i x new noted plain buf size k z y out cause result f keeps it =
     let mid = set those i new in
     let same : set mid k y ≡ mid = ap (λ (leg : Leg O). set mid k leg) (keeps.leg ∙ sym (off_set those i k new z f.apart)) ∙ set-get_or mid k z in
-    let P : Deed → Type 0 = λ (d : Deed). LegsDo told faults config h p those mid out (outcomes.Lost cause) d in
-    let Q : List (Leg O) → Type 0 = λ (l : List (Leg O)). LegsRelay told faults config h p those l out (outcomes.Lost cause) in
-    let R : Outcome → Type 0 = λ (o : Outcome). LegsRelay told faults config h p those (set mid k y) out o in
+    let P : Deed → Type 0 = λ (d : Deed). LegsDo log faults config h p those mid out (outcomes.Lost cause) d in
+    let Q : List (Leg O) → Type 0 = λ (l : List (Leg O)). LegsRelay log faults config h p those l out (outcomes.Lost cause) in
+    let R : Outcome → Type 0 = λ (o : Outcome). LegsRelay log faults config h p those (set mid k y) out o in
     subst R (sym keeps.answer)
-    (subst Q (sym same) (subst P (sym it) (lost_do told faults config h p those i x new noted plain buf out size cause f.taking)))
+    (subst Q (sym same) (subst P (sym it) (lost_do log faults config h p those i x new noted plain buf out size cause f.taking)))
 
 -- It leaves.
 
 abbrev sending_to : {O : Type 0} → List CellEntry → Receipt → Leg O → LegSignal → List ℕ → Sending
 sending_to h p leg s bytes =
-    record { pair = leg.holder.pair; half = p.half; to = endpoint_by s (learned h leg.holder p.half) p.half; bytes = bytes }
+    record { pair = leg.holder.pair; half = p.half; to = leg_endpoint_by s (learned h leg.holder p.half) p.half; bytes = bytes }
 
 sent_so : (config : Config) (w : Sending) (ok : Bool) → send_outcome (half_port config w.pair w.half) w.to (length w.bytes) ok ≡ sent_outcome config w ok
 sent_so config w true = refl
@@ -108,7 +108,7 @@ front_case port w out true q = q
 front_case port w out false q = tt
 
 -- the shield is under a key of the leg by which the packet leaves, and of no other
-elsewhere : {O : Type 0} (config : Config) (h : List CellEntry) (those : List (Leg O)) (k : ℕ) (z : Leg O) (shield : Option Shield) → LegsFor config h those
+elsewhere : {O : Type 0} (config : Config) (h : List CellEntry) (those : List (Leg O)) (k : ℕ) (z : Leg O) (shield : Option Shield) → LegsStandFor config h those
     → k < length those → ((s : Shield) → shield ≡ Some s → (suite : Suite) × IsOf (get_or those k z).holder suite (key_numbered h) s.key)
     → (j : ℕ) (y : Leg O) → j < length those → (j ≡ k → ⊥) → IsElsewhere (get_or those j y).holder (key_numbered h) shield
 elsewhere {O} config h those k z shield for below under j y within apart s q key there section side =
@@ -120,15 +120,15 @@ elsewhere {O} config h those k z shield for below under j y within apart s q key
     (sym section ∙ ap (λ (n : NewKey). n.section) (sym same) ∙ u.section ∙ ap (λ (l : Leg O). l.holder.section) here)
     (sym side ∙ ap (λ (n : NewKey). n.side) (sym same) ∙ u.side ∙ ap (λ (l : Leg O). l.holder.side) here))
 
-pub record Leaving {O : Type 0} (told : O → EndTold OutCall) (faults : O → ℕ) (config : Config) (h : List CellEntry) (p : Receipt) (those : List (Leg O)) (i : ℕ)
+pub record Leaving {O : Type 0} (log : O → EndLog OutCall) (faults : O → ℕ) (config : Config) (h : List CellEntry) (p : Receipt) (those : List (Leg O)) (i : ℕ)
     (x new : Leg O) (noted : Option Note) (plain buf : List ℕ) (size k : ℕ) (z y : Leg O) (s : LegSignal) (shield : Option Shield) (bytes out : List ℕ)
     (result : Outcome) : Type 0 where
   pub facing : Facing config h p those i x new noted plain buf size k z
-  pub sends : LegSends told faults (key_numbered h) (protected h) shield bytes p.half (endpoint_by s (learned h (get_or those k z).holder p.half) p.half)
+  pub sends : LegSends log faults (key_numbered h) (protected h) shield bytes p.half (leg_endpoint_by s (learned h (get_or those k z).holder p.half) p.half)
       (get_or those k z) y out result
   pub numbers : SameNumbers (get_or those k z).sending y.sending
 
-apart_leg : {O : Type 0} (config : Config) (h : List CellEntry) (those : List (Leg O)) (k : ℕ) (z : Leg O) → LegsFor config h those → k < length those
+apart_leg : {O : Type 0} (config : Config) (h : List CellEntry) (those : List (Leg O)) (k : ℕ) (z : Leg O) → LegsStandFor config h those → k < length those
     → (j : ℕ) (v : Leg O) → j < length those → (j ≡ k → ⊥) → same_leg (get_or those k z).holder (get_or those j v).holder ≡ false
 apart_leg {O} config h those k z for below j v within apart = elim (true_or_not (same_leg (get_or those k z).holder (get_or those j v).holder)) [
   | inl same ↦ absurd (apart (sym (for.apart.leases k j v below within
@@ -179,18 +179,18 @@ unsent_off config h p those i x new noted plain buf size k z d f j v within apar
     (ap (λ (o : Option Holder). is_leaving o (get_or those j v).holder) (leaving_by config h p those i x new noted plain buf size k z f)
     ∙ apart_leg config h those k z f.taking.for f.below j v within apart)
 
-leaving_each : {O : Type 0} (told : O → EndTold OutCall) (faults : O → ℕ) (config : Config) (h : List CellEntry) (p : Receipt) (those : List (Leg O)) (i : ℕ)
+leaving_each : {O : Type 0} (log : O → EndLog OutCall) (faults : O → ℕ) (config : Config) (h : List CellEntry) (p : Receipt) (those : List (Leg O)) (i : ℕ)
     (x new : Leg O) (noted : Option Note) (plain buf : List ℕ) (size k : ℕ) (z y : Leg O) (s : LegSignal) (shield : Option Shield) (bytes out : List ℕ)
-    (result : Outcome) → Leaving told faults config h p those i x new noted plain buf size k z y s shield bytes out result → (m : ℕ) (j : ℕ) (v : Leg O) → j < length those
-    → LegFor config (relay_entry m p (sent_ok result) (sent_deed config p.half noted shield (sending_to h p (get_or those k z) s bytes) (sent_ok result)) ∷ h)
+    (result : Outcome) → Leaving log faults config h p those i x new noted plain buf size k z y s shield bytes out result → (m : ℕ) (j : ℕ) (v : Leg O) → j < length those
+    → LegStandsFor config (relay_entry m p (sent_ok result) (sent_deed config p.half noted shield (sending_to h p (get_or those k z) s bytes) (sent_ok result)) ∷ h)
     (get_or (set (set those i new) k y) j v)
-leaving_each {O} told faults config h p those i x new noted plain buf size k z y s shield bytes out result l m j v within =
+leaving_each {O} log faults config h p those i x new noted plain buf size k z y s shield bytes out result l m j v within =
     let ok = sent_ok result in
     let t = l.facing.taking in
     let w : Sending = sending_to h p (get_or those k z) s bytes in
     let d : Deed = sent_deed config p.half noted shield w ok in
     let acc : is_accepted d.outcome ≡ true = sent_accepted config w ok in
-    let P : Leg O → Type 0 = λ (leg : Leg O). LegFor config (relay_entry m p ok d ∷ h) leg in
+    let P : Leg O → Type 0 = λ (leg : Leg O). LegStandsFor config (relay_entry m p ok d ∷ h) leg in
     let long : k < length (set those i new) = omega (arith, l.facing.below, length-set those i new) in
     let away = elsewhere config h those k z shield t.for l.facing.below l.sends.under in
     elim (same_or_not j k) [
@@ -211,12 +211,12 @@ leaving_each {O} told faults config h p those i x new noted plain buf size k z y
           ])
     ]
 
-leaving_legs : {O : Type 0} (told : O → EndTold OutCall) (faults : O → ℕ) (config : Config) (h : List CellEntry) (p : Receipt) (those : List (Leg O)) (i : ℕ)
+leaving_legs : {O : Type 0} (log : O → EndLog OutCall) (faults : O → ℕ) (config : Config) (h : List CellEntry) (p : Receipt) (those : List (Leg O)) (i : ℕ)
     (x new : Leg O) (noted : Option Note) (plain buf : List ℕ) (size k : ℕ) (z y : Leg O) (s : LegSignal) (shield : Option Shield) (bytes out : List ℕ)
-    (result : Outcome) → Leaving told faults config h p those i x new noted plain buf size k z y s shield bytes out result → (m : ℕ)
-    → LegsFor config (relay_entry m p (sent_ok result) (sent_deed config p.half noted shield (sending_to h p (get_or those k z) s bytes) (sent_ok result)) ∷ h)
+    (result : Outcome) → Leaving log faults config h p those i x new noted plain buf size k z y s shield bytes out result → (m : ℕ)
+    → LegsStandFor config (relay_entry m p (sent_ok result) (sent_deed config p.half noted shield (sending_to h p (get_or those k z) s bytes) (sent_ok result)) ∷ h)
     (set (set those i new) k y)
-leaving_legs {O} told faults config h p those i x new noted plain buf size k z y s shield bytes out result l m =
+leaving_legs {O} log faults config h p those i x new noted plain buf size k z y s shield bytes out result l m =
     let t = l.facing.taking in
     let mid = set those i new in
     let q = same_holder config h p those i x new noted plain buf size t in
@@ -226,22 +226,22 @@ leaving_legs {O} told faults config h p those i x new noted plain buf size k z y
       holders = holders_over m p (sent_ok result) (sent_deed config p.half noted shield (sending_to h p (get_or those k z) s bytes) (sent_ok result)) h (set mid k y)
           (same_holders mid k y z r ∙ same_holders those i new x q ∙ t.for.holders);
       apart = apart_over mid k y z long r (apart_over those i new x t.place.below q t.for.apart);
-      each = λ j v within. leaving_each told faults config h p those i x new noted plain buf size k z y s shield bytes out result l m j v
+      each = λ j v within. leaving_each log faults config h p those i x new noted plain buf size k z y s shield bytes out result l m j v
           (omega (arith, within, length-set mid k y, length-set those i new));
     }
 
-leaving_ends : {O : Type 0} (told : O → EndTold OutCall) (faults : O → ℕ) (config : Config) (h : List CellEntry) (p : Receipt) (those : List (Leg O)) (i : ℕ)
+leaving_ends : {O : Type 0} (log : O → EndLog OutCall) (faults : O → ℕ) (config : Config) (h : List CellEntry) (p : Receipt) (those : List (Leg O)) (i : ℕ)
     (x new : Leg O) (noted : Option Note) (plain buf : List ℕ) (size k : ℕ) (z y : Leg O) (s : LegSignal) (shield : Option Shield) (bytes out : List ℕ)
-    (result : Outcome) → Leaving told faults config h p those i x new noted plain buf size k z y s shield bytes out result → (j : ℕ) (v : Leg O) → j < length those
-    → EndsFor told faults (same_leg (get_or those k z).holder (get_or those j v).holder) (Some (sending_to h p (get_or those k z) s bytes)) (sent_ok result)
+    (result : Outcome) → Leaving log faults config h p those i x new noted plain buf size k z y s shield bytes out result → (j : ℕ) (v : Leg O) → j < length those
+    → EndsFor log faults (same_leg (get_or those k z).holder (get_or those j v).holder) (Some (sending_to h p (get_or those k z) s bytes)) (sent_ok result)
     (get_or those j v).sending (get_or (set (set those i new) k y) j v).sending
-leaving_ends {O} told faults config h p those i x new noted plain buf size k z y s shield bytes out result l j v within =
+leaving_ends {O} log faults config h p those i x new noted plain buf size k z y s shield bytes out result l j v within =
     let ok = sent_ok result in
     let t = l.facing.taking in
     let w : Sending = sending_to h p (get_or those k z) s bytes in
     let mid = set those i new in
     let long : k < length mid = omega (arith, l.facing.below, length-set those i new) in
-    let P : Bool → Type 0 = λ (b : Bool). EndsFor told faults b (Some w) ok (get_or those j v).sending (get_or (set mid k y) j v).sending in
+    let P : Bool → Type 0 = λ (b : Bool). EndsFor log faults b (Some w) ok (get_or those j v).sending (get_or (set mid k y) j v).sending in
     let here : get_or those k z ≡ get_or those k v = other_default those k z v l.facing.below in
     elim (same_or_not j k) [
       | inl is ↦
@@ -250,8 +250,8 @@ leaving_ends {O} told faults config h p those i x new noted plain buf size k z y
           let same : same_leg (get_or those k z).holder (get_or those j v).holder ≡ true
           = subst (λ (a : Leg O). same_leg (get_or those k z).holder a.holder ≡ true) leg (same_itself (get_or those k z).holder) in
           subst P (sym same)
-          (subst (λ (a : Leg O). SendsBy told faults p.half w.to bytes ok a.sending (get_or (set mid k y) j v).sending) leg
-          (subst (λ (a : Leg O). SendsBy told faults p.half w.to bytes ok (get_or those k z).sending a.sending) now l.sends.sends))
+          (subst (λ (a : Leg O). SendsBy log faults p.half w.to bytes ok a.sending (get_or (set mid k y) j v).sending) leg
+          (subst (λ (a : Leg O). SendsBy log faults p.half w.to bytes ok (get_or those k z).sending a.sending) now l.sends.sends))
       | inr off ↦
           let other : same_leg (get_or those k z).holder (get_or those j v).holder ≡ false = apart_leg config h those k z t.for l.facing.below j v within off in
           let as_before : (get_or (set mid k y) j v).sending ≡ (get_or those j v).sending
@@ -259,17 +259,17 @@ leaving_ends {O} told faults config h p those i x new noted plain buf size k z y
           subst P (sym other) (ap (λ (a : parts.Sending O). a.rtp) as_before, ap (λ (a : parts.Sending O). a.rtcp) as_before)
     ]
 
-pub leaves : {O : Type 0} (told : O → EndTold OutCall) (faults : O → ℕ) (config : Config) (h : List CellEntry) (p : Receipt) (those : List (Leg O)) (i : ℕ)
+pub leaves : {O : Type 0} (log : O → EndLog OutCall) (faults : O → ℕ) (config : Config) (h : List CellEntry) (p : Receipt) (those : List (Leg O)) (i : ℕ)
     (x new : Leg O) (noted : Option Note) (plain buf : List ℕ) (size k : ℕ) (z y : Leg O) (s : LegSignal) (shield : Option Shield) (bytes out : List ℕ)
-    (result : Outcome) → Leaving told faults config h p those i x new noted plain buf size k z y s shield bytes out result
+    (result : Outcome) → Leaving log faults config h p those i x new noted plain buf size k z y s shield bytes out result
     → deed config h p (sent_ok result) ≡ sent_deed config p.half noted shield (sending_to h p (get_or those k z) s bytes) (sent_ok result)
-    → LegsRelay told faults config h p those (set (set those i new) k y) out result
-leaves {O} told faults config h p those i x new noted plain buf size k z y s shield bytes out result l it =
+    → LegsRelay log faults config h p those (set (set those i new) k y) out result
+leaves {O} log faults config h p those i x new noted plain buf size k z y s shield bytes out result l it =
     let ok = sent_ok result in
     let t = l.facing.taking in
     let o = get_or those k z in
     let w : Sending = sending_to h p o s bytes in
-    let P : Deed → Type 0 = λ (d : Deed). LegsDo told faults config h p those (set (set those i new) k y) out result d in
+    let P : Deed → Type 0 = λ (d : Deed). LegsDo log faults config h p those (set (set those i new) k y) out result d in
     let leg_o = t.for.each k z l.facing.below in
     let answer : result ≡ send_outcome (half_port config o.holder.pair p.half) w.to (length bytes) ok
     = l.sends.answer ∙ ap (λ (n : ℕ). send_outcome n w.to (length bytes) ok) (leg_o.port p.half) in
@@ -277,64 +277,64 @@ leaves {O} told faults config h p those i x new noted plain buf size k z y s shi
     subst P (sym it) (record {
       outcome = answer ∙ sent_so config w ok;
       front = subst (λ (r : Outcome). FrontIs r (Some w) out) (sym answer) (front_case (half_port config o.holder.pair p.half) w out ok l.sends.buffer);
-      legs_for = λ m. leaving_legs told faults config h p those i x new noted plain buf size k z y s shield bytes out result l m;
-      ends = λ j v within. subst (λ (a : Option Holder). EndsFor told faults (is_leaving a (get_or those j v).holder) (Some w) ok (get_or those j v).sending (get_or (set (set those i new) k y) j v).sending)
-          (sym by) (leaving_ends told faults config h p those i x new noted plain buf size k z y s shield bytes out result l j v within);
+      legs_for = λ m. leaving_legs log faults config h p those i x new noted plain buf size k z y s shield bytes out result l m;
+      ends = λ j v within. subst (λ (a : Option Holder). EndsFor log faults (is_leaving a (get_or those j v).holder) (Some w) ok (get_or those j v).sending (get_or (set (set those i new) k y) j v).sending)
+          (sym by) (leaving_ends log faults config h p those i x new noted plain buf size k z y s shield bytes out result l j v within);
     })
 
 -- What the leg on the other side does, by cases.
 
-wrapped_case : {O : Type 0} (told : O → EndTold OutCall) (faults : O → ℕ) (config : Config) (h : List CellEntry) (p : Receipt) (those : List (Leg O)) (i : ℕ)
+wrapped_case : {O : Type 0} (log : O → EndLog OutCall) (faults : O → ℕ) (config : Config) (h : List CellEntry) (p : Receipt) (those : List (Leg O)) (i : ℕ)
     (x new : Leg O) (noted : Option Note) (plain buf : List ℕ) (size k : ℕ) (z y : Leg O) (s : LegSignal) (out : List ℕ) (result : Outcome)
-    → Facing config h p those i x new noted plain buf size k z → SameNumbers (get_or those k z).sending y.sending → (w : Wrapped)
+    → Facing config h p those i x new noted plain buf size k z → SameNumbers (get_or those k z).sending y.sending → (w : Departure)
     → ((ok : Bool) → deed config h p ok ≡ deed_wrapped config h p noted (get_or those k z).holder s ok w)
-    → LegForwards told faults w (key_numbered h) (protected h) p.half (endpoint_by s (learned h (get_or those k z).holder p.half) p.half) (get_or those k z) y out result
-    → LegsRelay told faults config h p those (set (set those i new) k y) out result
-wrapped_case told faults config h p those i x new noted plain buf size k z y s out result f numbers (Held cause) it does =
-    kept_lost told faults config h p those i x new noted plain buf size k z y out cause result f does (it (sent_ok (outcomes.Lost cause)))
-wrapped_case told faults config h p those i x new noted plain buf size k z y s out result f numbers (Leaves shield bytes) it does =
-    leaves told faults config h p those i x new noted plain buf size k z y s shield bytes out result
+    → LegForwards log faults w (key_numbered h) (protected h) p.half (leg_endpoint_by s (learned h (get_or those k z).holder p.half) p.half) (get_or those k z) y out result
+    → LegsRelay log faults config h p those (set (set those i new) k y) out result
+wrapped_case log faults config h p those i x new noted plain buf size k z y s out result f numbers (Held cause) it does =
+    kept_lost log faults config h p those i x new noted plain buf size k z y out cause result f does (it (sent_ok (outcomes.Lost cause)))
+wrapped_case log faults config h p those i x new noted plain buf size k z y s out result f numbers (Leaves shield bytes) it does =
+    leaves log faults config h p those i x new noted plain buf size k z y s shield bytes out result
     (record { facing = f; sends = does; numbers = numbers }) (it (sent_ok result))
 
-signal_case : {O : Type 0} (told : O → EndTold OutCall) (faults : O → ℕ) (config : Config) (h : List CellEntry) (p : Receipt) (those : List (Leg O)) (i : ℕ)
+signal_case : {O : Type 0} (log : O → EndLog OutCall) (faults : O → ℕ) (config : Config) (h : List CellEntry) (p : Receipt) (those : List (Leg O)) (i : ℕ)
     (x new : Leg O) (noted : Option Note) (plain buf : List ℕ) (size k : ℕ) (z y : Leg O) (out : List ℕ) (result : Outcome)
     → Facing config h p those i x new noted plain buf size k z → SameNumbers (get_or those k z).sending y.sending → (o : Option LegSignal)
     → in_force h (get_or those k z).holder ≡ o
-    → LegForwardsBy told faults (in_force_with o (learner_of p.half o (learned h (get_or those k z).holder p.half))) (key_numbered h) (protected h) p.half plain (get_or those k z) y out result
-    → LegsRelay told faults config h p those (set (set those i new) k y) out result
-signal_case told faults config h p those i x new noted plain buf size k z y out result f numbers None is does =
+    → LegForwardsBy log faults (in_force_with o (learner_of p.half o (learned h (get_or those k z).holder p.half))) (key_numbered h) (protected h) p.half plain (get_or those k z) y out result
+    → LegsRelay log faults config h p those (set (set those i new) k y) out result
+signal_case log faults config h p those i x new noted plain buf size k z y out result f numbers None is does =
     let t = f.taking in
-    kept_lost told faults config h p those i x new noted plain buf size k z y out lost.Hold result f does
+    kept_lost log faults config h p those i x new noted plain buf size k z y out lost.Hold result f does
     (deed_to config h p true (get_or those i x).holder (get_or those k z).holder noted plain None (found_at config h p those i x t.for t.place) t.is_judged f.is_opposite is)
-signal_case told faults config h p those i x new noted plain buf size k z y out result f numbers (Some s) is does =
+signal_case log faults config h p those i x new noted plain buf size k z y out result f numbers (Some s) is does =
     let t = f.taking in
-    wrapped_case told faults config h p those i x new noted plain buf size k z y s out result f numbers (wrapped_for (key_numbered h) (protected h) s p.half plain)
+    wrapped_case log faults config h p those i x new noted plain buf size k z y s out result f numbers (wrapped_for (key_numbered h) (protected h) s p.half plain)
     (λ ok. deed_to config h p ok (get_or those i x).holder (get_or those k z).holder noted plain (Some s) (found_at config h p those i x t.for t.place) t.is_judged f.is_opposite is
-    ∙ ap (λ (w : Wrapped). deed_wrapped config h p noted (get_or those k z).holder s ok w) (towards_so h s p.half plain))
+    ∙ ap (λ (w : Departure). deed_wrapped config h p noted (get_or those k z).holder s ok w) (towards_so h s p.half plain))
     does
 
-pub relays_towards : {O : Type 0} (told : O → EndTold OutCall) (faults : O → ℕ) (config : Config) (h : List CellEntry) (p : Receipt) (those : List (Leg O)) (i : ℕ)
+pub relays_towards : {O : Type 0} (log : O → EndLog OutCall) (faults : O → ℕ) (config : Config) (h : List CellEntry) (p : Receipt) (those : List (Leg O)) (i : ℕ)
     (x new : Leg O) (noted : Option Note) (plain buf : List ℕ) (size k : ℕ) (z y : Leg O) (out : List ℕ) (result : Outcome)
     → Taking config h p those i x new noted plain buf size → IsPlace (is_opposite (get_or those i x).holder) (set those i new) k z
     → SameNumbers (get_or (set those i new) k z).sending y.sending
     → ((keys : ℕ → Option NewKey) (notes : ℕ → List Note) → SendingFor (get_or (set those i new) k z).holder keys notes (get_or (set those i new) k z).sending
     → HasNamed (outbound_of (get_or (set those i new) k z).signal) keys (get_or (set those i new) k z).sending
-    → LegForwardsBy told faults (in_force_with (get_or (set those i new) k z).signal (learner_in p.half (get_or (set those i new) k z).receiving)) keys notes p.half (take size buf)
+    → LegForwardsBy log faults (in_force_with (get_or (set those i new) k z).signal (learner_in p.half (get_or (set those i new) k z).receiving)) keys notes p.half (take size buf)
     (get_or (set those i new) k z) y out result)
-    → LegsRelay told faults config h p those (set (set those i new) k y) out result
-relays_towards {O} told faults config h p those i x new noted plain buf size k z y out result t place numbers does =
+    → LegsRelay log faults config h p those (set (set those i new) k y) out result
+relays_towards {O} log faults config h p those i x new noted plain buf size k z y out result t place numbers does =
     let f = faces config h p those i x new noted plain buf size k z t place in
     let there : get_or (set those i new) k z ≡ get_or those k z = off_set those i k new z f.apart in
     let leg_o = t.for.each k z f.below in
     let o = get_or those k z in
     let P : Leg O → Type 0 = λ (leg : Leg O). SendingFor leg.holder (key_numbered h) (protected h) leg.sending
     → HasNamed (outbound_of leg.signal) (key_numbered h) leg.sending
-    → LegForwardsBy told faults (in_force_with leg.signal (learner_in p.half leg.receiving)) (key_numbered h) (protected h) p.half (take size buf) leg y out result in
+    → LegForwardsBy log faults (in_force_with leg.signal (learner_in p.half leg.receiving)) (key_numbered h) (protected h) p.half (take size buf) leg y out result in
     let many : size ≡ length plain = (let q = t.takes.answer in cc) in
     let front : take size buf ≡ plain = ap (λ (n : ℕ). take n buf) many ∙ t.takes.buffer in
     let one = (subst P there (does (key_numbered h) (protected h))) leg_o.sending (named_so (outbound_of o.signal) (key_numbered h) o.sending leg_o.named) in
-    let two : LegForwardsBy told faults (in_force_with o.signal (learner_of p.half o.signal (learned h o.holder p.half))) (key_numbered h) (protected h) p.half plain o y out result
-    = subst (λ (l : List ℕ). LegForwardsBy told faults (in_force_with o.signal (learner_of p.half o.signal (learned h o.holder p.half))) (key_numbered h) (protected h) p.half l o y out result) front
-    (subst (λ (a : Option Learner). LegForwardsBy told faults (in_force_with o.signal a) (key_numbered h) (protected h) p.half (take size buf) o y out result) (leg_o.receiving.learned p.half) one) in
-    signal_case told faults config h p those i x new noted plain buf size k z y out result f
+    let two : LegForwardsBy log faults (in_force_with o.signal (learner_of p.half o.signal (learned h o.holder p.half))) (key_numbered h) (protected h) p.half plain o y out result
+    = subst (λ (l : List ℕ). LegForwardsBy log faults (in_force_with o.signal (learner_of p.half o.signal (learned h o.holder p.half))) (key_numbered h) (protected h) p.half l o y out result) front
+    (subst (λ (a : Option Learner). LegForwardsBy log faults (in_force_with o.signal a) (key_numbered h) (protected h) p.half (take size buf) o y out result) (leg_o.receiving.learned p.half) one) in
+    signal_case log faults config h p those i x new noted plain buf size k z y out result f
     (subst (λ (leg : Leg O). SameNumbers leg.sending y.sending) there numbers) o.signal (sym leg_o.signal) two

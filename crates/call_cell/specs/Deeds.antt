@@ -10,7 +10,7 @@ use Rattle.port_pool.specs.Ports.{half_port}
 use Rattle.port_pool.specs.declared.holder.Holder.{Holder}
 use Rattle.port_pool.specs.declared.signal.LegSignal.{LegSignal}
 use Rattle.port_pool.specs.Signals.{same_leg}
-use Rattle.endpoint_learn.specs.Learning.{is_wrong_source}
+use Rattle.endpoint_learn.specs.Lessons.{is_wrong_source}
 use Rattle.call_cell.specs.declared.outcome.Refused.{Refused}
 use Rattle.call_cell.specs.declared.outcome.Refused.TheVariants as refused
 use Rattle.call_cell.specs.declared.outcome.Lost.{Lost}
@@ -18,8 +18,8 @@ use Rattle.call_cell.specs.declared.outcome.Lost.TheVariants as lost
 use Rattle.call_cell.specs.declared.outcome.Outcome.{Outcome}
 use Rattle.call_cell.specs.declared.outcome.Outcome.TheVariants as outcomes
 use Rattle.call_cell.specs.Cells.{CellEntry, Receipt, Shield, Sending, Deed, legs, opposite, in_force, key_numbered}
-use Rattle.call_cell.specs.Keyed.{accepted, protected, Judged, Stopped, Passed, is_packet, opened_by, Wrapped, Held, Leaves, wrapped_with}
-use Rattle.call_cell.specs.Learning.{learned, endpoint_by}
+use Rattle.call_cell.specs.Protection.{accepted, protected, Judged, Stopped, Passed, is_packet, opened_by, Departure, Held, Leaves, wrapped_with}
+use Rattle.call_cell.specs.Lessons.{learned, leg_endpoint_by}
 
 -- the half as which a packet is read, and the half by which it leaves: that of the port that took it
 abbrev pub kind : List CellEntry → Receipt → Half
@@ -54,12 +54,12 @@ abbrev pub judged : List CellEntry → Receipt → Holder → Judged
 judged h p leg = judged_leg (in_force h leg) (learned h leg p.half) (accepted h leg) (kind h p) p.source p.bytes
 
 -- the plain packet under the outbound key of this number
-abbrev pub wrapped_numbered : List CellEntry → Option ℕ → Half → List ℕ → Wrapped
+abbrev pub wrapped_numbered : List CellEntry → Option ℕ → Half → List ℕ → Departure
 wrapped_numbered h None kind bytes = Leaves None bytes
 wrapped_numbered h (Some number) kind bytes = wrapped_with (key_numbered h number) (protected h number) kind bytes
 
 -- an accepted packet, towards a leg with that in force
-abbrev pub wrapped_towards : List CellEntry → LegSignal → Half → List ℕ → Wrapped
+abbrev pub wrapped_towards : List CellEntry → LegSignal → Half → List ℕ → Departure
 wrapped_towards h s kind bytes = if s.hold then Held lost.Hold else wrapped_numbered h s.outbound kind bytes
 
 abbrev pub refused_deed : Half → Refused → Deed
@@ -79,11 +79,11 @@ sent_deed config kind note shield sending sent_ok =
     record { outcome = sent_outcome config sending sent_ok; kind = kind; noted = note; shield = shield; sending = Some sending }
 
 -- a packet that is wrapped in this way, towards a leg with that in force
-abbrev pub deed_wrapped : Config → List CellEntry → Receipt → Option Note → Holder → LegSignal → Bool → Wrapped → Deed
+abbrev pub deed_wrapped : Config → List CellEntry → Receipt → Option Note → Holder → LegSignal → Bool → Departure → Deed
 deed_wrapped config h p note other s sent_ok (Held cause) = lost_deed (kind h p) note cause
 deed_wrapped config h p note other s sent_ok (Leaves shield bytes) =
     sent_deed config (kind h p) note shield
-    (record { pair = other.pair; half = way h p; to = endpoint_by s (learned h other (way h p)) (way h p); bytes = bytes }) sent_ok
+    (record { pair = other.pair; half = way h p; to = leg_endpoint_by s (learned h other (way h p)) (way h p); bytes = bytes }) sent_ok
 
 abbrev pub deed_towards : Config → List CellEntry → Receipt → Option Note → List ℕ → Bool → Holder → Option LegSignal → Deed
 deed_towards config h p note plain sent_ok other None = lost_deed (kind h p) note lost.Hold
@@ -110,7 +110,7 @@ abbrev pub plain_of : Judged → Option (List ℕ)
 plain_of (Stopped cause) = None
 plain_of (Passed noted plain) = Some plain
 
-abbrev pub bytes_of : Wrapped → Option (List ℕ)
+abbrev pub bytes_of : Departure → Option (List ℕ)
 bytes_of (Held cause) = None
 bytes_of (Leaves shield bytes) = Some bytes
 

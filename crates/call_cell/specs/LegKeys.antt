@@ -13,19 +13,19 @@ keys_since [] leg = []
 keys_since (e ∷ h) leg = keys_of e.event ++ (if list_any (same_leg leg) (legs_of e.event) then [] else keys_since h leg)
 
 -- the key is for the leg's section and side
-abbrev pub is_for : Holder → NewKey → Bool
-is_for leg key = (key.section == leg.section) && side_eq key.side leg.side
+abbrev pub is_for_leg : Holder → NewKey → Bool
+is_for_leg leg key = (key.section == leg.section) && side_eq key.side leg.side
 
 abbrev pub keys_for : List CellEntry → Holder → List NewKey
-keys_for h leg = filter (is_for leg) (keys_since h leg)
+keys_for h leg = filter (is_for_leg leg) (keys_since h leg)
 
-abbrev pub number_of : Option NewKey → Option ℕ
-number_of None = None
-number_of (Some key) = Some key.number
+abbrev pub key_number_of : Option NewKey → Option ℕ
+key_number_of None = None
+key_number_of (Some key) = Some key.number
 
 -- the number of the key for a suite
-abbrev pub key_of : Suite → List NewKey → Option ℕ
-key_of suite keys = number_of (first (filter (λ key. suite_eq key.suite suite) keys))
+abbrev pub key_number_for : Suite → List NewKey → Option ℕ
+key_number_for suite keys = key_number_of (first (filter (λ key. suite_eq key.suite suite) keys))
 
 -- no two of the keys are for one suite
 abbrev pub OnePerSuite : List NewKey → Type 0

@@ -1,5 +1,5 @@
 -- The parts of a leg: for which learned sources, keys and notes they stand, and what their calls do. A part knows no
--- history; `specs/Standing.antt` says which sources, keys and notes a cell's history gives it.
+-- history; `specs/LegHistories.antt` says which sources, keys and notes a cell's history gives it.
 use Rattle.std.specs.Prelude.{◌≡◌, ◌≤◌, Box, ℕ, Bool, true, false, ◌||◌, ◌==◌, List, take, length, Option, Some, None, Result, Ok, Err, is_ok, if◌then◌else◌}
 use Rattle.std.specs.Global.{Global}
 use Rattle.std.specs.List.{cons_option}
@@ -7,7 +7,7 @@ use Rattle.relay_outside.specs.declared.address.Addr.{Addr}
 use Rattle.relay_outside.specs.declared.settings.Flags.{Flags}
 use Rattle.relay_outside.specs.declared.ports.OutCall.{OutCall}
 use Rattle.relay_outside.specs.declared.ports.OutCall.TheVariants.{Send}
-use Rattle.relay_outside.specs.Told.{EndTold, EndGains, Rose}
+use Rattle.relay_outside.specs.DeviceLogs.{EndLog, EndGains, Rose}
 use Rattle.rtp_packet.specs.declared.head.Half.{Half}
 use Rattle.rtp_packet.specs.declared.head.Half.TheVariants.{Rtp, Rtcp}
 use Rattle.sdes_lines.specs.declared.crypto_line.Suite.{Suite}
@@ -17,19 +17,19 @@ use Rattle.port_pool.specs.declared.holder.Holder.{Holder}
 use Rattle.port_pool.specs.declared.signal.LegSignal.{LegSignal}
 use Rattle.port_pool.specs.Signals.{NewKey}
 use Rattle.endpoint_learn.specs.declared.learner.Learner.{Learner}
-use Rattle.endpoint_learn.specs.Learning.{endpoint_by, is_wrong_source, taught}
+use Rattle.endpoint_learn.specs.Lessons.{endpoint_by, is_wrong_source, taught}
 use Rattle.endpoint_learn.specs.Learners.{signal_of}
 use Rattle.call_cell.specs.declared.outcome.Refused.{Refused}
 use Rattle.call_cell.specs.declared.outcome.Lost.{Lost}
 use Rattle.call_cell.specs.declared.outcome.Lost.TheVariants as lost
 use Rattle.call_cell.specs.declared.contexts.Inbound.{Inbound}
 use Rattle.call_cell.specs.declared.contexts.Outbound.{Outbound}
-use Rattle.call_cell.specs.declared.receiving.Receiving.{Receiving}
-use Rattle.call_cell.specs.declared.sending.Sending.{Sending}
+use Rattle.call_cell.specs.declared.receiver.Receiving.{Receiving}
+use Rattle.call_cell.specs.declared.sender.Sending.{Sending}
 use Rattle.call_cell.specs.Cells.{Shield}
-use Rattle.call_cell.specs.Learning.{address}
-use Rattle.call_cell.specs.Keyed.{Judged, Stopped, Passed, Wrapped, Held, Leaves, wrapped_with}
-use Rattle.call_cell.specs.Contexts.{InboundFor, OutboundFor, Refuses}
+use Rattle.call_cell.specs.Lessons.{address}
+use Rattle.call_cell.specs.Protection.{Judged, Stopped, Passed, Departure, Held, Leaves, wrapped_with}
+use Rattle.call_cell.specs.Contexts.{InboundFor, OutboundFor, ContextsRefuse}
 
 -- Receiving.
 
@@ -83,7 +83,7 @@ pub record TakesIn (key : Option (List ℕ × Suite)) (notes : List Note) (noted
 
 abbrev pub OpensIn : Judged → Option (List ℕ × Suite) → List Note → Option (Box (Option Inbound) Global) → Option (Box (Option Inbound) Global)
     → List ℕ → Result ℕ Refused → Type 0
-OpensIn (Stopped cause) key notes old new buf result = Refuses cause old new result
+OpensIn (Stopped cause) key notes old new buf result = ContextsRefuse cause old new result
 OpensIn (Passed noted plain) key notes old new buf result = TakesIn key notes noted plain (boxed_in new) buf result
 
 -- the learned sources after an accepted packet of a half
@@ -99,7 +99,7 @@ pub record Accepts (half : Half) (source : Addr) (s : LegSignal) (known : Half �
 
 abbrev pub AcceptsTo : Judged → Half → Addr → LegSignal → (Half → Option Addr) → List Note → Receiving → Receiving → List ℕ
     → Result ℕ Refused → Type 0
-AcceptsTo (Stopped cause) half source s known notes old new buf result = Refuses cause old new result
+AcceptsTo (Stopped cause) half source s known notes old new buf result = ContextsRefuse cause old new result
 AcceptsTo (Passed noted plain) half source s known notes old new buf result = Accepts half source s known notes noted plain new buf result
 
 -- Sending.
@@ -140,9 +140,9 @@ is_numbered None number = false
 is_numbered (Some contexts) number = contexts.number == number
 
 -- of which key contexts are
-abbrev pub number_in : Option Outbound → Option ℕ
-number_in None = None
-number_in (Some contexts) = Some contexts.number
+abbrev pub key_number_in : Option Outbound → Option ℕ
+key_number_in None = None
+key_number_in (Some contexts) = Some contexts.number
 
 -- the contexts of the key for a suite
 abbrev pub contexts_of : {O : Type 0} → Suite → Sending O → Option Outbound
@@ -183,13 +183,13 @@ pub record WrapsIn (leg : Holder) (suite : Suite) (keys : ℕ → Option NewKey)
   pub under : (s : Shield) → shield ≡ Some s → IsOf leg suite keys s.key
   pub contexts : OutboundIn leg suite keys (noted_under shield notes) new
 
-abbrev pub WrapsInTo : Wrapped → Holder → Suite → (ℕ → Option NewKey) → (ℕ → List Note) → Option (Box (Option Outbound) Global)
+abbrev pub WrapsInTo : Departure → Holder → Suite → (ℕ → Option NewKey) → (ℕ → List Note) → Option (Box (Option Outbound) Global)
     → Option (Box (Option Outbound) Global) → List ℕ → Result ℕ Lost → Type 0
-WrapsInTo (Held cause) leg suite keys notes old new buf result = Refuses cause old new result
+WrapsInTo (Held cause) leg suite keys notes old new buf result = ContextsRefuse cause old new result
 WrapsInTo (Leaves shield bytes) leg suite keys notes old new buf result = WrapsIn leg suite keys notes shield bytes (boxed_in new) buf result
 
 -- the plain packet under the outbound key of this number
-abbrev pub wrapped_by : (ℕ → Option NewKey) → (ℕ → List Note) → Option ℕ → Half → List ℕ → Wrapped
+abbrev pub wrapped_by : (ℕ → Option NewKey) → (ℕ → List Note) → Option ℕ → Half → List ℕ → Departure
 wrapped_by keys notes None kind bytes = Leaves None bytes
 wrapped_by keys notes (Some number) kind bytes = wrapped_with (keys number) (notes number) kind bytes
 
@@ -206,15 +206,15 @@ pub record Wraps {O : Type 0} (leg : Holder) (keys : ℕ → Option NewKey) (not
   pub under : (s : Shield) → shield ≡ Some s → (suite : Suite) × IsOf leg suite keys s.key
   pub keeps : SendingFor leg keys (noted_under shield notes) new
 
-abbrev pub ProtectsTo : {O : Type 0} → Wrapped → Holder → (ℕ → Option NewKey) → (ℕ → List Note) → Sending O → Sending O → List ℕ
+abbrev pub ProtectsTo : {O : Type 0} → Departure → Holder → (ℕ → Option NewKey) → (ℕ → List Note) → Sending O → Sending O → List ℕ
     → Result ℕ Lost → Type 0
-ProtectsTo (Held cause) leg keys notes old new buf result = Refuses cause old new result
+ProtectsTo (Held cause) leg keys notes old new buf result = ContextsRefuse cause old new result
 ProtectsTo (Leaves shield bytes) leg keys notes old new buf result = Wraps leg keys notes shield bytes new buf result
 
 -- one send by the end of a half, and none by the other
-pub record SendsBy {O : Type 0} (told : O → EndTold OutCall) (faults : O → ℕ) (half : Half) (to : Addr) (bytes : List ℕ) (ok : Bool)
+pub record SendsBy {O : Type 0} (log : O → EndLog OutCall) (faults : O → ℕ) (half : Half) (to : Addr) (bytes : List ℕ) (ok : Bool)
     (old new : Sending O) : Type 0 where
-  pub gains : EndGains (told (ends_of half old)) (told (ends_of half new)) (Send to bytes ok)
+  pub gains : EndGains (log (ends_of half old)) (log (ends_of half new)) (Send to bytes ok)
   pub later : faults (ends_of half old) ≤ faults (ends_of half new)
   pub cause : ok ≡ false → Rose (faults (ends_of half old)) (faults (ends_of half new))
   pub other : ends_of (other_half half) new ≡ ends_of (other_half half) old
@@ -225,7 +225,7 @@ pub record SameKeys {O : Type 0} (old new : Sending O) : Type 0 where
   pub tag32 : new.tag32 ≡ old.tag32
 
 -- an accepted packet, towards a leg with that in force
-abbrev pub wrapped_for : (ℕ → Option NewKey) → (ℕ → List Note) → LegSignal → Half → List ℕ → Wrapped
+abbrev pub wrapped_for : (ℕ → Option NewKey) → (ℕ → List Note) → LegSignal → Half → List ℕ → Departure
 wrapped_for keys notes s kind bytes = if s.hold then Held lost.Hold else wrapped_by keys notes s.outbound kind bytes
 
 -- the result of a send of `size` bytes by a local port
@@ -234,21 +234,21 @@ send_answer port size true = Ok size
 send_answer port size false = Err (lost.SendFault port)
 
 -- a packet leaves: it is noted under its key, whether or not its send succeeds
-pub record Forwards {O : Type 0} (told : O → EndTold OutCall) (faults : O → ℕ) (leg : Holder) (keys : ℕ → Option NewKey) (notes : ℕ → List Note)
+pub record Forwards {O : Type 0} (log : O → EndLog OutCall) (faults : O → ℕ) (leg : Holder) (keys : ℕ → Option NewKey) (notes : ℕ → List Note)
     (shield : Option Shield) (bytes : List ℕ) (half : Half) (port : ℕ) (to : Addr) (old new : Sending O) (buf : List ℕ) (result : Result ℕ Lost) : Type 0 where
   pub answer : result ≡ send_answer port (length bytes) (is_ok result)
   pub buffer : take (length bytes) buf ≡ bytes
   pub under : (s : Shield) → shield ≡ Some s → (suite : Suite) × IsOf leg suite keys s.key
   pub keeps : SendingFor leg keys (noted_under shield notes) new
-  pub sends : SendsBy told faults half to bytes (is_ok result) old new
+  pub sends : SendsBy log faults half to bytes (is_ok result) old new
 
-abbrev pub ForwardsTo : {O : Type 0} → (O → EndTold OutCall) → (O → ℕ) → Wrapped → Holder → (ℕ → Option NewKey) → (ℕ → List Note) → Half → (port : ℕ) → Addr
+abbrev pub ForwardsTo : {O : Type 0} → (O → EndLog OutCall) → (O → ℕ) → Departure → Holder → (ℕ → Option NewKey) → (ℕ → List Note) → Half → (port : ℕ) → Addr
     → Sending O → Sending O → List ℕ → Result ℕ Lost → Type 0
-ForwardsTo told faults (Held cause) leg keys notes half port to old new buf result = Refuses cause old new result
-ForwardsTo told faults (Leaves shield bytes) leg keys notes half port to old new buf result =
-    Forwards told faults leg keys notes shield bytes half port to old new buf result
+ForwardsTo log faults (Held cause) leg keys notes half port to old new buf result = ContextsRefuse cause old new result
+ForwardsTo log faults (Leaves shield bytes) leg keys notes half port to old new buf result =
+    Forwards log faults leg keys notes shield bytes half port to old new buf result
 
 -- the keys are those of before, whatever was protected under them
 pub record SameNumbers {O : Type 0} (old new : Sending O) : Type 0 where
-  pub tag80 : number_in (boxed_in new.tag80) ≡ number_in (boxed_in old.tag80)
-  pub tag32 : number_in (boxed_in new.tag32) ≡ number_in (boxed_in old.tag32)
+  pub tag80 : key_number_in (boxed_in new.tag80) ≡ key_number_in (boxed_in old.tag80)
+  pub tag32 : key_number_in (boxed_in new.tag32) ≡ key_number_in (boxed_in old.tag32)

@@ -2,20 +2,20 @@ ghost use Rattle.std.specs.Prelude.{ℕ, ◌≡◌, ◌≤◌, ◌<◌, ◌+◌,
 ghost use Rattle.relay_outside.specs.declared.settings.Config.{Config};
 ghost use Rattle.histories.specs.Words.{or_else};
 ghost use Rattle.call_cell.specs.Cells.{CellEntry, since_end, is_accepted};
-ghost use Rattle.call_cell.specs.Asked.{CountsBelow};
-ghost use Rattle.call_cell.specs.Standing.{LegsFor, LegsRelay, receipt_of};
-ghost use Rattle.call_cell.specs.Committing.{LegCommitsBy, LegsCommit, contexts_due, needs_contexts, said_of};
-ghost use Rattle.call_cell.specs.Expiring.{is_ago};
+ghost use Rattle.call_cell.specs.Demands.{CountsBelow};
+ghost use Rattle.call_cell.specs.LegHistories.{LegsStandFor, LegsRelay, receipt_of};
+ghost use Rattle.call_cell.specs.Commits.{LegCommitsBy, LegsCommit, contexts_due, needs_contexts, said_of};
+ghost use Rattle.call_cell.specs.Expiries.{is_ago};
 
+use crate::dropped_legs::part;
 use crate::gone::Gone;
 use crate::heads::read_head;
 use crate::in_contexts::InContexts;
-use crate::joining::{join, put_keys};
 use crate::leg::{Leg, place_of, place_of_opposite};
+use crate::leg_reports::tell_legs;
+use crate::new_legs::{join, put_keys};
 use crate::outcome::{Incoming, Lost, Outcome, PacketBuffer, Refused};
-use crate::parting::part;
 use crate::prepare::Prepare;
-use crate::reading::tell_legs;
 use crate::signals::{rejected, said_of};
 use port_pool::{LegReports, Signal};
 use relay_outside::{Config, OutEnd};
@@ -98,8 +98,8 @@ fn active_after(outcome: Outcome, active: u64, now: u64) -> u64
 /// on the leg that sends it.
 fn relay_legs<O: OutEnd>(legs: &mut [Leg<O>], packet: &Incoming, buf: &mut PacketBuffer) -> Outcome
     requires held { packet.now.len ≤ 2000 }
-    ensures relays { (config : Config) (h : List CellEntry) (number : ℕ) → LegsFor config h legs.old →
-        LegsRelay O.told O.faults config h (receipt_of number packet.now buf.old) legs.old legs.new buf.new result }
+    ensures relays { (config : Config) (h : List CellEntry) (number : ℕ) → LegsStandFor config h legs.old →
+        LegsRelay O.log O.faults config h (receipt_of number packet.now buf.old) legs.old legs.new buf.new result }
 {
     let Some(at) = place_of(legs, &packet.holder) else {
         return Outcome::Refused(Refused::Stale);
@@ -127,7 +127,7 @@ fn is_ago(now: u64, limit: u64, moment: u64) -> bool
 }
 
 impl<O> Cell<O> {
-    ghost use Rattle.call_cell.specs.Expiring.{due_by};
+    ghost use Rattle.call_cell.specs.Expiries.{due_by};
 
     /// Whether the call is due to end at the cell's last moment.
     /// An answer that rejects every section commits the call, too. A call begins, for its timeout, at the first entry in its
@@ -143,13 +143,13 @@ impl<O> Cell<O> {
 }
 
 impl<O: OutEnd> Cell<O> {
-    ghost use Rattle.call_cell.specs.CellStanding.{CellFor, CellRelays};
-    ghost use Rattle.call_cell.specs.Ending.{CellEnds};
+    ghost use Rattle.call_cell.specs.CellHistories.{CellFor, CellRelays};
+    ghost use Rattle.call_cell.specs.CellEnds.{CellEnds};
     ghost use Rattle.port_pool.specs.Signals.{NewKey};
-    ghost use Rattle.call_cell.specs.Committing.{CellCommits, NamesKeys};
-    ghost use Rattle.call_cell.specs.Expiring.{CellExpires};
-    ghost use Rattle.call_cell.specs.Reading.{CellReads};
-    ghost use Rattle.call_cell.specs.Preparing.{IsReady, FitsPlaces, PrepareFor, CanCome, CellPrepares};
+    ghost use Rattle.call_cell.specs.Commits.{CellCommits, NamesKeys};
+    ghost use Rattle.call_cell.specs.Expiries.{CellExpires};
+    ghost use Rattle.call_cell.specs.LegReports.{CellReads};
+    ghost use Rattle.call_cell.specs.Preparations.{IsReady, FitsPlaces, PrepareFor, CanCome, CellPrepares};
 
     /// An empty cell, which takes no memory.
     pub fn empty(alloc: Global, config: &Config) -> Cell<O>
@@ -171,7 +171,7 @@ impl<O: OutEnd> Cell<O> {
     pub fn relay(&mut self, packet: &Incoming, buf: &mut PacketBuffer, now: u64) -> Outcome
         requires { packet.now.len ≤ 2000 }
         ensures { (config : Config) (h : List CellEntry) (number : ℕ) → CellFor config self.old h →
-            CellRelays O.told O.faults config self.old self.new h (receipt_of number packet.now buf.old) now buf.new result }
+            CellRelays O.log O.faults config self.old self.new h (receipt_of number packet.now buf.old) now buf.new result }
     {
         self.moment = self.moment.max(now);
         let outcome = relay_legs(self.legs.as_mut_slice(), packet, buf);

@@ -4,7 +4,7 @@ ghost use Rattle.sdes_lines.specs.declared.crypto_line.Suite.{Suite};
 ghost use Rattle.rtp_packet.specs.declared.head.Half.TheVariants.{Rtp, Rtcp};
 ghost use Rattle.srtp_sources.specs.Notes.{Note};
 ghost use Rattle.port_pool.specs.Signals.{NewKey};
-ghost use Rattle.call_cell.specs.Keyed.{opened_under, wrapped_under};
+ghost use Rattle.call_cell.specs.Protection.{opened_under, wrapped_under};
 ghost use Rattle.call_cell.specs.Contexts.{no_packet};
 ghost use Rattle.call_cell.specs.Heads.{head_of, half_of, IsHead};
 
@@ -35,7 +35,7 @@ pub(crate) struct Inbound {
 }
 
 impl Inbound {
-    ghost use Rattle.call_cell.specs.Contexts.{InboundFor, OpensTo};
+    ghost use Rattle.call_cell.specs.Contexts.{InboundFor, InboundOpensTo};
 
     /// The contexts of a master key of 16 bytes with a master salt of 14 after it, which have taken no packet.
     pub(crate) fn new(key: &KeyAndSalt, suite: Suite) -> Inbound
@@ -58,7 +58,7 @@ impl Inbound {
         requires head { rtp_head (take len buf.old) ≡ Some found }
         ensures fits { IfOk result (λ size. size ≤ len) }
         ensures head { IfOk result (λ size. rtp_head (take size buf.new) ≡ Some found) }
-        ensures opens { (key : List ℕ × Suite) (notes : List Note) → InboundFor key self.old notes → OpensTo (opened_under key notes Rtp (take len buf.old)) key notes self.old self.new buf.new result }
+        ensures opens { (key : List ℕ × Suite) (notes : List Note) → InboundFor key self.old notes → InboundOpensTo (opened_under key notes Rtp (take len buf.old)) key notes self.old self.new buf.new result }
     {
         let size = self.rtp.unprotect_with_head(buf, len, found)?;
         Ok(size)
@@ -75,7 +75,7 @@ impl Inbound {
         requires head { rtcp_ssrc (take len buf.old) ≡ Some ssrc }
         ensures fits { IfOk result (λ size. size ≤ len) }
         ensures head { IfOk result (λ size. rtcp_ssrc (take size buf.new) ≡ Some ssrc) }
-        ensures opens { (key : List ℕ × Suite) (notes : List Note) → InboundFor key self.old notes → OpensTo (opened_under key notes Rtcp (take len buf.old)) key notes self.old self.new buf.new result }
+        ensures opens { (key : List ℕ × Suite) (notes : List Note) → InboundFor key self.old notes → InboundOpensTo (opened_under key notes Rtcp (take len buf.old)) key notes self.old self.new buf.new result }
     {
         let size = self.rtcp.unprotect_with_ssrc(buf, len, ssrc)?;
         Ok(size)
@@ -93,7 +93,7 @@ impl Inbound {
         requires head { IsHead head (take len buf.old) }
         ensures fits { IfOk result (λ size. size ≤ len) }
         ensures head { IfOk result (λ size. IsHead head (take size buf.new)) }
-        ensures opens { (key : List ℕ × Suite) (notes : List Note) → InboundFor key self.old notes → OpensTo (opened_under key notes (half_of head) (take len buf.old)) key notes self.old self.new buf.new result }
+        ensures opens { (key : List ℕ × Suite) (notes : List Note) → InboundFor key self.old notes → InboundOpensTo (opened_under key notes (half_of head) (take len buf.old)) key notes self.old self.new buf.new result }
     {
         match head {
             Head::Rtp(found) => self.unprotect_rtp(buf, len, found),
@@ -112,7 +112,7 @@ pub(crate) struct Outbound {
 }
 
 impl Outbound {
-    ghost use Rattle.call_cell.specs.Contexts.{OutboundFor, WrapsTo};
+    ghost use Rattle.call_cell.specs.Contexts.{OutboundFor, OutboundWrapsTo};
 
     /// The contexts of a drawn key, which have protected no packet.
     pub(crate) fn new(key: DrawnKey, suite: Suite) -> Outbound
@@ -145,7 +145,7 @@ impl Outbound {
         requires head { rtp_head (take len buf.old) ≡ Some found }
         ensures fits { IfOk result (λ size. size ≤ 2064) }
         ensures number { self.new.number ≡ self.old.number }
-        ensures wraps { (key : NewKey) (notes : List Note) → OutboundFor key self.old notes → WrapsTo (wrapped_under key notes Rtp (take len buf.old)) key notes self.old self.new buf.new result }
+        ensures wraps { (key : NewKey) (notes : List Note) → OutboundFor key self.old notes → OutboundWrapsTo (wrapped_under key notes Rtp (take len buf.old)) key notes self.old self.new buf.new result }
     {
         let (size, _) = self.rtp.protect_with_head(buf, len, found)?;
         Ok(size)
@@ -157,7 +157,7 @@ impl Outbound {
         requires head { rtcp_ssrc (take len buf.old) ≡ Some ssrc }
         ensures fits { IfOk result (λ size. size ≤ 2064) }
         ensures number { self.new.number ≡ self.old.number }
-        ensures wraps { (key : NewKey) (notes : List Note) → OutboundFor key self.old notes → WrapsTo (wrapped_under key notes Rtcp (take len buf.old)) key notes self.old self.new buf.new result }
+        ensures wraps { (key : NewKey) (notes : List Note) → OutboundFor key self.old notes → OutboundWrapsTo (wrapped_under key notes Rtcp (take len buf.old)) key notes self.old self.new buf.new result }
     {
         let (size, _) = self.rtcp.protect_with_ssrc(buf, len, ssrc)?;
         Ok(size)
@@ -176,7 +176,7 @@ impl Outbound {
         requires head { head ≡ head_of half (take len buf.old) }
         ensures fits { IfOk result (λ size. size ≤ 2064) }
         ensures number { self.new.number ≡ self.old.number }
-        ensures wraps { (key : NewKey) (notes : List Note) → OutboundFor key self.old notes → WrapsTo (wrapped_under key notes half (take len buf.old)) key notes self.old self.new buf.new result }
+        ensures wraps { (key : NewKey) (notes : List Note) → OutboundFor key self.old notes → OutboundWrapsTo (wrapped_under key notes half (take len buf.old)) key notes self.old self.new buf.new result }
     {
         let Some(head) = head else {
             return Err(no_packet(half));

@@ -13,7 +13,7 @@ pub(crate) struct Counts {
 }
 
 impl Counts {
-    ghost use Rattle.call_cell.specs.Counting.{no_counts, more_accepted, one_sent, more_sent};
+    ghost use Rattle.call_cell.specs.Counts.{no_counts, more_accepted, one_sent, more_sent};
 
     /// No packet yet.
     pub(crate) fn new() -> Counts

@@ -1,6 +1,6 @@
 ghost use Rattle.std.specs.Prelude.{◌≡◌, ◌<◌, ◌++◌, [], ◌∷◌, None, IfOk, length, nat_lt};
 ghost use Rattle.std.specs.Option.{option_to_list};
-ghost use Rattle.call_cell.specs.Ending.{parts_of};
+ghost use Rattle.call_cell.specs.CellEnds.{parts_of};
 
 use crate::leg::Leg;
 use port_pool::{Lease, MOST_LEGS};
@@ -18,7 +18,7 @@ impl<O> Model for Gone<O> {
     ghost use Rattle.std.specs.Prelude.{◌≤◌, List, map, vec_capacity};
     ghost use Rattle.port_pool.specs.declared.pairs.Lease.{Lease};
     ghost use Rattle.call_cell.specs.declared.leg.Leg.{Leg};
-    ghost use Rattle.call_cell.specs.Ending.{parts_of};
+    ghost use Rattle.call_cell.specs.CellEnds.{parts_of};
 
     ghost Value = { List (Lease × O × O) };
 

@@ -6,14 +6,14 @@ ghost use Rattle.port_pool.specs.Signals.{NewKey};
 ghost use Rattle.call_cell.specs.declared.prepare.Prepare.{Prepare};
 ghost use Rattle.call_cell.specs.declared.cell.Cell.{Cell};
 ghost use Rattle.call_cell.specs.Cells.{CellEntry, Receipt, Shield, since_end, key_numbered};
-ghost use Rattle.call_cell.specs.Keyed.{protected};
+ghost use Rattle.call_cell.specs.Protection.{protected};
 ghost use Rattle.call_cell.specs.Deeds.{deed};
-ghost use Rattle.call_cell.specs.Asked.{CountsBelow};
+ghost use Rattle.call_cell.specs.Demands.{CountsBelow};
 ghost use Rattle.call_cell.specs.Good.{GoodCell};
-ghost use Rattle.call_cell.specs.Lasting.{kept};
-ghost use Rattle.call_cell.specs.CellStanding.{CellFor};
-ghost use Rattle.call_cell.specs.Committing.{NamesKeys, contexts_due, contexts_due_after};
-ghost use Rattle.call_cell.specs.Preparing.{PrepareFor, CanCome, FitsPlaces};
+ghost use Rattle.call_cell.specs.SignalEntries.{lasting_entries};
+ghost use Rattle.call_cell.specs.CellHistories.{CellFor};
+ghost use Rattle.call_cell.specs.Commits.{NamesKeys, contexts_due, contexts_due_after};
+ghost use Rattle.call_cell.specs.Preparations.{PrepareFor, CanCome, FitsPlaces};
 
 /// Theorem (no run-time code): no packet is protected under an index that an earlier packet of its key, half and source had.
 pub fn notes_are_new()
@@ -59,9 +59,9 @@ pub fn counts_are_below_after_each_history<O>()
 /// the same can come, the same names keys of the legs, and an answer makes as many inbound contexts.
 pub fn packets_change_no_condition<O>()
     ensures offers { (config : Config) (h k : List CellEntry) (signal : Prepare O) (call : ℕ) (keys : List NewKey) (dropped : List ℕ) →
-        kept h ≡ kept k → CanCome config (since_end h) signal call keys dropped → CanCome config (since_end k) signal call keys dropped }
+        lasting_entries h ≡ lasting_entries k → CanCome config (since_end h) signal call keys dropped → CanCome config (since_end k) signal call keys dropped }
     ensures answers { (h k : List CellEntry) (signal : List SectionSignal) →
-        kept h ≡ kept k → NamesKeys (since_end h) signal → NamesKeys (since_end k) signal }
+        lasting_entries h ≡ lasting_entries k → NamesKeys (since_end h) signal → NamesKeys (since_end k) signal }
     ensures contexts { (h k : List CellEntry) (signal : List SectionSignal) →
-        kept h ≡ kept k → contexts_due_after (since_end h) signal ≡ contexts_due_after (since_end k) signal }
+        lasting_entries h ≡ lasting_entries k → contexts_due_after (since_end h) signal ≡ contexts_due_after (since_end k) signal }
 {}

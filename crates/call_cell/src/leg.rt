@@ -7,16 +7,16 @@ ghost use Rattle.call_cell.specs.Cells.{is_opposite};
 ghost use Rattle.call_cell.specs.Deeds.{judged_leg};
 ghost use Rattle.call_cell.specs.Heads.{head_of};
 ghost use Rattle.call_cell.specs.Parts.{learner_in};
-ghost use Rattle.call_cell.specs.Standing.{port_by, outcome_of, in_force_with};
-ghost use Rattle.call_cell.specs.Ending.{parts_of};
+ghost use Rattle.call_cell.specs.LegHistories.{port_by, outcome_of, in_force_with};
+ghost use Rattle.call_cell.specs.CellEnds.{parts_of};
 
 use crate::contexts::Outbound;
 use crate::counts::Counts;
 use crate::heads::Head;
 use crate::in_contexts::InContexts;
 use crate::outcome::{Lost, Outcome, PacketBuffer, Refused};
-use crate::receiving::Receiving;
-use crate::sending::Sending;
+use crate::receiver::Receiving;
+use crate::sender::Sending;
 use endpoint_learn::Learner;
 use port_pool::{Holder, Lease, LegReport, LegSignal, Side};
 use relay_outside::{Addr, OutEnd};
@@ -93,14 +93,14 @@ fn outcome_of(port: u16, to: Addr, sent: Result<usize, Lost>) -> Outcome
 }
 
 impl<O> Leg<O> {
-    ghost use Rattle.call_cell.specs.Preparing.{IsFresh};
-    ghost use Rattle.call_cell.specs.Reading.{told_by};
+    ghost use Rattle.call_cell.specs.Preparations.{IsFreshLeg};
+    ghost use Rattle.call_cell.specs.LegReports.{leg_report};
 
     /// A leg that no answer has committed yet: it has received and sent nothing and has no key.
     pub(crate) fn new(holder: Holder, lease: Lease, rtp: O, rtcp: O) -> Leg<O>
         requires pair { lease.pair ≡ holder.pair }
         requires generation { lease.generation ≡ holder.generation }
-        ensures fresh { IsFresh result }
+        ensures fresh { IsFreshLeg result }
         ensures holder { result.holder ≡ holder }
         ensures parts { parts_of result ≡ (lease, rtp, rtcp) }
     {
@@ -141,7 +141,7 @@ impl<O> Leg<O> {
 
     /// What is told of the leg, where it is committed.
     pub(crate) fn report(&self) -> Option<LegReport>
-        ensures { result ≡ told_by self.now }
+        ensures { result ≡ leg_report self.now }
     {
         let (_, learner) = self.committed(Half::Rtp)?;
         Some(LegReport {
@@ -158,9 +158,9 @@ impl<O> Leg<O> {
 }
 
 impl<O> Leg<O> {
-    ghost use Rattle.call_cell.specs.Committing.{LegCommits, is_inbound_anew};
-    ghost use Rattle.call_cell.specs.Standing.{with_sending};
-    ghost use Rattle.call_cell.specs.Preparing.{with_contexts};
+    ghost use Rattle.call_cell.specs.Commits.{LegCommits, is_inbound_anew};
+    ghost use Rattle.call_cell.specs.LegHistories.{with_sending};
+    ghost use Rattle.call_cell.specs.Preparations.{with_contexts};
 
     /// Takes the contexts of a key for a suite.
     pub(crate) fn put(&mut self, suite: Suite, contexts: Box<Option<Outbound>>)
@@ -182,7 +182,7 @@ impl<O> Leg<O> {
 
 impl<O: OutEnd> Leg<O> {
     ghost use Rattle.call_cell.specs.Parts.{ReceivingFor, SendingFor, HasNamed, SameNumbers};
-    ghost use Rattle.call_cell.specs.Standing.{outbound_of, LegAccepts, LegForwardsBy};
+    ghost use Rattle.call_cell.specs.LegHistories.{outbound_of, LegAccepts, LegForwardsBy};
 
     /// Judges the packet in the buffer's first `len` bytes, which the leg received and which has this head, opens it in place,
     /// learns its source and counts it. Returns the plain packet's length. After a refusal nothing has changed.
@@ -225,7 +225,7 @@ impl<O: OutEnd> Leg<O> {
         ensures numbers { SameNumbers self.old.sending self.new.sending }
         ensures forwards { (keys : ℕ → Option NewKey) (notes : ℕ → List Note) → SendingFor self.old.holder keys notes self.old.sending →
             HasNamed (outbound_of self.old.signal) keys self.old.sending →
-            LegForwardsBy O.told O.faults (in_force_with self.old.signal (learner_in half self.old.receiving)) keys notes half (take len buf.old) self.old self.new buf.new result }
+            LegForwardsBy O.log O.faults (in_force_with self.old.signal (learner_in half self.old.receiving)) keys notes half (take len buf.old) self.old self.new buf.new result }
     {
         let Some((signal, learner)) = self.committed(half) else {
             return Outcome::Lost(Lost::Hold);

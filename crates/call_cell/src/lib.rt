@@ -1,39 +1,39 @@
 //! The state of one call's media: which packets are taken, where they go, and under which keys.
 //!
-//! Module `cell` has the cell, `leg` one leg of its call, which `receiving` packets keeps a learner for each half and the contexts
-//! of `contexts`, and by `sending` sends; `heads` reads a packet's head, which is handed down; `counts` counts its packets, and
-//! `reading` tells of the legs that are committed; `gone` takes the legs that went. An offer is collected by `prepare`, and
-//! `joining` brings its legs and keys to those that are there; `in_contexts` is room for what an answer brings, `signals` reads
-//! what it says, and `parting` parts the legs that go from those that stay. Module `outcome` says what becomes of a packet that a
+//! Module `cell` has the cell, `leg` one leg of its call, whose `receiver` keeps a learner for each half and the contexts
+//! of `contexts`, and whose `sender` sends; `heads` reads a packet's head, which is handed down; `counts` counts its packets, and
+//! `leg_reports` tells of the legs that are committed; `gone` takes the legs that went. An offer is collected by `prepare`, and
+//! `new_legs` brings its legs and keys to those that are there; `in_contexts` is room for what an answer brings, `signals` reads
+//! what it says, and `dropped_legs` parts the legs that go from those that stay. Module `outcome` says what becomes of a packet that a
 //! leg received, `law` that no packet is protected under an index that another had, and what a caller knows of a cell by its
 //! history; that what it knows of one history holds of each for which the cell stands.
 //!
-//! `specs/Cells.antt` has the history of a cell and its legs, `specs/Learning.antt` where packets go, `specs/Keyed.antt` what is
-//! taken and sent under a key, `specs/Deeds.antt` what a relay does, `specs/Asked.antt` when a call is due to end and what is
-//! told of its legs, `specs/Good.antt` which histories fit, `specs/Lasting.antt` on which entries legs and keys hang, and
-//! `specs/Numbers.antt` that each key has a number of its own. `specs/CellStanding.antt` says for which histories a cell stands and
-//! what a relay does to it, `specs/Preparing.antt`, `specs/Committing.antt`, `specs/Expiring.antt` and `specs/Ending.antt` the
-//! same of offers, answers, the question whether the call is due, and its end, `specs/Reading.antt` of reports; they stand over
-//! `specs/Standing.antt` for legs, `specs/LegKeys.antt` for their keys, `specs/Counting.antt` for their counts,
-//! `specs/Parting.antt` for legs that go, `specs/Parts.antt` for the parts of a leg, `specs/Contexts.antt` for the contexts of
+//! `specs/Cells.antt` has the history of a cell and its legs, `specs/Lessons.antt` where packets go, `specs/Protection.antt` what is
+//! taken and sent under a key, `specs/Deeds.antt` what a relay does, `specs/Demands.antt` when a call is due to end and what is
+//! told of its legs, `specs/Good.antt` which histories fit, `specs/SignalEntries.antt` on which entries legs and keys hang, and
+//! `specs/Numbers.antt` that each key has a number of its own. `specs/CellHistories.antt` says for which histories a cell stands and
+//! what a relay does to it, `specs/Preparations.antt`, `specs/Commits.antt`, `specs/Expiries.antt` and `specs/CellEnds.antt` the
+//! same of offers, answers, the question whether the call is due, and its end, `specs/LegReports.antt` of reports; they stand over
+//! `specs/LegHistories.antt` for legs, `specs/LegKeys.antt` for their keys, `specs/Counts.antt` for their counts,
+//! `specs/DroppedLegs.antt` for legs that go, `specs/Parts.antt` for the parts of a leg, `specs/Contexts.antt` for the contexts of
 //! one key, and `specs/Heads.antt` for the heads of packets. `proofs/rows` has worked examples.
 #![tactic(auto)]
 
 mod cell;
 mod contexts;
 mod counts;
+mod dropped_legs;
 mod gone;
 mod heads;
 mod in_contexts;
-mod joining;
 mod law;
 mod leg;
+mod leg_reports;
+mod new_legs;
 mod outcome;
-mod parting;
 mod prepare;
-mod reading;
-mod receiving;
-mod sending;
+mod receiver;
+mod sender;
 mod signals;
 
 pub use cell::Cell;

@@ -1,5 +1,5 @@
 ghost use Rattle.std.specs.Prelude.{◌≡◌};
-ghost use Rattle.call_cell.specs.Keyed.{refused_by, lost_by};
+ghost use Rattle.call_cell.specs.Protection.{refused_by, lost_by};
 
 use port_pool::Holder;
 use relay_outside::Addr;

@@ -64,7 +64,7 @@ fn leg_places<O>(alloc: Global, legs: usize) -> Result<(Vec<Leg<O>>, Vec<Leg<O>>
 }
 
 impl<O> Prepare<O> {
-    ghost use Rattle.call_cell.specs.Preparing.{PrepareFor, IsReady, added, parts_added, leg_room, key_room};
+    ghost use Rattle.call_cell.specs.Preparations.{PrepareFor, IsReady, added, parts_added, leg_room, key_room};
 
     /// An empty `Prepare` with capacity for this many legs and keys.
     pub fn reserve(alloc: Global, legs: usize, keys: usize) -> Result<Prepare<O>, OutOfMemory>

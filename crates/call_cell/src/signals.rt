@@ -3,10 +3,10 @@ ghost use Rattle.relay_outside.specs.declared.address.Addr.{Addr};
 ghost use Rattle.port_pool.specs.Signals.{key_eq, is_rejected};
 ghost use Rattle.port_pool.specs.Signals as signals;
 ghost use Rattle.call_cell.specs.Cells.{differs};
-ghost use Rattle.call_cell.specs.Learning.{address};
-ghost use Rattle.call_cell.specs.Keyed.{same_inbound};
-ghost use Rattle.call_cell.specs.Committing.{said_of};
-ghost use Rattle.call_cell.specs.Parting.{FlagsAre};
+ghost use Rattle.call_cell.specs.Lessons.{address};
+ghost use Rattle.call_cell.specs.Protection.{same_inbound};
+ghost use Rattle.call_cell.specs.Commits.{said_of};
+ghost use Rattle.call_cell.specs.DroppedLegs.{FlagsAre};
 
 use port_pool::{Holder, LegSignal, SectionSignal, Side, Signal};
 use relay_outside::{Addr, KeyAndSalt};

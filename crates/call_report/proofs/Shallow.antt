@@ -8,14 +8,14 @@ use Rattle.port_pool.specs.declared.holder.Side.TheVariants.{A, B}
 use Rattle.port_pool.specs.declared.reports.LegReport.{LegReport}
 use Rattle.offer_answer.specs.Rounds.{Round}
 use Rattle.offer_answer.specs.Plan as plan
-use Rattle.call_board.specs.Reports.{Report, leg_value, leg_at, side_value, stands_before, tags_by, report_tree, listing_tree}
+use Rattle.call_board.specs.Reports.{Report, leg_value, leg_report_at, side_value, stands_before, tags_by, report_tree, listing_tree}
 
 legs_shallow : (rounds : List Round) (legs : List LegReport) → items_depth (items_of (map (leg_value rounds) legs)) ≤ 2
 legs_shallow rounds [] = omega arith
-legs_shallow rounds (told ∷ legs) = let rest = legs_shallow rounds legs in omega (arith, rest)
+legs_shallow rounds (report ∷ legs) = let rest = legs_shallow rounds legs in omega (arith, rest)
 
-side_shallow : (told : Report) (side : Side) → depth (side_value told side) ≤ 4
-side_shallow told side = let legs = legs_shallow told.rounds (filter_map (leg_at told.legs side) (numbers 0 8)) in omega (arith, legs)
+side_shallow : (report : Report) (side : Side) → depth (side_value report side) ≤ 4
+side_shallow report side = let legs = legs_shallow report.rounds (filter_map (leg_report_at report.legs side) (numbers 0 8)) in omega (arith, legs)
 
 pair_shallow : (a b : List ℕ) (of_a of_b : Tree) (t : Bool) → depth of_a ≤ 4 → depth of_b ≤ 4 →
     entries_depth (cond t (entry a of_a (entry b of_b no_entries)) (entry b of_b (entry a of_a no_entries))) ≤ 4
@@ -28,10 +28,10 @@ tags_shallow None (Some b) of_a of_b low_a low_b = omega (arith, low_b)
 tags_shallow (Some a) None of_a of_b low_a low_b = omega (arith, low_a)
 tags_shallow (Some a) (Some b) of_a of_b low_a low_b = pair_shallow a b of_a of_b (stands_before a b) low_a low_b
 
-pub report_shallow : (config : Config) (told : Report) → depth (report_tree config told) ≤ 16
+pub report_shallow : (config : Config) (report : Report) → depth (report_tree config report) ≤ 16
 unfolding report_tree
-report_shallow config told =
-    let tags = tags_shallow (plan.tag told.rounds A) (plan.tag told.rounds B) (side_value told A) (side_value told B) (side_shallow told A) (side_shallow told B) in
+report_shallow config report =
+    let tags = tags_shallow (plan.tag report.rounds A) (plan.tag report.rounds B) (side_value report A) (side_value report B) (side_shallow report A) (side_shallow report B) in
     omega (arith, tags)
 
 ids_shallow : (ids : List (List ℕ)) → items_depth (items_of (map Bytes ids)) ≤ 0

@@ -20,4 +20,4 @@ with_tag pairs (Some tag) tree = with_pair pairs tag tree
 
 -- of a call: the pairs with the tag of a side and what is told of the side appended
 abbrev pub with_side : Entries → Report → Side → Entries
-with_side pairs told side = with_tag pairs (plan.tag told.rounds side) (side_value told side)
+with_side pairs report side = with_tag pairs (plan.tag report.rounds side) (side_value report side)

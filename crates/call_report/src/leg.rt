@@ -5,7 +5,7 @@ ghost use Rattle.port_pool.specs.Reports.{CountsFit};
 ghost use Rattle.offer_answer.specs.Rounds.{Round};
 ghost use Rattle.offer_answer.specs.Texts.{host_of_ip};
 ghost use Rattle.offer_answer.specs.Plan as plan;
-ghost use Rattle.call_board.specs.Reports.{counts, endpoint_value, profile_text, leg_value};
+ghost use Rattle.call_board.specs.Reports.{counts_tree, endpoint_value, profile_text, leg_value};
 
 use crate::values::whole;
 use ng_bencode::{Pairs, Value};
@@ -18,22 +18,27 @@ use std::alloc::Global;
 /// What is told of a committed leg, by the profile in force on it.
 pub(crate) fn leg_value(
     alloc: Global,
-    told: &LegReport,
+    report: &LegReport,
     profile: Option<Proto>,
 ) -> Result<Value, OutOfMemory>
-    requires { CountsFit told.now }
-    ensures { (rounds : List Round) → profile ≡ plan.protocol rounds told.now.section told.now.side →
-        IfOk result (λ value. tree_of value ≡ leg_value rounds told.now) }
+    requires { CountsFit report.now }
+    ensures { (rounds : List Round) → profile ≡ plan.protocol rounds report.now.section report.now.side →
+        IfOk result (λ value. tree_of value ≡ leg_value rounds report.now) }
 {
-    let rtcp = counts(alloc, told.rtcp_accepted, told.rtcp_sent)?;
-    let rtp = counts(alloc, told.rtp_accepted, told.rtp_sent)?;
-    let endpoint = endpoint_value(alloc, told.endpoint)?;
+    let rtcp = counts(alloc, report.rtcp_accepted, report.rtcp_sent)?;
+    let rtp = counts(alloc, report.rtp_accepted, report.rtp_sent)?;
+    let endpoint = endpoint_value(alloc, report.endpoint)?;
     let mut pairs = Pairs::new(alloc);
     put_pair(alloc, &mut pairs, b"RTCP", rtcp)?;
     put_pair(alloc, &mut pairs, b"RTP", rtp)?;
     put_pair(alloc, &mut pairs, b"endpoint", endpoint)?;
-    put_pair(alloc, &mut pairs, b"index", whole(told.section as u64 + 1))?;
-    put_pair(alloc, &mut pairs, b"local port", whole(told.port as u64))?;
+    put_pair(
+        alloc,
+        &mut pairs,
+        b"index",
+        whole(report.section as u64 + 1),
+    )?;
+    put_pair(alloc, &mut pairs, b"local port", whole(report.port as u64))?;
     put_text(alloc, &mut pairs, b"protocol", profile_text(profile))?;
     Ok(Value::dict(pairs))
 }
@@ -42,7 +47,7 @@ pub(crate) fn leg_value(
 fn counts(alloc: Global, accepted: u64, sent: u64) -> Result<Value, OutOfMemory>
     requires accepted { accepted < 2 ^ 63 }
     requires sent { sent < 2 ^ 63 }
-    ensures { IfOk result (λ value. tree_of value ≡ counts accepted sent) }
+    ensures { IfOk result (λ value. tree_of value ≡ counts_tree accepted sent) }
 {
     let mut pairs = Pairs::new(alloc);
     put_pair(alloc, &mut pairs, b"accepted", whole(accepted))?;

@@ -1,18 +1,18 @@
 //! The reports of the ng protocol, as bencoded values: what is told of a live call, and which calls are live.
 //!
-//! Module `querying` reports a call: the moments of its first and of its last accepted offer or answer, and its tags. `medias` has
+//! Module `report` reports a call: the moments of its first and of its last accepted offer or answer, and its tags. `medias` has
 //! the committed legs of a side, `leg` one of them with its counts of packets; `tag_order` says which of two tags stands first.
-//! `listing` has the call-ids of the live calls. `values` makes the integers, the lists and the dictionaries of a report.
+//! `live_calls` has the call-ids of the live calls. `values` makes the integers, the lists and the dictionaries of a report.
 //! Reports are `report_tree` and `listing_tree` of `call_board`'s `specs/Reports.antt`; `specs/Pairs.antt` has dictionaries that
 //! grow, `specs/Tags.antt` the order of a call's tags.
 #![tactic(auto)]
 
 mod leg;
-mod listing;
+mod live_calls;
 mod medias;
-mod querying;
+mod report;
 mod tag_order;
 mod values;
 
-pub use listing::list;
-pub use querying::query;
+pub use live_calls::list;
+pub use report::query;

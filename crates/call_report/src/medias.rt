@@ -9,7 +9,7 @@ ghost use Rattle.port_pool.specs.Signals.{side_eq};
 ghost use Rattle.port_pool.specs.Reports.{CountsFit};
 ghost use Rattle.offer_answer.specs.Rounds.{Round};
 ghost use Rattle.offer_answer.specs.Dialogs.{DialogFor};
-ghost use Rattle.call_board.specs.Reports.{leg_value, leg_at, Report, side_value};
+ghost use Rattle.call_board.specs.Reports.{leg_value, leg_report_at, Report, side_value};
 
 use crate::leg::leg_value;
 use crate::values::put_item;
@@ -29,8 +29,8 @@ pub(crate) fn side_value(
     side: Side,
 ) -> Result<Value, OutOfMemory>
     requires { (report : LegReport) → In report legs.now → CountsFit report }
-    ensures { (config : Config) (told : Report) → DialogFor config dialog.now told.rounds → told.legs ≡ legs.now →
-        IfOk result (λ value. tree_of value ≡ side_value told side) }
+    ensures { (config : Config) (report : Report) → DialogFor config dialog.now report.rounds → report.legs ≡ legs.now →
+        IfOk result (λ value. tree_of value ≡ side_value report side) }
 {
     let medias = medias(alloc, dialog, legs, side)?;
     let mut pairs = Pairs::new(alloc);
@@ -47,15 +47,15 @@ fn medias(
 ) -> Result<Values, OutOfMemory>
     requires { (report : LegReport) → In report legs.now → CountsFit report }
     ensures { (config : Config) (rounds : List Round) → DialogFor config dialog.now rounds →
-        IfOk result (λ values. map tree_of (list_in values) ≡ map (leg_value rounds) (filter_map (leg_at legs.now side) (numbers 0 8))) }
+        IfOk result (λ values. map tree_of (list_in values) ≡ map (leg_value rounds) (filter_map (leg_report_at legs.now side) (numbers 0 8))) }
 {
     let mut medias = Values::new(alloc);
     'sections: for section in 0..MOST_SECTIONS as u8 {
-        let Some(told) = leg_at(legs, side, section) else {
+        let Some(report) = leg_at(legs, side, section) else {
             continue;
         };
-        let profile = dialog.protocol(told.section as usize, told.side);
-        let leg = leg_value(alloc, &told, profile)?;
+        let profile = dialog.protocol(report.section as usize, report.side);
+        let leg = leg_value(alloc, &report, profile)?;
         put_item(&mut medias, leg)?;
     }
     Ok(medias)
@@ -63,20 +63,20 @@ fn medias(
 
 /// What is told of the leg of a section, from 0, and a side. `None`: nothing is.
 fn leg_at(legs: &LegReports, side: Side, section: u8) -> Option<LegReport>
-    ensures { result ≡ leg_at legs.now side section }
+    ensures { result ≡ leg_report_at legs.now side section }
 {
     'legs: for index in 0..legs.len() {
-        let told = legs.get(index);
-        if is_of(&told, side, section) {
-            return Some(told);
+        let report = legs.get(index);
+        if is_of(&report, side, section) {
+            return Some(report);
         }
     }
     None
 }
 
 /// Whether this is told of the leg of a section, from 0, and a side.
-fn is_of(told: &LegReport, side: Side, section: u8) -> bool
-    ensures { result ≡ (told.now.section == section) && side_eq told.now.side side }
+fn is_of(report: &LegReport, side: Side, section: u8) -> bool
+    ensures { result ≡ (report.now.section == section) && side_eq report.now.side side }
 {
-    told.section == section && told.side == side
+    report.section == section && report.side == side
 }

@@ -5,11 +5,11 @@
 
 mod difference;
 mod names;
-mod playing;
+mod playback;
 
 use crate::difference::Difference;
 use crate::names::read_names;
-use crate::playing::play;
+use crate::playback::play;
 use std::process::ExitCode;
 use std::rt::Files;
 use std::sync::Wait;

@@ -14,7 +14,7 @@ use Rattle.clap.specs.Faults.{turn_fault, walk_fault}
 use Rattle.clap.specs.declared.builder.action.ArgAction.TheVariants.{Set}
 use Rattle.clap.specs.declared.parser.matches.ValueSource.TheVariants.{CommandLine}
 use Rattle.clap.proofs.WalkLemmas.{both}
-use Rattle.command_line.specs.Grammar.{named, values_of, is_option}
+use Rattle.command_line.specs.Grammar.{option_named, values_of, is_option}
 
 -- The form of a word.
 
@@ -25,7 +25,7 @@ cut true false z p q e = cc
 cut false y z p q e = cc
 
 -- `clap` cuts the word as the grammar does
-pub long : (word name value : Text) → named word ≡ Some (name, value) → long_of word ≡ Some (name, Some value)
+pub long : (word name value : Text) → option_named word ≡ Some (name, value) → long_of word ≡ Some (name, Some value)
 long [] name value e = cc
 long (a ∷ []) name value e = cc
 long (a ∷ b ∷ []) name value e =
@@ -37,14 +37,14 @@ long (a ∷ b ∷ x ∷ xs) name value e =
     rw (parts.0, parts.1, parts.2) (ap (λ (p : Text × Text). Some (p.0, Some p.1)) parts.3)
 
 -- it is not `--` alone
-pub no_dashes : (word name value : Text) → named word ≡ Some (name, value) → bytes_eq word (45 ∷ 45 ∷ []) ≡ false
+pub no_dashes : (word name value : Text) → option_named word ≡ Some (name, value) → bytes_eq word (45 ∷ 45 ∷ []) ≡ false
 no_dashes word name value e = go (bytes_eq word (45 ∷ 45 ∷ [])) refl
   where
     go : (b : Bool) → bytes_eq word (45 ∷ 45 ∷ []) ≡ b → bytes_eq word (45 ∷ 45 ∷ []) ≡ false
     go false is = is
     go true is =
         let same : word ≡ 45 ∷ 45 ∷ [] = (bytes_eq-Decides word (45 ∷ 45 ∷ [])).0 is in
-        let none : None ≡ Some (name, value) = ap named (sym same) ∙ e in
+        let none : None ≡ Some (name, value) = ap option_named (sym same) ∙ e in
         cc
 
 -- Rows.
@@ -129,19 +129,19 @@ held rows = record { rows = rows; pending = None; skip = 0 }
 
 module _ (rules : List Rule) where
   -- the word adds a row
-  pub met : (word name value : Text) (o : IsOneValued rules name) (rows : List Row) → named word ≡ Some (name, value) → has_row name rows ≡ false
+  pub met : (word name value : Text) (o : IsOneValued rules name) (rows : List Row) → option_named word ≡ Some (name, value) → has_row name rows ≡ false
       → word_met rules [] false idle 1 word (held rows) ≡ (held (rows ++ use_row o.rule value ∷ []), next idle)
   met word name value o rows is none =
       let new : has_row o.rule.id rows ≡ false = rw o.id none in
       rw (no_dashes word name value is, long word name value is, o.found, o.takes, o.sets, same_rows o.rule.id rows new, fresh o.rule.id _ _ rows new) refl
 
-  pub step : (word name value : Text) (o : IsOneValued rules name) (rows : List Row) → named word ≡ Some (name, value) → has_row name rows ≡ false
+  pub step : (word name value : Text) (o : IsOneValued rules name) (rows : List Row) → option_named word ≡ Some (name, value) → has_row name rows ≡ false
       → walked rules [] (walk_from (held rows)) word ≡ walk_from (held (rows ++ use_row o.rule value ∷ []))
   unfolding walked
   step word name value o rows is none = rw (met word name value o rows is none) refl
 
 module _ (s : Shape) (again : s.args_override_self ≡ false) where
-  pub turn : (word name value : Text) (o : IsOneValued s.rules name) (rows : List Row) → named word ≡ Some (name, value) → has_row name rows ≡ false
+  pub turn : (word name value : Text) (o : IsOneValued s.rules name) (rows : List Row) → option_named word ≡ Some (name, value) → has_row name rows ≡ false
       → accepts o.rule.ignore_case (parser_of_value o.rule.parser) value ≡ true → turn_fault s [] (walk_from (held rows)) word ≡ []
   turn word name value o rows is none good =
       let new : has_row o.rule.id rows ≡ false = rw o.id none in
@@ -149,17 +149,17 @@ module _ (s : Shape) (again : s.args_override_self ≡ false) where
 
 -- a word of an option
 option_said : (names : List Text) (word : Text) → is_option names word ≡ true
-    → (name : Text) × (value : Text) × (named word ≡ Some (name, value)) × (list_any (bytes_eq name) names ≡ true)
-option_said names word is = go (named word) refl
+    → (name : Text) × (value : Text) × (option_named word ≡ Some (name, value)) × (list_any (bytes_eq name) names ≡ true)
+option_said names word is = go (option_named word) refl
   where
-    go : (o : Option (Text × Text)) → named word ≡ o
-        → (name : Text) × (value : Text) × (named word ≡ Some (name, value)) × (list_any (bytes_eq name) names ≡ true)
+    go : (o : Option (Text × Text)) → option_named word ≡ o
+        → (name : Text) × (value : Text) × (option_named word ≡ Some (name, value)) × (list_any (bytes_eq name) names ≡ true)
     go None e =
         let bad : false ≡ true = rw e at is in
         cc
     go (Some said) e = (said.0, said.1, e, rw e at is)
 
-pub values_before : (other word name value : Text) (words : List Text) → named word ≡ Some (name, value)
+pub values_before : (other word name value : Text) (words : List Text) → option_named word ≡ Some (name, value)
     → values_of other (word ∷ words) ≡ cons_option (if bytes_eq name other then Some value else None) (values_of other words)
 values_before other word name value words is = rw is refl
 
@@ -194,7 +194,7 @@ module _ (s : Shape) (again : s.args_override_self ≡ false) (names : List Text
   merged_none name (Some row) = refl
 
   -- the first word gives its option the one value
-  readied : (word name value : Text) (words : List Text) (rows : List Row) → named word ≡ Some (name, value) → IsReady name rows (word ∷ words)
+  readied : (word name value : Text) (words : List Text) (rows : List Row) → option_named word ≡ Some (name, value) → IsReady name rows (word ∷ words)
       → (values_of name words ≡ []) × (has_row name rows ≡ false) × IsAccepted name value
   readied word name value words rows is ready =
       let here : values_of name (word ∷ words) ≡ value ∷ values_of name words = values_before name word name value words is
@@ -209,7 +209,7 @@ module _ (s : Shape) (again : s.args_override_self ≡ false) (names : List Text
             (ap (λ (l : List Text). drop 1 l) same, one.2, subst (IsAccepted name) (sym first) one.3)
       ]
 
-  go_on : (word name value other : Text) (words : List Text) (rows : List Row) (row : Row) → named word ≡ Some (name, value) → row.id ≡ name
+  go_on : (word name value other : Text) (words : List Text) (rows : List Row) (row : Row) → option_named word ≡ Some (name, value) → row.id ≡ name
       → values_of name words ≡ [] → IsReady other rows (word ∷ words) → IsReady other (rows ++ row ∷ []) words
   go_on word name value other words rows row is id none ready = go (bytes_eq name other) refl
     where
@@ -222,7 +222,7 @@ module _ (s : Shape) (again : s.args_override_self ≡ false) (names : List Text
             | inr one ↦ inr (one.0, sym same ∙ one.1, has_last other rows row one.2 (rw id e), one.3)
           ]
 
-  has_after : (word name value other : Text) (words : List Text) (rows last : List Row) (o : IsOneValued s.rules name) → named word ≡ Some (name, value)
+  has_after : (word name value other : Text) (words : List Text) (rows last : List Row) (o : IsOneValued s.rules name) → option_named word ≡ Some (name, value)
       → has_row name rows ≡ false
       → find (λ r. bytes_eq r.id other) last ≡ merged other (find (λ r. bytes_eq r.id other) (rows ++ use_row o.rule value ∷ [])) (values_of other words)
       → find (λ r. bytes_eq r.id other) last ≡ merged other (find (λ r. bytes_eq r.id other) rows) (values_of other (word ∷ words))

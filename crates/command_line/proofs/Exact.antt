@@ -17,9 +17,9 @@ use Rattle.clap.specs.declared.builder.value_parser.Reading.{Reading}
 use Rattle.clap.specs.declared.builder.value_parser.Reading.TheVariants.{AsWritten}
 use Rattle.clap.specs.declared.error.kind.ErrorKind.TheVariants as kind
 use Rattle.clap.proofs.WalkLemmas.{both}
-use Rattle.command_line.specs.Grammar.{is_in_form, is_option, is_respelled, named, one_value, values_of}
+use Rattle.command_line.specs.Grammar.{is_in_form, is_option, is_respelled, option_named, one_value, values_of}
 use Rattle.command_line.specs.Numbers.{number_within}
-use Rattle.command_line.specs.Words.{number_in, number_of}
+use Rattle.command_line.specs.Words.{number_in, option_number}
 use Rattle.command_line.proofs.Allowed.{IsAccepted, IsOneValued, IsReady, held, long, merged, no_dashes, step, use_row, values_before}
 use Rattle.command_line.proofs.Defaults.{or_default}
 use Rattle.command_line.proofs.Laws.{unused, used}
@@ -53,8 +53,8 @@ named_option names (first ∷ rules) name rule all found takes = go (not (is_som
   where
     of_first : (not (is_some first.index) && has_long first name) ≡ true → takes_values first ≡ true → list_any (bytes_eq name) names ≡ true
     of_first has takes =
-        let named : (is_empty first.aliases && option_map_or (λ name. list_any (bytes_eq name) names) first.long true) ≡ true = rw takes at (both (is_named names first) (list_all (is_named names) rules) all).0 in
-        let parts = both (is_empty first.aliases) (option_map_or (λ name. list_any (bytes_eq name) names) first.long true) named in
+        let option_named : (is_empty first.aliases && option_map_or (λ name. list_any (bytes_eq name) names) first.long true) ≡ true = rw takes at (both (is_named names first) (list_all (is_named names) rules) all).0 in
+        let parts = both (is_empty first.aliases) (option_map_or (λ name. list_any (bytes_eq name) names) first.long true) option_named in
         long_is names first.aliases first.long name parts.0 (both (not (is_some first.index)) (has_long first name) has).1 parts.1
 
     go : (b : Bool) → (not (is_some first.index) && has_long first name) ≡ b → (arg_by_long rules name ≡ Some rule → list_any (bytes_eq name) names ≡ true) → list_any (bytes_eq name) names ≡ true
@@ -68,10 +68,10 @@ plain_so false e = refl
 plain_so true e = cc
 
 -- the text of a word in the form
-form_said : (word : Text) → is_in_form word ≡ true → (name : Text) × (value : Text) × (named word ≡ Some (name, value)) × (is_respelled value ≡ false)
-form_said word is = go (named word) refl
+form_said : (word : Text) → is_in_form word ≡ true → (name : Text) × (value : Text) × (option_named word ≡ Some (name, value)) × (is_respelled value ≡ false)
+form_said word is = go (option_named word) refl
   where
-    go : (o : Option (Text × Text)) → named word ≡ o → (name : Text) × (value : Text) × (named word ≡ Some (name, value)) × (is_respelled value ≡ false)
+    go : (o : Option (Text × Text)) → option_named word ≡ o → (name : Text) × (value : Text) × (option_named word ≡ Some (name, value)) × (is_respelled value ≡ false)
     go None e =
         let bad : false ≡ true = rw e at is in
         cc
@@ -100,7 +100,7 @@ has_new name (row ∷ rows) last id = go (bytes_eq row.id name) refl (has_new na
 module _ (s : Shape) (again : s.args_override_self ≡ false) (names : List Text) (facts : (name : Text) → list_any (bytes_eq name) names ≡ true → IsOneValued s.rules name)
     (only : list_all (is_named names) s.rules ≡ true) where
   -- the name of a word that is refused for nothing is that of an option
-  met_name : (word name value : Text) (rows : List Row) → named word ≡ Some (name, value) → turn_fault s [] (walk_from (held rows)) word ≡ []
+  met_name : (word name value : Text) (rows : List Row) → option_named word ≡ Some (name, value) → turn_fault s [] (walk_from (held rows)) word ≡ []
       → list_any (bytes_eq name) names ≡ true
   met_name word name value rows is none = go (arg_by_long s.rules name) refl
     where
@@ -117,7 +117,7 @@ module _ (s : Shape) (again : s.args_override_self ≡ false) (names : List Text
               cc
 
   -- and that option had no row, and takes the value
-  met_use : (word name value : Text) (rows : List Row) (o : IsOneValued s.rules name) → named word ≡ Some (name, value) → turn_fault s [] (walk_from (held rows)) word ≡ []
+  met_use : (word name value : Text) (rows : List Row) (o : IsOneValued s.rules name) → option_named word ≡ Some (name, value) → turn_fault s [] (walk_from (held rows)) word ≡ []
       → (has_row name rows ≡ false) × (accepts o.rule.ignore_case (parser_of_value o.rule.parser) value ≡ true)
   met_use word name value rows o is none = (subst (λ (n : Text). has_row n rows ≡ false) o.id (fresh (has_row o.rule.id rows) refl), taken (accepts o.rule.ignore_case (parser_of_value o.rule.parser) value) refl)
     where
@@ -155,7 +155,7 @@ module _ (s : Shape) (again : s.args_override_self ≡ false) (names : List Text
       let named_so : is_option names word ≡ true = rw (said.2, among) refl in
       (rw named_so rest.0, λ other h. ready word said.0 said.1 other words rows o said.2 faults.0 used.0 (rest.1 other h))
     where
-      ready : (word name value other : Text) (words : List Text) (rows : List Row) (o : IsOneValued s.rules name) → named word ≡ Some (name, value)
+      ready : (word name value other : Text) (words : List Text) (rows : List Row) (o : IsOneValued s.rules name) → option_named word ≡ Some (name, value)
           → turn_fault s [] (walk_from (held rows)) word ≡ [] → has_row name rows ≡ false
           → IsReady s again names facts other (rows ++ use_row o.rule value ∷ []) words → IsReady s again names facts other rows (word ∷ words)
       ready word name value other words rows o is none new rest = go (bytes_eq name other) refl
@@ -193,7 +193,7 @@ pub plain_values : (name : Text) (words : List Text) → list_all is_in_form wor
 plain_values name [] form = refl
 plain_values name (word ∷ words) form = go (bytes_eq said.0 name) refl (plain_values name words (both _ _ form).1)
   where
-    said : (n : Text) × (value : Text) × (named word ≡ Some (n, value)) × (is_respelled value ≡ false)
+    said : (n : Text) × (value : Text) × (option_named word ≡ Some (n, value)) × (is_respelled value ≡ false)
     said = form_said word (both (is_in_form word) (list_all is_in_form words) form).0
 
     before : values_of name (word ∷ words) ≡ cons_option (if bytes_eq said.0 name then Some said.1 else None) (values_of name words)
@@ -225,7 +225,7 @@ module _ (s : Shape) (again : s.args_override_self ≡ false) (names : List Text
   pub number_is : (least most default : ℕ) → most < 18446744073709551616 → list_all is_in_form words ≡ true
       → option_and_then (number_in least most) (option_and_then row_text (or_default name None s.rules)) ≡ Some default
       → option_map reading_by (arg_by_long s.rules name) ≡ Some AsWritten
-      → number_of least most name rows ≡ one_value (number_within least most) (Some default) (values_of name words)
+      → option_number least most name rows ≡ one_value (number_within least most) (Some default) (values_of name words)
   number_is least most default fits form dflt reading =
       let written : Some (reading_by (facts name among).rule) ≡ Some AsWritten = sym (rw (facts name among).found refl) ∙ reading in
       elim ready [

@@ -24,7 +24,7 @@ use Rattle.relay_outside.specs.declared.settings.Config.{Config}
 use Rattle.command_line.specs.Grammar.{one_value, values_of}
 use Rattle.command_line.specs.Numbers.{number_within}
 use Rattle.command_line.specs.Values.{config_from, load_from, replay_from, settings_from}
-use Rattle.command_line.specs.Words.{number_in, number_of, rows_if}
+use Rattle.command_line.specs.Words.{number_in, option_number, rows_if}
 use Rattle.command_line.specs.declared.settings.LoadSettings.{LoadSettings}
 use Rattle.command_line.specs.declared.settings.ReplaySettings.{ReplaySettings}
 use Rattle.command_line.specs.declared.settings.Settings.{Settings}
@@ -125,13 +125,13 @@ module _ (s : Shape) (again : s.args_override_self ≡ false) (names : List Text
     pub says_number : (least most default x : ℕ) → most < 18446744073709551616 → one_value (number_within least most) (Some default) (values_of name words) ≡ Some x
         → option_and_then (number_in least most) (option_and_then row_text (or_default name None s.rules)) ≡ Some default
         → option_map reading_by (arg_by_long s.rules name) ≡ Some AsWritten
-        → number_of least most name rows ≡ Some x
+        → option_number least most name rows ≡ Some x
     says_number least most default x fits is dflt reading = go (values_of name words) refl is
       where
         written : Some (reading_by (facts name among).rule) ≡ Some AsWritten
         written = sym (rw (facts name among).found refl) ∙ reading
 
-        go : (values : List Text) → values_of name words ≡ values → one_value (number_within least most) (Some default) values ≡ Some x → number_of least most name rows ≡ Some x
+        go : (values : List Text) → values_of name words ≡ values → one_value (number_within least most) (Some default) values ≡ Some x → option_number least most name rows ≡ Some x
         go [] e is = rw (unused e) (dflt ∙ is)
         go (value ∷ []) e is =
             let written_as : option_map (λ (how : Reading). read_as how value) (Some (reading_by (facts name among).rule)) ≡ Some value = ap (option_map (λ (how : Reading). read_as how value)) written in

@@ -11,9 +11,9 @@ use Rattle.clap.specs.Words.{fault_of, matches_of}
 use Rattle.clap.proofs.FaultLemmas.{leaf_fault}
 use Rattle.relay_outside.specs.Settings.{pair_count}
 use Rattle.command_line.specs.Commands.{app_of_rules, load_app, load_rules}
-use Rattle.command_line.specs.Grammar.{allowed_load, call_count, is_in_form, is_option, lane_count, load_names, one_value, packet_count, seed_number, values_of}
+use Rattle.command_line.specs.Grammar.{allowed_load, call_count, is_in_form, is_option, lanes_value, load_names, one_value, packet_count, seed_number, values_of}
 use Rattle.command_line.specs.Values.{default_config, load_from}
-use Rattle.command_line.specs.Words.{load_of, load_words, loads_of, number_of, replay_words, taken, task_after}
+use Rattle.command_line.specs.Words.{load_of, load_words, loads_of, option_number, replay_words, taken, task_after}
 use Rattle.command_line.specs.declared.settings.LoadSettings.{LoadSettings}
 use Rattle.command_line.specs.declared.settings.Task.{Task}
 use Rattle.command_line.specs.declared.settings.Task.TheVariants.{Load}
@@ -45,7 +45,7 @@ load_law words s is =
       (
         ready top refl load_names facts words (codes "packets") packet_count (Some 200) parts.1 parts.5 (λ value h. (read_alike 1 1000 parts.1 value (omega arith) h).0),
         (
-          ready top refl load_names facts words (codes "lanes") lane_count (Some 4) parts.2 parts.6 (λ value h. (read_alike 1 16 parts.2 value (omega arith) h).0),
+          ready top refl load_names facts words (codes "lanes") lanes_value (Some 4) parts.2 parts.6 (λ value h. (read_alike 1 16 parts.2 value (omega arith) h).0),
           (
             ready top refl load_names facts words (codes "seed") seed_number (Some 1) parts.3 parts.7 (λ value h. (read_alike 0 18446744073709551615 parts.3 value (omega arith) h).0),
             tt,
@@ -60,10 +60,10 @@ load_law words s is =
     let checked : check_fault top rows false ≡ [] = refl in
     let faultless : fault_of app words ≡ [] = leaf_fault (built app) nothing_held words refl ∙ no_fault top refl load_names facts words walk refl checked in
     let rows_is : matches_of app words ≡ rows = rows_are top refl load_names facts words walk in
-    let calls : number_of 1 1000 (codes "calls") rows ≡ Some parts.0 = says_number top refl load_names facts words rows (codes "calls") refl (found (codes "calls") refl) 1 1000 50 parts.0 (omega arith) parts.4 refl refl in
-    let packets : number_of 1 1000 (codes "packets") rows ≡ Some parts.1 = says_number top refl load_names facts words rows (codes "packets") refl (found (codes "packets") refl) 1 1000 200 parts.1 (omega arith) parts.5 refl refl in
-    let lanes : number_of 1 16 (codes "lanes") rows ≡ Some parts.2 = says_number top refl load_names facts words rows (codes "lanes") refl (found (codes "lanes") refl) 1 16 4 parts.2 (omega arith) parts.6 refl refl in
-    let seed : number_of 0 18446744073709551615 (codes "seed") rows ≡ Some parts.3 = says_number top refl load_names facts words rows (codes "seed") refl (found (codes "seed") refl) 0 18446744073709551615 1 parts.3 (omega arith) parts.7 refl refl in
+    let calls : option_number 1 1000 (codes "calls") rows ≡ Some parts.0 = says_number top refl load_names facts words rows (codes "calls") refl (found (codes "calls") refl) 1 1000 50 parts.0 (omega arith) parts.4 refl refl in
+    let packets : option_number 1 1000 (codes "packets") rows ≡ Some parts.1 = says_number top refl load_names facts words rows (codes "packets") refl (found (codes "packets") refl) 1 1000 200 parts.1 (omega arith) parts.5 refl refl in
+    let lanes : option_number 1 16 (codes "lanes") rows ≡ Some parts.2 = says_number top refl load_names facts words rows (codes "lanes") refl (found (codes "lanes") refl) 1 16 4 parts.2 (omega arith) parts.6 refl refl in
+    let seed : option_number 0 18446744073709551615 (codes "seed") rows ≡ Some parts.3 = says_number top refl load_names facts words rows (codes "seed") refl (found (codes "seed") refl) 0 18446744073709551615 1 parts.3 (omega arith) parts.7 refl refl in
     let all : load_of rows ≡ Some s = same_load _ _ _ _ _ _ _ _ _ (calls ∙ sym parts.4) (packets ∙ sym parts.5) (lanes ∙ sym parts.6) (seed ∙ sym parts.7) may.1 in
     ap (option_and_then load_of) (taken_by _ _ rows faultless rows_is) ∙ all
 
@@ -82,10 +82,10 @@ load_else words form none = go (fault_of app words) refl
         let found : (name : Text) → list_any (bytes_eq name) load_names ≡ true → find (λ r. bytes_eq r.id name) rows ≡ or_default name (merged top refl load_names facts name None (values_of name words)) top.rules =
         λ name among. find_default name top.rules walk.last ∙ ap (λ (o : Option Row). or_default name o top.rules) (walk.has name among) in
         let rows_is : matches_of app words ≡ rows = rows_are top refl load_names facts words walk in
-        let calls : number_of 1 1000 (codes "calls") rows ≡ one_value call_count (Some 50) (values_of (codes "calls") words) = number_is top refl load_names facts words rows (codes "calls") refl (found (codes "calls") refl) (each.1 (codes "calls") refl) 1 1000 50 (omega arith) form refl refl in
-        let packets : number_of 1 1000 (codes "packets") rows ≡ one_value packet_count (Some 200) (values_of (codes "packets") words) = number_is top refl load_names facts words rows (codes "packets") refl (found (codes "packets") refl) (each.1 (codes "packets") refl) 1 1000 200 (omega arith) form refl refl in
-        let lanes : number_of 1 16 (codes "lanes") rows ≡ one_value lane_count (Some 4) (values_of (codes "lanes") words) = number_is top refl load_names facts words rows (codes "lanes") refl (found (codes "lanes") refl) (each.1 (codes "lanes") refl) 1 16 4 (omega arith) form refl refl in
-        let seed : number_of 0 18446744073709551615 (codes "seed") rows ≡ one_value seed_number (Some 1) (values_of (codes "seed") words) = number_is top refl load_names facts words rows (codes "seed") refl (found (codes "seed") refl) (each.1 (codes "seed") refl) 0 18446744073709551615 1 (omega arith) form refl refl in
+        let calls : option_number 1 1000 (codes "calls") rows ≡ one_value call_count (Some 50) (values_of (codes "calls") words) = number_is top refl load_names facts words rows (codes "calls") refl (found (codes "calls") refl) (each.1 (codes "calls") refl) 1 1000 50 (omega arith) form refl refl in
+        let packets : option_number 1 1000 (codes "packets") rows ≡ one_value packet_count (Some 200) (values_of (codes "packets") words) = number_is top refl load_names facts words rows (codes "packets") refl (found (codes "packets") refl) (each.1 (codes "packets") refl) 1 1000 200 (omega arith) form refl refl in
+        let lanes : option_number 1 16 (codes "lanes") rows ≡ one_value lanes_value (Some 4) (values_of (codes "lanes") words) = number_is top refl load_names facts words rows (codes "lanes") refl (found (codes "lanes") refl) (each.1 (codes "lanes") refl) 1 16 4 (omega arith) form refl refl in
+        let seed : option_number 0 18446744073709551615 (codes "seed") rows ≡ one_value seed_number (Some 1) (values_of (codes "seed") words) = number_is top refl load_names facts words rows (codes "seed") refl (found (codes "seed") refl) (each.1 (codes "seed") refl) 0 18446744073709551615 1 (omega arith) form refl refl in
         let all : load_of rows ≡ allowed_load words = same_load _ _ _ _ _ _ _ _ _ calls packets lanes seed (sym (rw each.0 refl)) in
         ap (option_and_then load_of) (taken_by _ _ rows e rows_is) ∙ all ∙ none
 
@@ -110,7 +110,7 @@ from_config (Some n) (Some p) (Some l) None s is = cc
 words_config : (rows : Option (List Row)) (s : LoadSettings) → option_and_then load_of rows ≡ Some s → s.config ≡ default_config
 words_config None s is = cc
 words_config (Some rows) s is =
-    from_config (number_of 1 1000 (codes "calls") rows) (number_of 1 1000 (codes "packets") rows) (number_of 1 16 (codes "lanes") rows) (number_of 0 18446744073709551615 (codes "seed") rows) s is
+    from_config (option_number 1 1000 (codes "calls") rows) (option_number 1 1000 (codes "packets") rows) (option_number 1 16 (codes "lanes") rows) (option_number 0 18446744073709551615 (codes "seed") rows) s is
 
 -- whatever the words of `load`, its configuration is that one
 pub load_config : (words : List Text) (load : LoadSettings) → task_after (codes "load") words ≡ Some (Load load) → load.config ≡ default_config

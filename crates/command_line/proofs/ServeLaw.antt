@@ -11,9 +11,9 @@ use Rattle.clap.specs.Kinds.{Kinds}
 use Rattle.clap.specs.Words.{fault_of, first_of, matches_of}
 use Rattle.clap.proofs.FaultLemmas.{leaf_fault}
 use Rattle.command_line.specs.Commands.{app_of_rules, serve_app, serve_rules}
-use Rattle.command_line.specs.Grammar.{allowed_serve, configuration, default_listen, is_in_form, is_option, media_port, one_value, second_count, serve_names, session_count, thread_count, turn_count, values_of}
-use Rattle.command_line.specs.Values.{ipv4, listen_address}
-use Rattle.command_line.specs.Words.{config_of, number_of, serve_settings, settings_of, taken}
+use Rattle.command_line.specs.Grammar.{allowed_serve, configuration, default_listen, is_in_form, is_option, media_port_value, one_value, second_count, serve_names, session_count, thread_count, turn_count, values_of}
+use Rattle.command_line.specs.Values.{ipv4_address, listen_address}
+use Rattle.command_line.specs.Words.{config_of, option_number, serve_settings, settings_of, taken}
 use Rattle.command_line.specs.declared.settings.Settings.{Settings}
 use Rattle.command_line.proofs.Allowed.{IsOneValued, IsReady, merged, walk_over}
 use Rattle.command_line.proofs.Defaults.{find_default, no_fault, or_default, rows_are}
@@ -38,7 +38,7 @@ serve_law words s is =
     let config = says_config _ _ _ _ _ _ parts.0 parts.4 in
     let readies : (name : Text) → list_any (bytes_eq name) serve_names ≡ true → IsReady top refl serve_names facts name [] words =
     λ name among. among_each (λ (n : Text). IsReady top refl serve_names facts n [] words) serve_names name (
-      ready top refl serve_names facts words (codes "interface") ipv4 None config.i config.i_is (λ value h. refl),
+      ready top refl serve_names facts words (codes "interface") ipv4_address None config.i config.i_is (λ value h. refl),
       (
         ready top refl serve_names facts words (codes "listen-ng") listen_address (Some default_listen) parts.1 parts.5 (λ value h. refl),
         (
@@ -46,9 +46,9 @@ serve_law words s is =
           (
             ready top refl serve_names facts words (codes "num-threads") thread_count (Some 4) parts.3 parts.7 (λ value h. (read_alike 0 16 parts.3 value (omega arith) h).0),
             (
-              ready top refl serve_names facts words (codes "port-min") media_port (Some 30000) config.p config.p_is (λ value h. (read_alike 1024 65535 config.p value (omega arith) h).0),
+              ready top refl serve_names facts words (codes "port-min") media_port_value (Some 30000) config.p config.p_is (λ value h. (read_alike 1024 65535 config.p value (omega arith) h).0),
               (
-                ready top refl serve_names facts words (codes "port-max") media_port (Some 40000) config.q config.q_is (λ value h. (read_alike 1024 65535 config.q value (omega arith) h).0),
+                ready top refl serve_names facts words (codes "port-max") media_port_value (Some 40000) config.q config.q_is (λ value h. (read_alike 1024 65535 config.q value (omega arith) h).0),
                 (
                   ready top refl serve_names facts words (codes "max-sessions") session_count (Some 2048) config.m config.m_is (λ value h. (read_alike 1 2048 config.m value (omega arith) h).0),
                   (
@@ -69,18 +69,18 @@ serve_law words s is =
     let rows : List Row = fold with_default walk.last top.rules in
     let found : (name : Text) → list_any (bytes_eq name) serve_names ≡ true → find (λ r. bytes_eq r.id name) rows ≡ or_default name (merged top refl serve_names facts name None (values_of name words)) top.rules =
     λ name among. find_default name top.rules walk.last ∙ ap (λ (o : Option Row). or_default name o top.rules) (walk.has name among) in
-    let given : is_given (codes "interface") rows ≡ true = says_given top refl serve_names facts words rows (codes "interface") refl (found (codes "interface") refl) ipv4 config.i config.i_is in
+    let given : is_given (codes "interface") rows ≡ true = says_given top refl serve_names facts words rows (codes "interface") refl (found (codes "interface") refl) ipv4_address config.i config.i_is in
     let checked : check_fault top rows false ≡ [] = rw given refl in
     let faultless : fault_of app words ≡ [] = leaf_fault (built app) nothing_held words refl ∙ no_fault top refl serve_names facts words walk refl checked in
     let rows_is : matches_of app words ≡ rows = rows_are top refl serve_names facts words walk in
-    let interface : option_and_then ipv4 (first_of (codes "interface") rows) ≡ Some config.i = says_text top refl serve_names facts words rows (codes "interface") refl (found (codes "interface") refl) ipv4 None config.i config.i_is refl in
-    let port_min : number_of 1024 65535 (codes "port-min") rows ≡ Some config.p = says_number top refl serve_names facts words rows (codes "port-min") refl (found (codes "port-min") refl) 1024 65535 30000 config.p (omega arith) config.p_is refl refl in
-    let port_max : number_of 1024 65535 (codes "port-max") rows ≡ Some config.q = says_number top refl serve_names facts words rows (codes "port-max") refl (found (codes "port-max") refl) 1024 65535 40000 config.q (omega arith) config.q_is refl refl in
-    let max_sessions : number_of 1 2048 (codes "max-sessions") rows ≡ Some config.m = says_number top refl serve_names facts words rows (codes "max-sessions") refl (found (codes "max-sessions") refl) 1 2048 2048 config.m (omega arith) config.m_is refl refl in
-    let timeout : number_of 1 86400 (codes "timeout") rows ≡ Some config.t = says_number top refl serve_names facts words rows (codes "timeout") refl (found (codes "timeout") refl) 1 86400 60 config.t (omega arith) config.t_is refl refl in
-    let offer_timeout : number_of 1 86400 (codes "offer-timeout") rows ≡ Some config.o = says_number top refl serve_names facts words rows (codes "offer-timeout") refl (found (codes "offer-timeout") refl) 1 86400 3600 config.o (omega arith) config.o_is refl refl in
-    let turns : number_of 1 1000000000000000 (codes "turns") rows ≡ Some parts.2 = says_number top refl serve_names facts words rows (codes "turns") refl (found (codes "turns") refl) 1 1000000000000000 1000000000000000 parts.2 (omega arith) parts.6 refl refl in
-    let num_threads : number_of 0 16 (codes "num-threads") rows ≡ Some parts.3 = says_number top refl serve_names facts words rows (codes "num-threads") refl (found (codes "num-threads") refl) 0 16 4 parts.3 (omega arith) parts.7 refl refl in
+    let interface : option_and_then ipv4_address (first_of (codes "interface") rows) ≡ Some config.i = says_text top refl serve_names facts words rows (codes "interface") refl (found (codes "interface") refl) ipv4_address None config.i config.i_is refl in
+    let port_min : option_number 1024 65535 (codes "port-min") rows ≡ Some config.p = says_number top refl serve_names facts words rows (codes "port-min") refl (found (codes "port-min") refl) 1024 65535 30000 config.p (omega arith) config.p_is refl refl in
+    let port_max : option_number 1024 65535 (codes "port-max") rows ≡ Some config.q = says_number top refl serve_names facts words rows (codes "port-max") refl (found (codes "port-max") refl) 1024 65535 40000 config.q (omega arith) config.q_is refl refl in
+    let max_sessions : option_number 1 2048 (codes "max-sessions") rows ≡ Some config.m = says_number top refl serve_names facts words rows (codes "max-sessions") refl (found (codes "max-sessions") refl) 1 2048 2048 config.m (omega arith) config.m_is refl refl in
+    let timeout : option_number 1 86400 (codes "timeout") rows ≡ Some config.t = says_number top refl serve_names facts words rows (codes "timeout") refl (found (codes "timeout") refl) 1 86400 60 config.t (omega arith) config.t_is refl refl in
+    let offer_timeout : option_number 1 86400 (codes "offer-timeout") rows ≡ Some config.o = says_number top refl serve_names facts words rows (codes "offer-timeout") refl (found (codes "offer-timeout") refl) 1 86400 3600 config.o (omega arith) config.o_is refl refl in
+    let turns : option_number 1 1000000000000000 (codes "turns") rows ≡ Some parts.2 = says_number top refl serve_names facts words rows (codes "turns") refl (found (codes "turns") refl) 1 1000000000000000 1000000000000000 parts.2 (omega arith) parts.6 refl refl in
+    let num_threads : option_number 0 16 (codes "num-threads") rows ≡ Some parts.3 = says_number top refl serve_names facts words rows (codes "num-threads") refl (found (codes "num-threads") refl) 0 16 4 parts.3 (omega arith) parts.7 refl refl in
     let listen : option_and_then listen_address (first_of (codes "listen-ng") rows) ≡ Some parts.1 = says_text top refl serve_names facts words rows (codes "listen-ng") refl (found (codes "listen-ng") refl) listen_address (Some default_listen) parts.1 parts.5 refl in
     let config_is : config_of rows ≡ Some parts.0 = same_config _ _ _ _ _ _ _ _ _ _ _ _ _ (interface ∙ sym config.i_is) (port_min ∙ sym config.p_is) (port_max ∙ sym config.q_is)
     (max_sessions ∙ sym config.m_is) (timeout ∙ sym config.t_is) (offer_timeout ∙ sym config.o_is) parts.4 in
@@ -102,14 +102,14 @@ serve_else words form none = go (fault_of app words) refl
         let found : (name : Text) → list_any (bytes_eq name) serve_names ≡ true → find (λ r. bytes_eq r.id name) rows ≡ or_default name (merged top refl serve_names facts name None (values_of name words)) top.rules =
         λ name among. find_default name top.rules walk.last ∙ ap (λ (o : Option Row). or_default name o top.rules) (walk.has name among) in
         let rows_is : matches_of app words ≡ rows = rows_are top refl serve_names facts words walk in
-        let interface : option_and_then ipv4 (first_of (codes "interface") rows) ≡ one_value ipv4 None (values_of (codes "interface") words) = text_is top refl serve_names facts words rows (codes "interface") refl (found (codes "interface") refl) (each.1 (codes "interface") refl) ipv4 None refl in
-        let port_min : number_of 1024 65535 (codes "port-min") rows ≡ one_value media_port (Some 30000) (values_of (codes "port-min") words) = number_is top refl serve_names facts words rows (codes "port-min") refl (found (codes "port-min") refl) (each.1 (codes "port-min") refl) 1024 65535 30000 (omega arith) form refl refl in
-        let port_max : number_of 1024 65535 (codes "port-max") rows ≡ one_value media_port (Some 40000) (values_of (codes "port-max") words) = number_is top refl serve_names facts words rows (codes "port-max") refl (found (codes "port-max") refl) (each.1 (codes "port-max") refl) 1024 65535 40000 (omega arith) form refl refl in
-        let max_sessions : number_of 1 2048 (codes "max-sessions") rows ≡ one_value session_count (Some 2048) (values_of (codes "max-sessions") words) = number_is top refl serve_names facts words rows (codes "max-sessions") refl (found (codes "max-sessions") refl) (each.1 (codes "max-sessions") refl) 1 2048 2048 (omega arith) form refl refl in
-        let timeout : number_of 1 86400 (codes "timeout") rows ≡ one_value second_count (Some 60) (values_of (codes "timeout") words) = number_is top refl serve_names facts words rows (codes "timeout") refl (found (codes "timeout") refl) (each.1 (codes "timeout") refl) 1 86400 60 (omega arith) form refl refl in
-        let offer_timeout : number_of 1 86400 (codes "offer-timeout") rows ≡ one_value second_count (Some 3600) (values_of (codes "offer-timeout") words) = number_is top refl serve_names facts words rows (codes "offer-timeout") refl (found (codes "offer-timeout") refl) (each.1 (codes "offer-timeout") refl) 1 86400 3600 (omega arith) form refl refl in
-        let turns : number_of 1 1000000000000000 (codes "turns") rows ≡ one_value turn_count (Some 1000000000000000) (values_of (codes "turns") words) = number_is top refl serve_names facts words rows (codes "turns") refl (found (codes "turns") refl) (each.1 (codes "turns") refl) 1 1000000000000000 1000000000000000 (omega arith) form refl refl in
-        let num_threads : number_of 0 16 (codes "num-threads") rows ≡ one_value thread_count (Some 4) (values_of (codes "num-threads") words) = number_is top refl serve_names facts words rows (codes "num-threads") refl (found (codes "num-threads") refl) (each.1 (codes "num-threads") refl) 0 16 4 (omega arith) form refl refl in
+        let interface : option_and_then ipv4_address (first_of (codes "interface") rows) ≡ one_value ipv4_address None (values_of (codes "interface") words) = text_is top refl serve_names facts words rows (codes "interface") refl (found (codes "interface") refl) (each.1 (codes "interface") refl) ipv4_address None refl in
+        let port_min : option_number 1024 65535 (codes "port-min") rows ≡ one_value media_port_value (Some 30000) (values_of (codes "port-min") words) = number_is top refl serve_names facts words rows (codes "port-min") refl (found (codes "port-min") refl) (each.1 (codes "port-min") refl) 1024 65535 30000 (omega arith) form refl refl in
+        let port_max : option_number 1024 65535 (codes "port-max") rows ≡ one_value media_port_value (Some 40000) (values_of (codes "port-max") words) = number_is top refl serve_names facts words rows (codes "port-max") refl (found (codes "port-max") refl) (each.1 (codes "port-max") refl) 1024 65535 40000 (omega arith) form refl refl in
+        let max_sessions : option_number 1 2048 (codes "max-sessions") rows ≡ one_value session_count (Some 2048) (values_of (codes "max-sessions") words) = number_is top refl serve_names facts words rows (codes "max-sessions") refl (found (codes "max-sessions") refl) (each.1 (codes "max-sessions") refl) 1 2048 2048 (omega arith) form refl refl in
+        let timeout : option_number 1 86400 (codes "timeout") rows ≡ one_value second_count (Some 60) (values_of (codes "timeout") words) = number_is top refl serve_names facts words rows (codes "timeout") refl (found (codes "timeout") refl) (each.1 (codes "timeout") refl) 1 86400 60 (omega arith) form refl refl in
+        let offer_timeout : option_number 1 86400 (codes "offer-timeout") rows ≡ one_value second_count (Some 3600) (values_of (codes "offer-timeout") words) = number_is top refl serve_names facts words rows (codes "offer-timeout") refl (found (codes "offer-timeout") refl) (each.1 (codes "offer-timeout") refl) 1 86400 3600 (omega arith) form refl refl in
+        let turns : option_number 1 1000000000000000 (codes "turns") rows ≡ one_value turn_count (Some 1000000000000000) (values_of (codes "turns") words) = number_is top refl serve_names facts words rows (codes "turns") refl (found (codes "turns") refl) (each.1 (codes "turns") refl) 1 1000000000000000 1000000000000000 (omega arith) form refl refl in
+        let num_threads : option_number 0 16 (codes "num-threads") rows ≡ one_value thread_count (Some 4) (values_of (codes "num-threads") words) = number_is top refl serve_names facts words rows (codes "num-threads") refl (found (codes "num-threads") refl) (each.1 (codes "num-threads") refl) 0 16 4 (omega arith) form refl refl in
         let listen : option_and_then listen_address (first_of (codes "listen-ng") rows) ≡ one_value listen_address (Some default_listen) (values_of (codes "listen-ng") words) = text_is top refl serve_names facts words rows (codes "listen-ng") refl (found (codes "listen-ng") refl) (each.1 (codes "listen-ng") refl) listen_address (Some default_listen) refl in
         let config_is : config_of rows ≡ configuration None words = same_config _ _ _ _ _ _ _ _ _ _ _ _ _ interface port_min port_max max_sessions timeout offer_timeout refl in
         let all : settings_of rows ≡ allowed_serve words = same_settings _ _ _ _ _ _ _ _ _ config_is listen turns num_threads (sym (rw each.0 refl)) in

@@ -9,14 +9,14 @@ use Rattle.relay_outside.specs.declared.address.Ip.TheVariants.{V4}
 use Rattle.relay_outside.specs.declared.settings.Config.{Config}
 use Rattle.sdp_text.specs.Pieces.{is_digit, is_filled}
 use Rattle.command_line.specs.Numbers.{number_within}
-use Rattle.command_line.specs.Values.{ipv4, listen_address, config_from, settings_from, replay_from, load_from, replay_interface}
+use Rattle.command_line.specs.Values.{ipv4_address, listen_address, config_from, settings_from, replay_from, load_from, replay_interface}
 use Rattle.command_line.specs.declared.settings.LoadSettings.{LoadSettings}
 use Rattle.command_line.specs.declared.settings.ReplaySettings.{ReplaySettings}
 use Rattle.command_line.specs.declared.settings.Settings.{Settings}
 
 -- a port of the range for media: those below 1,024 are the system's (RFC 6335 section 6)
-abbrev pub media_port : List ℕ → Option ℕ
-media_port text = number_within 1024 65535 text
+abbrev pub media_port_value : List ℕ → Option ℕ
+media_port_value text = number_within 1024 65535 text
 
 -- how many calls may be live at a time
 abbrev pub session_count : List ℕ → Option ℕ
@@ -47,14 +47,14 @@ abbrev pub packet_count : List ℕ → Option ℕ
 packet_count text = number_within 1 1000 text
 
 -- how many lanes relay them
-abbrev pub lane_count : List ℕ → Option ℕ
-lane_count text = number_within 1 16 text
+abbrev pub lanes_value : List ℕ → Option ℕ
+lanes_value text = number_within 1 16 text
 
 -- `--name=value`, as the name and the value
-abbrev pub named : List ℕ → Option (List ℕ × List ℕ)
-named [] = None
-named (a ∷ []) = None
-named (a ∷ b ∷ rest) =
+abbrev pub option_named : List ℕ → Option (List ℕ × List ℕ)
+option_named [] = None
+option_named (a ∷ []) = None
+option_named (a ∷ b ∷ rest) =
     if a == 45 && (b == 45 && list_any (λ byte. byte == 61) rest)
     then Some (before_first (λ byte. byte == 61) rest, after_first (λ byte. byte == 61) rest)
     else None
@@ -66,11 +66,11 @@ is_respelled (first ∷ rest) = (first == 43 || first == 48) && (is_filled rest 
 
 -- a word in the form `--name=value`, whose value is no number in another spelling
 abbrev pub is_in_form : List ℕ → Bool
-is_in_form word = option_map_or (λ said. not (is_respelled said.1)) (named word) false
+is_in_form word = option_map_or (λ said. not (is_respelled said.1)) (option_named word) false
 
 -- the value that a word gives to an option, where it is that option's word
 abbrev pub value_for : List ℕ → List ℕ → Option (List ℕ)
-value_for name word = option_and_then (λ said. if bytes_eq said.0 name then Some said.1 else None) (named word)
+value_for name word = option_and_then (λ said. if bytes_eq said.0 name then Some said.1 else None) (option_named word)
 
 -- the values that the words give to an option
 abbrev pub values_of : List ℕ → List (List ℕ) → List (List ℕ)
@@ -78,7 +78,7 @@ values_of name words = filter_map (value_for name) words
 
 -- whether a word is that of one of these options
 abbrev pub is_option : List (List ℕ) → List ℕ → Bool
-is_option names word = option_map_or (λ said. list_any (bytes_eq said.0) names) (named word) false
+is_option names word = option_map_or (λ said. list_any (bytes_eq said.0) names) (option_named word) false
 
 -- the options that `serve` and `replay` share, but the interface
 abbrev pub shared_names : List (List ℕ)
@@ -108,9 +108,9 @@ default_listen = record { ip = V4 (127 ∷ 0 ∷ 0 ∷ 1 ∷ []); port = 2223 }
 abbrev pub configuration : Option Ip → List (List ℕ) → Option Config
 configuration interface words =
     config_from
-    (one_value ipv4 interface (values_of (codes "interface") words))
-    (one_value media_port (Some 30000) (values_of (codes "port-min") words))
-    (one_value media_port (Some 40000) (values_of (codes "port-max") words))
+    (one_value ipv4_address interface (values_of (codes "interface") words))
+    (one_value media_port_value (Some 30000) (values_of (codes "port-min") words))
+    (one_value media_port_value (Some 40000) (values_of (codes "port-max") words))
     (one_value session_count (Some 2048) (values_of (codes "max-sessions") words))
     (one_value second_count (Some 60) (values_of (codes "timeout") words))
     (one_value second_count (Some 3600) (values_of (codes "offer-timeout") words))
@@ -143,6 +143,6 @@ allowed_load words =
     then load_from
     (one_value call_count (Some 50) (values_of (codes "calls") words))
     (one_value packet_count (Some 200) (values_of (codes "packets") words))
-    (one_value lane_count (Some 4) (values_of (codes "lanes") words))
+    (one_value lanes_value (Some 4) (values_of (codes "lanes") words))
     (one_value seed_number (Some 1) (values_of (codes "seed") words))
     else None

@@ -14,19 +14,19 @@ use Rattle.command_line.specs.declared.settings.ReplaySettings.{ReplaySettings}
 use Rattle.command_line.specs.declared.settings.Settings.{Settings}
 
 -- an IPv4 address
-abbrev pub ipv4 : List ℕ → Option Ip
-ipv4 text = option_map V4 (ipv4_bytes text)
+abbrev pub ipv4_address : List ℕ → Option Ip
+ipv4_address text = option_map V4 (ipv4_bytes text)
 
 -- the address with a port, where both are there
-abbrev pub with_port : Option Ip → Option ℕ → Option Addr
-with_port None port = None
-with_port (Some ip) None = None
-with_port (Some ip) (Some port) = Some (record { ip = ip; port = port })
+abbrev pub addr_with_port : Option Ip → Option ℕ → Option Addr
+addr_with_port None port = None
+addr_with_port (Some ip) None = None
+addr_with_port (Some ip) (Some port) = Some (record { ip = ip; port = port })
 
 -- an IPv4 address and a port, with a colon at this place between them
 abbrev pub address_and_port : List ℕ → Option ℕ → Option Addr
 address_and_port text None = None
-address_and_port text (Some at) = with_port (ipv4 (take at text)) (whole_number 65535 (drop (at + 1) text))
+address_and_port text (Some at) = addr_with_port (ipv4_address (take at text)) (whole_number 65535 (drop (at + 1) text))
 
 -- an IPv4 address, a colon, a port
 abbrev pub listen_address : List ℕ → Option Addr
@@ -62,13 +62,13 @@ abbrev pub has_pair : Config → Bool
 has_pair config = nat_lt 0 (pair_count config)
 
 -- the configuration, where its range of ports holds a pair
-abbrev pub with_pair : Config → Option Config
-with_pair config = if has_pair config then Some config else None
+abbrev pub where_pair_fits : Config → Option Config
+where_pair_fits config = if has_pair config then Some config else None
 
 -- the configuration that the options say, where each says something and the range of ports holds a pair
 abbrev pub config_from : Option Ip → (port_min port_max max_sessions timeout offer_timeout : Option ℕ) → Option Config
 config_from (Some interface) (Some port_min) (Some port_max) (Some max_sessions) (Some timeout) (Some offer_timeout) =
-    with_pair (config_with interface port_min port_max max_sessions timeout offer_timeout)
+    where_pair_fits (config_with interface port_min port_max max_sessions timeout offer_timeout)
 config_from interface port_min port_max max_sessions timeout offer_timeout = None
 
 -- an address of version 4
@@ -115,6 +115,6 @@ pub record IsLoadInLimits (settings : LoadSettings) : Type 0 where
   pub seed : settings.seed ≤ 18446744073709551615
 
 -- how a run with these settings relays media: by how many threads, at how many pairs of ports, and where the first pair begins
-abbrev pub media : Option Settings → Option Media
-media None = None
-media (Some settings) = Some (record { threads = settings.threads; pairs = pair_count settings.config; first_port = first_port settings.config })
+abbrev pub media_settings : Option Settings → Option Media
+media_settings None = None
+media_settings (Some settings) = Some (record { threads = settings.threads; pairs = pair_count settings.config; first_port = first_port settings.config })

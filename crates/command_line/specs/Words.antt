@@ -8,7 +8,7 @@ use Rattle.clap.specs.Words.{App, Kinds, fault_of, matches_of}
 use Rattle.clap.specs.ValueTests.{is_unsigned_in}
 use Rattle.relay_outside.specs.declared.settings.Config.{Config}
 use Rattle.command_line.specs.Commands.{serve_app, replay_app, load_app}
-use Rattle.command_line.specs.Values.{ipv4, listen_address, config_from, settings_from, replay_from, load_from, IsInLimits, IsLoadInLimits}
+use Rattle.command_line.specs.Values.{ipv4_address, listen_address, config_from, settings_from, replay_from, load_from, IsInLimits, IsLoadInLimits}
 use Rattle.command_line.specs.declared.settings.LoadSettings.{LoadSettings}
 use Rattle.command_line.specs.declared.settings.ReplaySettings.{ReplaySettings}
 use Rattle.command_line.specs.declared.settings.Settings.{Settings}
@@ -29,38 +29,38 @@ abbrev pub number_in : (least most : ℕ) → Text → Option ℕ
 number_in least most text = if is_unsigned_in least most text then Some (digits_value 10 (without_leading_plus text)) else None
 
 -- the number that an option has
-abbrev pub number_of : (least most : ℕ) → Text → List Row → Option ℕ
-number_of least most name rows = option_and_then (number_in least most) (one_of name rows)
+abbrev pub option_number : (least most : ℕ) → Text → List Row → Option ℕ
+option_number least most name rows = option_and_then (number_in least most) (one_of name rows)
 
 -- the configuration by the values of the options
 abbrev pub config_of : List Row → Option Config
 config_of rows =
     config_from
-    (option_and_then ipv4 (first_of (codes "interface") rows))
-    (number_of 1024 65535 (codes "port-min") rows)
-    (number_of 1024 65535 (codes "port-max") rows)
-    (number_of 1 2048 (codes "max-sessions") rows)
-    (number_of 1 86400 (codes "timeout") rows)
-    (number_of 1 86400 (codes "offer-timeout") rows)
+    (option_and_then ipv4_address (first_of (codes "interface") rows))
+    (option_number 1024 65535 (codes "port-min") rows)
+    (option_number 1024 65535 (codes "port-max") rows)
+    (option_number 1 2048 (codes "max-sessions") rows)
+    (option_number 1 86400 (codes "timeout") rows)
+    (option_number 1 86400 (codes "offer-timeout") rows)
 
 abbrev pub settings_of : List Row → Option Settings
 settings_of rows =
     settings_from
     (config_of rows)
     (option_and_then listen_address (first_of (codes "listen-ng") rows))
-    (number_of 1 1000000000000000 (codes "turns") rows)
-    (number_of 0 16 (codes "num-threads") rows)
+    (option_number 1 1000000000000000 (codes "turns") rows)
+    (option_number 0 16 (codes "num-threads") rows)
 
 abbrev pub replay_of : List Row → Option ReplaySettings
-replay_of rows = replay_from (config_of rows) (number_of 0 18446744073709551615 (codes "seed") rows)
+replay_of rows = replay_from (config_of rows) (option_number 0 18446744073709551615 (codes "seed") rows)
 
 abbrev pub load_of : List Row → Option LoadSettings
 load_of rows =
     load_from
-    (number_of 1 1000 (codes "calls") rows)
-    (number_of 1 1000 (codes "packets") rows)
-    (number_of 1 16 (codes "lanes") rows)
-    (number_of 0 18446744073709551615 (codes "seed") rows)
+    (option_number 1 1000 (codes "calls") rows)
+    (option_number 1 1000 (codes "packets") rows)
+    (option_number 1 16 (codes "lanes") rows)
+    (option_number 0 18446744073709551615 (codes "seed") rows)
 
 -- what the words after `serve` say
 abbrev pub serve_settings : List Text → Option Settings

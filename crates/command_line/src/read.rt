@@ -2,7 +2,7 @@
 ghost use Rattle.std.specs.Prelude.{◌≡◌, ◌≤◌, IfOk, MatchResult, MatchOption, None, Some, map, true, ⊤};
 ghost use Rattle.clap.specs.Words.{app_of, found_of, is_simple_and_free, rows_of};
 ghost use Rattle.command_line.specs.Refusals.{IsRefused};
-ghost use Rattle.command_line.specs.Values.{media, IsInLimits};
+ghost use Rattle.command_line.specs.Values.{media_settings, IsInLimits};
 ghost use Rattle.command_line.specs.Words.{settings, serve_settings, replay_words, load_words, taken, task_after, task_of, IsTaskInLimits};
 
 use crate::options::{load_command, replay_command, serve_command};
@@ -124,7 +124,7 @@ pub fn read_words<'a>(alloc: Global, words: &'a [&'a str]) -> Result<Task, Refus
 /// How a run with these words relays media, for those who make its devices; `None` unless they are a valid command line of `serve`, or out of memory.
 #[tactic(auto, unfolding(relay_outside::specs::Settings::pair_count))]
 pub fn read_media<'a>(alloc: Global, words: &'a [&'a str]) -> Option<Media>
-    ensures { MatchOption result ⊤ (λ said. media (settings (map (λ word. word.now) words.entry.now)) ≡ Some said) }
+    ensures { MatchOption result ⊤ (λ said. media_settings (settings (map (λ word. word.now) words.entry.now)) ≡ Some said) }
 {
     match read_words(alloc, words) {
         Ok(Task::Serve(settings)) => Some(Media {

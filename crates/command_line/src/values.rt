@@ -2,8 +2,8 @@
 ghost use Rattle.std.specs.Prelude.{◌≡◌, ◌≤◌, ◌<◌, ◌==◌, ◌↔◌, IfSome, IsTrue, MatchOption, None, Some, ℕ, Option, codes, length, position, option_and_then};
 ghost use Rattle.clap.specs.Words.{first_of, found_of, rows_of};
 ghost use Rattle.command_line.specs.Numbers.{whole_number};
-ghost use Rattle.command_line.specs.Values.{ipv4, listen_address, has_pair, default_config, IsV4, IsPair, IsInLimits, IsLoadInLimits};
-ghost use Rattle.command_line.specs.Words.{number_of, config_of, settings_of, replay_of, load_of};
+ghost use Rattle.command_line.specs.Values.{ipv4_address, listen_address, has_pair, default_config, IsV4, IsPair, IsInLimits, IsLoadInLimits};
+ghost use Rattle.command_line.specs.Words.{option_number, config_of, settings_of, replay_of, load_of};
 
 use crate::numbers::{Limits, read_whole_number};
 use crate::settings::{LoadSettings, ReplaySettings, Settings};
@@ -16,7 +16,7 @@ const MOST_TURNS: u64 = 1_000_000_000_000_000;
 
 /// An IPv4 address.
 pub(crate) fn read_ip(text: &[u8]) -> Option<Ip>
-    ensures value { result ≡ ipv4 text.now }
+    ensures value { result ≡ ipv4_address text.now }
     ensures version { IfSome result IsV4 }
 {
     match read_ipv4(text) {
@@ -61,7 +61,7 @@ fn find_text<'a>(matches: &ArgMatches<'a>, name: &str) -> Option<&'a str>
 
 /// The address of the interface.
 fn find_interface(matches: &ArgMatches<'_>) -> Option<Ip>
-    ensures value { result ≡ option_and_then ipv4 (first_of (codes "interface") (rows_of (found_of matches.now))) }
+    ensures value { result ≡ option_and_then ipv4_address (first_of (codes "interface") (rows_of (found_of matches.now))) }
     ensures version { IfSome result IsV4 }
 {
     let text = find_text(matches, "interface")?;
@@ -80,7 +80,7 @@ fn find_listen(matches: &ArgMatches<'_>) -> Option<Addr>
 /// It tests the range again: nothing leads from an option's name to what `clap`'s parser tested of its
 /// entry.
 fn find_number(matches: &ArgMatches<'_>, name: &str, limits: Limits) -> Option<u64>
-    ensures value { result ≡ number_of limits.least limits.most name.now (rows_of (found_of matches.now)) }
+    ensures value { result ≡ option_number limits.least limits.most name.now (rows_of (found_of matches.now)) }
     ensures within { IfSome result (λ number. (limits.least ≤ number) × (number ≤ limits.most)) }
 {
     let number = matches.get_one::<u64>(name)?;
@@ -93,7 +93,7 @@ fn find_number(matches: &ArgMatches<'_>, name: &str, limits: Limits) -> Option<u
 
 /// The port for media, 1,024 or above, that an option has.
 fn find_port(matches: &ArgMatches<'_>, name: &str) -> Option<u16>
-    ensures value { result ≡ number_of 1024 65535 name.now (rows_of (found_of matches.now)) }
+    ensures value { result ≡ option_number 1024 65535 name.now (rows_of (found_of matches.now)) }
     ensures within { IfSome result (λ port. 1024 ≤ port) }
 {
     let limits = Limits {
@@ -106,7 +106,7 @@ fn find_port(matches: &ArgMatches<'_>, name: &str) -> Option<u16>
 
 /// How many calls may be live at a time: 1 to 2,048.
 fn find_sessions(matches: &ArgMatches<'_>) -> Option<u32>
-    ensures value { result ≡ number_of 1 2048 (codes "max-sessions") (rows_of (found_of matches.now)) }
+    ensures value { result ≡ option_number 1 2048 (codes "max-sessions") (rows_of (found_of matches.now)) }
     ensures within { IfSome result (λ sessions. (1 ≤ sessions) × (sessions ≤ 2048)) }
 {
     let limits = Limits {
@@ -119,7 +119,7 @@ fn find_sessions(matches: &ArgMatches<'_>) -> Option<u32>
 
 /// The time in seconds, from one to a day, that an option has.
 fn find_seconds(matches: &ArgMatches<'_>, name: &str) -> Option<u64>
-    ensures value { result ≡ number_of 1 86400 name.now (rows_of (found_of matches.now)) }
+    ensures value { result ≡ option_number 1 86400 name.now (rows_of (found_of matches.now)) }
     ensures within { IfSome result (λ seconds. (1 ≤ seconds) × (seconds ≤ 86400)) }
 {
     let limits = Limits {
@@ -131,7 +131,7 @@ fn find_seconds(matches: &ArgMatches<'_>, name: &str) -> Option<u64>
 
 /// How many threads relay media besides the one that answers commands: 0 to 16.
 fn find_threads(matches: &ArgMatches<'_>) -> Option<u32>
-    ensures value { result ≡ number_of 0 16 (codes "num-threads") (rows_of (found_of matches.now)) }
+    ensures value { result ≡ option_number 0 16 (codes "num-threads") (rows_of (found_of matches.now)) }
     ensures within { IfSome result (λ threads. threads ≤ 16) }
 {
     let limits = Limits { least: 0, most: 16 };
@@ -141,7 +141,7 @@ fn find_threads(matches: &ArgMatches<'_>) -> Option<u32>
 
 /// How many calls are made, or packets sent by each side of one: 1 to 1,000.
 fn find_count(matches: &ArgMatches<'_>, name: &str) -> Option<u32>
-    ensures value { result ≡ number_of 1 1000 name.now (rows_of (found_of matches.now)) }
+    ensures value { result ≡ option_number 1 1000 name.now (rows_of (found_of matches.now)) }
     ensures within { IfSome result (λ count. (1 ≤ count) × (count ≤ 1000)) }
 {
     let limits = Limits {
@@ -154,7 +154,7 @@ fn find_count(matches: &ArgMatches<'_>, name: &str) -> Option<u32>
 
 /// How many lanes relay generated packets: 1 to 16.
 fn find_lanes(matches: &ArgMatches<'_>) -> Option<u32>
-    ensures value { result ≡ number_of 1 16 (codes "lanes") (rows_of (found_of matches.now)) }
+    ensures value { result ≡ option_number 1 16 (codes "lanes") (rows_of (found_of matches.now)) }
     ensures within { IfSome result (λ lanes. (1 ≤ lanes) × (lanes ≤ 16)) }
 {
     let limits = Limits { least: 1, most: 16 };
@@ -164,7 +164,7 @@ fn find_lanes(matches: &ArgMatches<'_>) -> Option<u32>
 
 /// From which number keys are drawn.
 fn find_seed(matches: &ArgMatches<'_>) -> Option<u64>
-    ensures value { result ≡ number_of 0 18446744073709551615 (codes "seed") (rows_of (found_of matches.now)) }
+    ensures value { result ≡ option_number 0 18446744073709551615 (codes "seed") (rows_of (found_of matches.now)) }
     ensures within { IfSome result (λ seed. seed ≤ 18446744073709551615) }
 {
     let limits = Limits {

@@ -3,9 +3,9 @@ use Rattle.std.proofs.Common.{◌≡◌, ◌∙◌, ℕ, List, Option, Some, Non
 use Rattle.relay_outside.specs.declared.settings.Config.{Config}
 use Rattle.histories.specs.Words.{or_else}
 use Rattle.sdp_text.specs.Lines.{lines_of}
-use Rattle.sdp_text.specs.Reading.{fault_in, v6_line_in}
+use Rattle.sdp_text.specs.Descriptions.{fault_in, v6_line_in}
 use Rattle.sdp_text.specs.declared.fault.SdpFault.{SdpFault}
-use Rattle.call_board.specs.Asked.{sdp_code, code_if, v6_error, sdp_error}
+use Rattle.call_board.specs.Requests.{sdp_code, code_if, v6_error, sdp_error}
 
 -- a fault of the text is the error
 pub error-faulty : (config : Config) (text : List ℕ) (fault : SdpFault) → fault_in (lines_of text) ≡ Some fault → sdp_error config text ≡ Some (sdp_code fault)

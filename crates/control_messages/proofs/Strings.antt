@@ -20,7 +20,7 @@ use Rattle.serde_json.specs.Read.{number_of, of_json, of_items, of_members, max_
 use Rattle.ng_bencode.specs.Tree.{Tree, Int, Items, Dict, item, Entries, no_entries, entry}
 use Rattle.ng_command.proofs.Sizes.{TreeIsShort, TreesAreShort, PairsAreShort}
 use Rattle.ng_json.specs.Strings.{is_marked, byte_of_digits, bytes_in_hex, bytes_of_string}
-use Rattle.ng_json.specs.Twins.{tree_in, trees_in, pairs_in, with_pair, twin, Says}
+use Rattle.ng_json.specs.Twins.{tree_in, trees_in, pairs_in, with_pair_in_order, twin, SaysInJson}
 
 -- ---- what is short
 
@@ -404,9 +404,9 @@ string_bytes_short text = by (is_marked text)
     by true = unwrapped_short (length (drop 2 text)) text (bytes_in_hex (drop 2 text)) (hex_short (drop 2 text)) (omega (arith, length-drop 2 text))
     by false = omega arith
 
-pair_short : (n : ℕ) (key : List ℕ) (t : Tree) (found : Entries) → TreeIsShort n t → PairsAreShort n found → IfSome (with_pair key t found) (PairsAreShort n)
+pair_short : (n : ℕ) (key : List ℕ) (t : Tree) (found : Entries) → TreeIsShort n t → PairsAreShort n found → IfSome (with_pair_in_order key t found) (PairsAreShort n)
 pair_short n key t no_entries h hs = (h, tt)
-pair_short n key t (entry name u rest) h hs = by (slice_cmp nat_cmp key name) (with_pair key t rest) (pair_short n key t rest h hs.1)
+pair_short n key t (entry name u rest) h hs = by (slice_cmp nat_cmp key name) (with_pair_in_order key t rest) (pair_short n key t rest h hs.1)
   where
     by : (at : Ordering) (r : Option Entries) → IfSome r (PairsAreShort n)
         → IfSome (match_ordering at (Some (entry key t (entry name u rest))) None (option_map (entry name u) r)) (PairsAreShort n)
@@ -432,8 +432,8 @@ mutual
   pairs_short : (n : ℕ) (ms : json.Members) (found : Entries) → DataMembersAreShort n ms → PairsAreShort n found → IfSome (pairs_in ms found) (PairsAreShort n)
   pairs_short n json.no_members found h hs = hs
   pairs_short n (json.member text d ms) found h hs =
-      then_some (TreeIsShort n) (PairsAreShort n) (λ t. option_and_then (λ more. pairs_in ms more) (with_pair (bytes_of_string text) t found))
-      (λ t k. then_some (PairsAreShort n) (PairsAreShort n) (λ more. pairs_in ms more) (λ more l. pairs_short n ms more h.1 l) (with_pair (bytes_of_string text) t found)
+      then_some (TreeIsShort n) (PairsAreShort n) (λ t. option_and_then (λ more. pairs_in ms more) (with_pair_in_order (bytes_of_string text) t found))
+      (λ t k. then_some (PairsAreShort n) (PairsAreShort n) (λ more. pairs_in ms more) (λ more l. pairs_short n ms more h.1 l) (with_pair_in_order (bytes_of_string text) t found)
       (pair_short n (bytes_of_string text) t found k hs))
       (tree_in d) (tree_short n d h.0)
 
@@ -456,7 +456,7 @@ unfolding twin
 twin_short n d h = unless_deep n (nat_le (json.depth d) 16) d h
 
 -- the byte strings of a value that a text says are no longer than the text
-pub says_short : (text : List ℕ) (tree : Tree) → Says text tree → TreeIsShort (length text) tree
+pub says_short : (text : List ℕ) (tree : Tree) → SaysInJson text tree → TreeIsShort (length text) tree
 says_short text tree says =
     taken (TreeIsShort (length text)) (twin says.value) tree
     (twin_short (length text) says.value (taken (DataIsShort (length text)) (read text) says.value (read_short text) says.is_json.is)) says.is_twin

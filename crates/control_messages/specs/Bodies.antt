@@ -5,7 +5,7 @@ use Rattle.ng_bencode.specs.Row.{list_in}
 use Rattle.ng_bencode.specs.Tree.{Entries, pairs_of}
 use Rattle.ng_bencode.specs.declared.row.Row.{Row}
 use Rattle.ng_bencode.specs.declared.value.Value.{Value}
-use Rattle.ng_command.specs.Said.{Said, Ping, Offer, Answer, Delete, Query, Listing, said}
+use Rattle.ng_command.specs.Meanings.{Said, Ping, Offer, Answer, Delete, Query, Listing, said}
 use Rattle.ng_command.specs.declared.command.Command.{Command}
 use Rattle.ng_reply.specs.declared.code.ErrorCode.{ErrorCode}
 use Rattle.control_messages.specs.declared.body.Body.{Body}
@@ -18,8 +18,8 @@ pairs_if None = None
 pairs_if (Some pairs) = Some (pairs_of (list_in pairs))
 
 -- the dictionary that the body says, or none
-abbrev pub pairs_in : Body → Option Entries
-pairs_in body = pairs_if body.dictionary
+abbrev pub dictionary_in : Body → Option Entries
+dictionary_in body = pairs_if body.dictionary
 
 -- what a command says, or the error that there is in its place
 abbrev pub said_by : Result Command ErrorCode → Result Said ErrorCode

@@ -3,10 +3,10 @@
 ghost use Rattle.std.specs.Prelude.{◌≡◌, ◌≤◌, length, true, false, Some, IfOk, MatchOption};
 ghost use Rattle.ng_bencode.specs.Row.{list_in};
 ghost use Rattle.ng_bencode.specs.Tree.{Dict, Entries, tree_of, pairs_of};
-ghost use Rattle.ng_command.specs.Said.{said};
-ghost use Rattle.ng_command.specs.Reading.{told};
-ghost use Rattle.call_board.specs.Asked.{ReadsIn, Reads, code_of, or_code, command_in};
-ghost use Rattle.control_messages.specs.Bodies.{pairs_if, pairs_in, said_by, description_in};
+ghost use Rattle.ng_command.specs.Meanings.{said};
+ghost use Rattle.ng_command.specs.Bodies.{said_or_fault};
+ghost use Rattle.call_board.specs.Requests.{ReadsIn, ReadsBody, command_code, or_code, command_in};
+ghost use Rattle.control_messages.specs.Bodies.{pairs_if, dictionary_in, said_by, description_in};
 
 use crate::request::is_json;
 use ng_bencode::{Bad, Pairs, Value, decode};
@@ -27,7 +27,7 @@ pub struct Body {
 
 /// The error code of a fault.
 fn code_of(fault: CommandFault) -> ErrorCode
-    ensures { result ≡ code_of fault }
+    ensures { result ≡ command_code fault }
 {
     match fault {
         CommandFault::Malformed => ErrorCode::E1,
@@ -76,7 +76,7 @@ fn json_dictionary(alloc: Global, text: &[u8]) -> Result<Option<Pairs>, OutOfMem
 
 /// The dictionary that a body says in its dialect, if it says one.
 fn dictionary_in(alloc: Global, body: &[u8]) -> Result<Option<Pairs>, OutOfMemory>
-    ensures { IfOk result (λ dictionary. Reads body.now (pairs_if dictionary)) }
+    ensures { IfOk result (λ dictionary. ReadsBody body.now (pairs_if dictionary)) }
 {
     if is_json(body) {
         json_dictionary(alloc, body)
@@ -87,7 +87,7 @@ fn dictionary_in(alloc: Global, body: &[u8]) -> Result<Option<Pairs>, OutOfMemor
 
 /// The command that a dictionary says, or the first error in its place.
 fn command_of(alloc: Global, pairs: &Pairs) -> Result<Result<Command, ErrorCode>, OutOfMemory>
-    ensures { IfOk result (λ command. or_code (told (pairs_of (list_in pairs.now))) ≡ said_by command) }
+    ensures { IfOk result (λ command. or_code (said_or_fault (pairs_of (list_in pairs.now))) ≡ said_by command) }
 {
     match read_pairs(alloc, pairs) {
         Ok(command) => Ok(Ok(command)),
@@ -98,8 +98,8 @@ fn command_of(alloc: Global, pairs: &Pairs) -> Result<Result<Command, ErrorCode>
 
 /// What a body says whose dictionary is this one.
 fn body_of(alloc: Global, pairs: Pairs) -> Result<Body, OutOfMemory>
-    ensures dictionary { IfOk result (λ read. pairs_in read ≡ Some (pairs_of (list_in pairs))) }
-    ensures command { IfOk result (λ read. command_in false (pairs_in read) ≡ said_by read.command) }
+    ensures dictionary { IfOk result (λ read. dictionary_in read ≡ Some (pairs_of (list_in pairs))) }
+    ensures command { IfOk result (λ read. command_in false (dictionary_in read) ≡ said_by read.command) }
 {
     let command = command_of(alloc, &pairs)?;
     Ok(Body {
@@ -113,8 +113,8 @@ fn body_of(alloc: Global, pairs: Pairs) -> Result<Body, OutOfMemory>
 /// A description is shorter than 2^31 bytes in either dialect, as room for the reply needs: no JSON
 /// string has more bytes than its text.
 pub fn read_body(alloc: Global, body: &[u8]) -> Result<Body, OutOfMemory>
-    ensures reads { IfOk result (λ read. Reads body.now (pairs_in read)) }
-    ensures command { IfOk result (λ read. command_in false (pairs_in read) ≡ said_by read.command) }
+    ensures reads { IfOk result (λ read. ReadsBody body.now (dictionary_in read)) }
+    ensures command { IfOk result (λ read. command_in false (dictionary_in read) ≡ said_by read.command) }
     // A description is no longer than the body.
     ensures small { IfOk result (λ read. IfOk read.command (λ command. length (description_in (said command)) ≤ length body.now)) }
 {

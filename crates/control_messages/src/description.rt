@@ -2,9 +2,9 @@
 
 ghost use Rattle.std.specs.Prelude.{◌≡◌, ◌≢◌, ◌≤◌, ◌<◌, ◌^◌, length, None, Some, Option, IfOk, IfErr, OnOk};
 ghost use Rattle.sdp_text.specs.Lines.{lines_of};
-ghost use Rattle.sdp_text.specs.Reading.{sections_in};
+ghost use Rattle.sdp_text.specs.Descriptions.{sections_in};
 ghost use Rattle.sdp_text.specs.declared.fault.SdpFault.TheVariants.{OutOfMemory as out_of_memory};
-ghost use Rattle.call_board.specs.Asked.{sdp_code, v6_error, sdp_error};
+ghost use Rattle.call_board.specs.Requests.{sdp_code, v6_error, sdp_error};
 ghost use Rattle.control_messages.specs.Bodies.{IsErrorOf};
 
 use ng_command::KeyName;

@@ -2,7 +2,7 @@
 //!
 //! Module `request` has the request, `body` reads the dictionary of its body, in bencode or JSON, with the command that this says,
 //! `description` the lines of its description; where there is none, they tell the error of its reply. `specs/Bodies.antt` says what a
-//! `Body` shows of the body; what a body says and asks is defined in the specs of `call_board` (`Dialects`, `Asked`).
+//! `Body` shows of the body; what a body says and asks is defined in the specs of `call_board` (`Dialects`, `Requests`).
 //!
 //! A reply's datagram is a cookie, a space, a reply: `reply_datagram` of `call_board`'s `specs/Replies.antt`. Module `short` makes
 //! the datagrams of replies that carry no description, that of any value among them. `room` takes the memory for a reply before it is

@@ -3,7 +3,7 @@ ghost use Rattle.std.specs.Prelude.{◌≡◌, ◌<◌, ◌≤◌, ◌^◌, ◌+
 ghost use Rattle.relay_outside.specs.declared.settings.Config.{Config};
 ghost use Rattle.ng_reply.specs.Replies.{sdp_reply};
 ghost use Rattle.cookie_cache.specs.Keepings.{IsCookie};
-ghost use Rattle.call_board.specs.Dialects.{is_json, text_in};
+ghost use Rattle.call_board.specs.Dialects.{is_json, written_in};
 ghost use Rattle.call_board.specs.Replies.{Described, Fault, reply_datagram};
 ghost use Rattle.control_messages.specs.Rooms.{reply_room, described_room, IsReplyRoom};
 
@@ -48,7 +48,7 @@ pub fn reply_room(alloc: Global, request: &Request, sdp_len: usize) -> Result<Te
 fn put_described(body: &[u8], sdp: &[u8], out: &mut Text)
     requires small { length sdp.now < 2 ^ 40 }
     requires room { reply_room (is_json body.now) sdp.now ≤ out.old.spare }
-    ensures { out.new.list ≡ out.old.list ++ text_in (is_json body.now) (sdp_reply sdp.now) }
+    ensures { out.new.list ≡ out.old.list ++ written_in (is_json body.now) (sdp_reply sdp.now) }
 {
     if is_json(body) {
         sdp_json_into(sdp, out)

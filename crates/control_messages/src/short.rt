@@ -3,7 +3,7 @@ ghost use Rattle.std.specs.Prelude.{◌≡◌, ◌≤◌, ◌++◌, ◌∷◌, t
 ghost use Rattle.relay_outside.specs.declared.settings.Config.{Config};
 ghost use Rattle.ng_bencode.specs.Tree.{tree_of, depth};
 ghost use Rattle.cookie_cache.specs.Keepings.{IsCookie};
-ghost use Rattle.call_board.specs.Dialects.{is_json, text_in};
+ghost use Rattle.call_board.specs.Dialects.{is_json, written_in};
 ghost use Rattle.call_board.specs.Replies.{Pong, Done, Warned, Fault, reply_datagram, fault_datagram};
 
 use crate::request::{Request, is_json};
@@ -75,7 +75,7 @@ pub fn error_into(request: &Request, code: ErrorCode, out: &mut [u8; 512]) -> us
 /// The text of a value in the dialect of a body. `Err`: out of memory.
 fn value_text(alloc: Global, body: &[u8], value: &Value) -> Result<Text, ng_bencode::OutOfMemory>
     requires { depth (tree_of value.now) ≤ 16 }
-    ensures { IfOk result (λ text. text.list ≡ text_in (is_json body.now) (tree_of value.now)) }
+    ensures { IfOk result (λ text. text.list ≡ written_in (is_json body.now) (tree_of value.now)) }
 {
     if is_json(body) {
         ng_json::write(alloc, value)
@@ -88,7 +88,7 @@ fn value_text(alloc: Global, body: &[u8], value: &Value) -> Result<Text, ng_benc
 /// space, and the value's text in the dialect of the request. `Err`: out of memory.
 pub fn value_datagram(alloc: Global, request: &Request, value: &Value) -> Result<Text, OutOfMemory>
     requires { depth (tree_of value.now) ≤ 16 }
-    ensures { IfOk result (λ text. text.list ≡ request.now.cookie.now ++ 32 ∷ text_in (is_json request.now.body.now) (tree_of value.now)) }
+    ensures { IfOk result (λ text. text.list ≡ request.now.cookie.now ++ 32 ∷ written_in (is_json request.now.body.now) (tree_of value.now)) }
 {
     let Ok(reply) = value_text(alloc, request.body, value) else {
         return Err(OutOfMemory);

@@ -6,7 +6,7 @@ use Rattle.std.specs.Option.{option_or}
 use Rattle.std.proofs.lemmas.List.{reverse-append}
 use Rattle.std.proofs.lemmas.List.Folds.{find-append}
 use Rattle.std.proofs.lemmas.List.Elements.{filter-append, All-filter, All-push, All-head, All-tail, All-nil}
-use Rattle.cookie_cache.specs.Entries.{Entry, has_other_key, first_of_each}
+use Rattle.cookie_cache.specs.Entries.{CacheEntry, has_other_key, first_of_each}
 
 -- ---- filters
 
@@ -48,17 +48,17 @@ find-filter_none t p drops (x ∷ xs) = none_case t p x xs (drops x) (find-filte
 
 -- ---- entries in order
 
-abbrev pub in_order : List Entry → List Entry
+abbrev pub in_order : List CacheEntry → List CacheEntry
 in_order es = reverse (first_of_each es)
 
 -- one more entry stands last, and an earlier one of its key goes
-pub in_order-more : (e : Entry) (es : List Entry) → in_order (e ∷ es) ≡ filter (has_other_key e) (in_order es) ++ e ∷ []
+pub in_order-more : (e : CacheEntry) (es : List CacheEntry) → in_order (e ∷ es) ≡ filter (has_other_key e) (in_order es) ++ e ∷ []
 in_order-more e es =
     reverse-append (e ∷ []) (filter (has_other_key e) (first_of_each es))
     ∙ ap (λ xs. xs ++ e ∷ []) (sym (filter-reverse (has_other_key e) (first_of_each es)))
 
 -- what holds of each entry holds of each in order
-pub All-in_order : (P : Entry → Type 0) (es : List Entry) → All P es → All P (in_order es)
+pub All-in_order : (P : CacheEntry → Type 0) (es : List CacheEntry) → All P es → All P (in_order es)
 All-in_order P [] all = All-nil P
 All-in_order P (e ∷ es) all =
     rw (in_order-more e es)
@@ -66,10 +66,10 @@ All-in_order P (e ∷ es) all =
     (All-filter (has_other_key e) P (in_order es) (All-in_order P es (All-tail P e es all))) (All-head P e es all))
 
 -- whether one of them has this entry's key
-abbrev pub has_key : Entry → List Entry → Bool
+abbrev pub has_key : CacheEntry → List CacheEntry → Bool
 has_key z es = list_any (λ e. pointwise nat_eq e.key z.key) es
 
-far_case : (e z : Entry) (es : List Entry) → (a b : Bool) → pointwise nat_eq e.key z.key ≡ a →
+far_case : (e z : CacheEntry) (es : List CacheEntry) → (a b : Bool) → pointwise nat_eq e.key z.key ≡ a →
     filter (has_other_key e) (cond b (in_order es) (z ∷ in_order es)) ++ e ∷ []
     ≡ cond (a || b) (filter (has_other_key e) (in_order es) ++ e ∷ []) (z ∷ (filter (has_other_key e) (in_order es) ++ e ∷ []))
 far_case e z es true true is = refl
@@ -80,7 +80,7 @@ far_case e z es false false is =
     ap (λ c. cond (not c) (z ∷ filter (has_other_key e) (in_order es)) (filter (has_other_key e) (in_order es)) ++ e ∷ []) is
 
 -- the entry at the far end stands first, unless a later one has its key
-pub in_order-far : (es : List Entry) (z : Entry) → in_order (es ++ z ∷ []) ≡ cond (has_key z es) (in_order es) (z ∷ in_order es)
+pub in_order-far : (es : List CacheEntry) (z : CacheEntry) → in_order (es ++ z ∷ []) ≡ cond (has_key z es) (in_order es) (z ∷ in_order es)
 in_order-far [] z = refl
 in_order-far (e ∷ es) z =
     in_order-more e (es ++ z ∷ [])
@@ -91,17 +91,17 @@ in_order-far (e ∷ es) z =
 -- ---- look-ups
 
 -- the entry has this key
-abbrev pub is_under : List ℕ → Entry → Bool
+abbrev pub is_under : List ℕ → CacheEntry → Bool
 is_under key e = pointwise nat_eq key e.key
 
-under_two : (key : List ℕ) (e x : Entry) → is_under key x ≡ true → pointwise nat_eq e.key x.key ≡ true → is_under key e ≡ true
+under_two : (key : List ℕ) (e x : CacheEntry) → is_under key x ≡ true → pointwise nat_eq e.key x.key ≡ true → is_under key e ≡ true
 under_two key e x under same = (bytes_decides key e.key).1 ((bytes_decides key x.key).0 under ∙ sym ((bytes_decides e.key x.key).0 same))
 
-under_one : (key : List ℕ) (e x : Entry) → is_under key e ≡ true → is_under key x ≡ true → has_other_key e x ≡ false
+under_one : (key : List ℕ) (e x : CacheEntry) → is_under key e ≡ true → is_under key x ≡ true → has_other_key e x ≡ false
 under_one key e x this other =
     ap not ((bytes_decides e.key x.key).1 (sym ((bytes_decides key e.key).0 this) ∙ (bytes_decides key x.key).0 other))
 
-other_kept : (key : List ℕ) (e x : Entry) → is_under key e ≡ false → is_under key x ≡ true → has_other_key e x ≡ true
+other_kept : (key : List ℕ) (e x : CacheEntry) → is_under key e ≡ false → is_under key x ≡ true → has_other_key e x ≡ true
 other_kept key e x this other = by (pointwise nat_eq e.key x.key) refl
   where
     by : (b : Bool) → pointwise nat_eq e.key x.key ≡ b → not b ≡ true
@@ -112,7 +112,7 @@ or_none : {X : Type 0} (r : Option X) → option_or r None ≡ r
 or_none None = refl
 or_none (Some x) = refl
 
-found_case : (key : List ℕ) (e : Entry) (es : List Entry) → find (is_under key) (in_order es) ≡ find (is_under key) es → (b : Bool) → is_under key e ≡ b →
+found_case : (key : List ℕ) (e : CacheEntry) (es : List CacheEntry) → find (is_under key) (in_order es) ≡ find (is_under key) es → (b : Bool) → is_under key e ≡ b →
     option_or (find (is_under key) (filter (has_other_key e) (in_order es))) (cond b (Some e) None) ≡ cond b (Some e) (find (is_under key) es)
 found_case key e es rest true is =
     ap (λ r. option_or r (Some e)) (find-filter_none (is_under key) (has_other_key e) (λ x. under_one key e x is) (in_order es))
@@ -121,7 +121,7 @@ found_case key e es rest false is =
     ∙ find-filter_same (is_under key) (has_other_key e) (λ x. other_kept key e x is) (in_order es) ∙ rest
 
 -- under each key the entry is found that the list has first
-pub find-in_order : (key : List ℕ) (es : List Entry) → find (is_under key) (in_order es) ≡ find (is_under key) es
+pub find-in_order : (key : List ℕ) (es : List CacheEntry) → find (is_under key) (in_order es) ≡ find (is_under key) es
 find-in_order key [] = refl
 find-in_order key (e ∷ es) =
     ap (find (is_under key)) (in_order-more e es)

@@ -5,14 +5,14 @@ use Rattle.std.specs.Option.{option_map}
 use Rattle.std.proofs.lemmas.List.Elements.{All-head, All-tail}
 use Rattle.relay_outside.specs.declared.address.Addr.{Addr}
 use Rattle.relay_outside.specs.Ports.{same_addr}
-use Rattle.cookie_cache.specs.Keepings.{Keeping, answers, last_moment}
-use Rattle.cookie_cache.specs.Entries.{Entry, entry_of, key_of, numbered}
+use Rattle.cookie_cache.specs.Keepings.{Keeping, answers, last_keeping_moment}
+use Rattle.cookie_cache.specs.Entries.{CacheEntry, keeping_entry, cache_key, numbered_keepings}
 use Rattle.cookie_cache.specs.Caches.{IsSource, NeverGoesBack}
 use Rattle.cookie_cache.proofs.InOrder.{is_under}
 use Rattle.cookie_cache.proofs.Keys.{key_test}
 
 -- the reply of the entry that was found, where it is young enough
-abbrev pub reply_at : ℕ → Option Entry → Option (List ℕ)
+abbrev pub reply_at : ℕ → Option CacheEntry → Option (List ℕ)
 reply_at at None = None
 reply_at at (Some e) = cond (nat_lt (at - e.moment) 60000) (Some e.reply) None
 
@@ -28,7 +28,7 @@ and_false false b h = refl
 
 module _ (source : Addr) (cookie : List ℕ) (at : ℕ) where
   -- after one that is too old all are
-  all_old : (n : ℕ) (ks : List Keeping) (m : ℕ) → nat_lt (at - m) 60000 ≡ false → last_moment ks ≤ m → NeverGoesBack ks → find (answers source cookie at) (take n ks) ≡ None
+  all_old : (n : ℕ) (ks : List Keeping) (m : ℕ) → nat_lt (at - m) 60000 ≡ false → last_keeping_moment ks ≤ m → NeverGoesBack ks → find (answers source cookie at) (take n ks) ≡ None
   all_old zero ks m old low back = refl
   all_old (suc n) [] m old low back = refl
   all_old (suc n) (k ∷ ks) m old low back =
@@ -37,23 +37,23 @@ module _ (source : Addr) (cookie : List ℕ) (at : ℕ) where
       (and_false (same_addr k.source source && pointwise nat_eq k.cookie cookie) (nat_lt (at - k.moment) 60000) older)
       ∙ all_old n ks k.moment older back.0 back.1
 
-  case : (n : ℕ) (k : Keeping) (ks : List Keeping) → last_moment ks ≤ k.moment → NeverGoesBack ks
-      → option_map (λ keeping. keeping.reply) (find (answers source cookie at) (take n ks)) ≡ reply_at at (find (is_under (key_of source cookie)) (take n (numbered ks)))
+  case : (n : ℕ) (k : Keeping) (ks : List Keeping) → last_keeping_moment ks ≤ k.moment → NeverGoesBack ks
+      → option_map (λ keeping. keeping.reply) (find (answers source cookie at) (take n ks)) ≡ reply_at at (find (is_under (cache_key source cookie)) (take n (numbered_keepings ks)))
       → (a b : Bool) → nat_lt (at - k.moment) 60000 ≡ b
       → option_map (λ keeping. keeping.reply) (cond (a && b) (Some k) (find (answers source cookie at) (take n ks)))
-      ≡ reply_at at (cond a (Some (entry_of k (length ks))) (find (is_under (key_of source cookie)) (take n (numbered ks))))
+      ≡ reply_at at (cond a (Some (keeping_entry k (length ks))) (find (is_under (cache_key source cookie)) (take n (numbered_keepings ks))))
   case n k ks low back rest true true is = sym (ap (λ c. cond c (Some k.reply) None) is)
   case n k ks low back rest true false is =
       ap (option_map (λ keeping. keeping.reply)) (all_old n ks k.moment is low back) ∙ sym (ap (λ c. cond c (Some k.reply) None) is)
   case n k ks low back rest false b is = rest
 
   pub kept_under : IsSource source → (n : ℕ) (ks : List Keeping) → NeverGoesBack ks → All (λ k. IsSource k.source) ks
-      → option_map (λ keeping. keeping.reply) (find (answers source cookie at) (take n ks)) ≡ reply_at at (find (is_under (key_of source cookie)) (take n (numbered ks)))
+      → option_map (λ keeping. keeping.reply) (find (answers source cookie at) (take n ks)) ≡ reply_at at (find (is_under (cache_key source cookie)) (take n (numbered_keepings ks)))
   kept_under from zero ks back all = refl
   kept_under from (suc n) [] back all = refl
   kept_under from (suc n) (k ∷ ks) back all =
-      let here : is_under (key_of source cookie) (entry_of k (length ks)) ≡ (same_addr k.source source && pointwise nat_eq k.cookie cookie) =
+      let here : is_under (cache_key source cookie) (keeping_entry k (length ks)) ≡ (same_addr k.source source && pointwise nat_eq k.cookie cookie) =
       key_test source k.source cookie k.cookie from (All-head (λ x. IsSource x.source) k ks all) in
       case n k ks back.0 back.1 (kept_under from n ks back.1 (All-tail (λ x. IsSource x.source) k ks all))
       (same_addr k.source source && pointwise nat_eq k.cookie cookie) (nat_lt (at - k.moment) 60000) refl
-      ∙ sym (ap (λ a. reply_at at (cond a (Some (entry_of k (length ks))) (find (is_under (key_of source cookie)) (take n (numbered ks))))) here)
+      ∙ sym (ap (λ a. reply_at at (cond a (Some (keeping_entry k (length ks))) (find (is_under (cache_key source cookie)) (take n (numbered_keepings ks))))) here)

@@ -6,7 +6,7 @@ use Rattle.relay_outside.specs.declared.address.Addr.{Addr}
 use Rattle.relay_outside.specs.declared.address.Ip.{Ip}
 use Rattle.relay_outside.specs.declared.address.Ip.TheVariants as ip
 use Rattle.relay_outside.specs.Ports.{same_addr}
-use Rattle.cookie_cache.specs.Entries.{host_bytes, key_of}
+use Rattle.cookie_cache.specs.Entries.{host_bytes, cache_key}
 use Rattle.cookie_cache.specs.Caches.{IsHost, IsSource}
 use Rattle.cookie_cache.proofs.Matching.{first_true, second_true, both_true, addr_from_test, addr_test}
 
@@ -43,7 +43,7 @@ ports p q cs ds low small h =
     let least : p % 256 ≡ q % 256 = head_of (p % 256) (q % 256) cs ds rest in
     (omega arith, tail_of (p % 256) (q % 256) cs ds rest)
 
-keys : (s t : Addr) (cs ds : List ℕ) → IsSource s → IsSource t → key_of s cs ≡ key_of t ds → (s ≡ t) × (cs ≡ ds)
+keys : (s t : Addr) (cs ds : List ℕ) → IsSource s → IsSource t → cache_key s cs ≡ cache_key t ds → (s ≡ t) × (cs ≡ ds)
 keys s t cs ds one other h =
     let host = hosts s.ip t.ip (to_be_bytes w16 s.port ++ cs) (to_be_bytes w16 t.port ++ ds) one.host other.host h in
     let port = ports s.port t.port cs ds one.port other.port host.1 in
@@ -56,16 +56,16 @@ one_test false true f g = g refl
 one_test false false f g = refl
 
 -- two keys are equal where the sources and the cookies are
-pub key_test : (s t : Addr) (cs ds : List ℕ) → IsSource s → IsSource t → pointwise nat_eq (key_of s cs) (key_of t ds) ≡ (same_addr t s && pointwise nat_eq ds cs)
-key_test s t cs ds one other = one_test (pointwise nat_eq (key_of s cs) (key_of t ds)) (same_addr t s && pointwise nat_eq ds cs) forth back
+pub key_test : (s t : Addr) (cs ds : List ℕ) → IsSource s → IsSource t → pointwise nat_eq (cache_key s cs) (cache_key t ds) ≡ (same_addr t s && pointwise nat_eq ds cs)
+key_test s t cs ds one other = one_test (pointwise nat_eq (cache_key s cs) (cache_key t ds)) (same_addr t s && pointwise nat_eq ds cs) forth back
   where
-    forth : pointwise nat_eq (key_of s cs) (key_of t ds) ≡ true → (same_addr t s && pointwise nat_eq ds cs) ≡ true
+    forth : pointwise nat_eq (cache_key s cs) (cache_key t ds) ≡ true → (same_addr t s && pointwise nat_eq ds cs) ≡ true
     forth h =
-        let parts = keys s t cs ds one other ((bytes_decides (key_of s cs) (key_of t ds)).0 h) in
+        let parts = keys s t cs ds one other ((bytes_decides (cache_key s cs) (cache_key t ds)).0 h) in
         both_true (same_addr t s) (pointwise nat_eq ds cs) (ap (λ a. same_addr t a) parts.0 ∙ addr_test t) ((bytes_decides ds cs).1 (sym parts.1))
 
-    back : (same_addr t s && pointwise nat_eq ds cs) ≡ true → pointwise nat_eq (key_of s cs) (key_of t ds) ≡ true
+    back : (same_addr t s && pointwise nat_eq ds cs) ≡ true → pointwise nat_eq (cache_key s cs) (cache_key t ds) ≡ true
     back h =
         let sources : t ≡ s = addr_from_test t s (first_true (same_addr t s) (pointwise nat_eq ds cs) h) in
         let cookies : ds ≡ cs = (bytes_decides ds cs).0 (second_true (same_addr t s) (pointwise nat_eq ds cs) h) in
-        (bytes_decides (key_of s cs) (key_of t ds)).1 (sym (λ i. key_of (sources i) (cookies i)))
+        (bytes_decides (cache_key s cs) (cache_key t ds)).1 (sym (λ i. cache_key (sources i) (cookies i)))

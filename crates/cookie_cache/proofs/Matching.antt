@@ -6,7 +6,7 @@ use Rattle.relay_outside.specs.declared.address.Ip.{Ip}
 use Rattle.relay_outside.specs.declared.address.Ip.TheVariants as ip
 use Rattle.relay_outside.specs.Ports.{same_addr, same_ip}
 use Rattle.cookie_cache.specs.Keepings.{Keeping, answers}
-use Rattle.cookie_cache.specs.Latest.{Matches}
+use Rattle.cookie_cache.specs.Latest.{MatchesCookie}
 use Rattle.cookie_cache.proofs.Finding.{IsDecidedBy}
 
 pub first_true : (a b : Bool) → a && b ≡ true → a ≡ true
@@ -39,7 +39,7 @@ addr_from_test a b h =
 pub addr_test : (a : Addr) → same_addr a a ≡ true
 addr_test a = both_true _ _ (ip_test a.ip) (eq-eqb a.port a.port refl)
 
-matches_from_test : (source : Addr) (cookie : List ℕ) (at : ℕ) (keeping : Keeping) → answers source cookie at keeping ≡ true → Matches source cookie at keeping
+matches_from_test : (source : Addr) (cookie : List ℕ) (at : ℕ) (keeping : Keeping) → answers source cookie at keeping ≡ true → MatchesCookie source cookie at keeping
 matches_from_test source cookie at keeping h =
     let who = first_true _ _ h in
     let lately : at - keeping.moment < 60000 = ltb-true (at - keeping.moment) 60000 (second_true _ _ h) in
@@ -49,11 +49,11 @@ matches_from_test source cookie at keeping h =
       young = omega arith;
     }
 
-test_from_matches : (source : Addr) (cookie : List ℕ) (at : ℕ) (keeping : Keeping) → Matches source cookie at keeping → answers source cookie at keeping ≡ true
+test_from_matches : (source : Addr) (cookie : List ℕ) (at : ℕ) (keeping : Keeping) → MatchesCookie source cookie at keeping → answers source cookie at keeping ≡ true
 test_from_matches source cookie at keeping m =
     let young : at < keeping.moment + 60000 = m.young in
     rw (← m.source_is, ← m.cookie_is)
     (both_true _ _ (both_true _ _ (addr_test keeping.source) ((bytes_decides keeping.cookie keeping.cookie).1 refl)) (lt-ltb (at - keeping.moment) 60000 (omega arith)))
 
-pub answers_decides : (source : Addr) (cookie : List ℕ) (at : ℕ) → IsDecidedBy (Matches source cookie at) (answers source cookie at)
+pub answers_decides : (source : Addr) (cookie : List ℕ) (at : ℕ) → IsDecidedBy (MatchesCookie source cookie at) (answers source cookie at)
 answers_decides source cookie at = record { yes = matches_from_test source cookie at; no = test_from_matches source cookie at }

@@ -3,7 +3,7 @@ use Rattle.std.proofs.Common.{◌≡◌, ◌∙◌, refl, sym, ap, ℕ, ◌-◌,
 use Rattle.std.specs.Cmp.Lexicographic.{pointwise}
 use Rattle.std.specs.Map.{lookup, remove_entry}
 use Rattle.cookie_cache.specs.declared.kept_reply.KeptReply.{KeptReply}
-use Rattle.cookie_cache.specs.Entries.{Entry, shown, all_shown}
+use Rattle.cookie_cache.specs.Entries.{CacheEntry, shown, all_shown}
 use Rattle.cookie_cache.specs.Oldest.{age, without_gone}
 use Rattle.cookie_cache.proofs.InOrder.{is_under}
 use Rattle.cookie_cache.proofs.Kept.{reply_at}
@@ -14,7 +14,7 @@ answer_at at None = None
 answer_at at (Some kept) = cond (nat_lt (at - kept.moment) 60000) (Some kept.reply.list) None
 
 -- the entry has another key
-abbrev pub is_other : List ℕ → Entry → Bool
+abbrev pub is_other : List ℕ → CacheEntry → Bool
 is_other key e = not (is_under key e)
 
 module _ {A : Type 0} (key : List ℕ) where

@@ -14,43 +14,43 @@ host_bytes (ip.V4 bytes) = 4 ∷ bytes
 host_bytes (ip.V6 bytes) = 6 ∷ bytes
 
 -- the key of a reply: the family and the address that its command came from, the port in network order, and the cookie
-abbrev pub key_of : Addr → List ℕ → List ℕ
-key_of source cookie = host_bytes source.ip ++ (to_be_bytes w16 source.port ++ cookie)
+abbrev pub cache_key : Addr → List ℕ → List ℕ
+cache_key source cookie = host_bytes source.ip ++ (to_be_bytes w16 source.port ++ cookie)
 
 -- an entry: a key, the number of its latest keeping, and what that one kept
-pub record Entry : Type 0 where
+pub record CacheEntry : Type 0 where
   pub key : List ℕ
   pub number : ℕ
   pub reply : List ℕ
   pub moment : ℕ
 
 -- a keeping as an entry. Its number is the count of the keepings before it, modulo 2^64
-abbrev pub entry_of : Keeping → ℕ → Entry
-entry_of keeping before =
-    record { key = key_of keeping.source keeping.cookie; number = before % 2 ^ 64; reply = keeping.reply; moment = keeping.moment }
+abbrev pub keeping_entry : Keeping → ℕ → CacheEntry
+keeping_entry keeping before =
+    record { key = cache_key keeping.source keeping.cookie; number = before % 2 ^ 64; reply = keeping.reply; moment = keeping.moment }
 
 -- the keepings as entries
-abbrev pub numbered : List Keeping → List Entry
-numbered [] = []
-numbered (keeping ∷ keepings) = entry_of keeping (length keepings) ∷ numbered keepings
+abbrev pub numbered_keepings : List Keeping → List CacheEntry
+numbered_keepings [] = []
+numbered_keepings (keeping ∷ keepings) = keeping_entry keeping (length keepings) ∷ numbered_keepings keepings
 
 -- the entry has another key
-abbrev pub has_other_key : Entry → Entry → Bool
+abbrev pub has_other_key : CacheEntry → CacheEntry → Bool
 has_other_key than entry = not (pointwise nat_eq than.key entry.key)
 
 -- the first entry of each key
-abbrev pub first_of_each : List Entry → List Entry
+abbrev pub first_of_each : List CacheEntry → List CacheEntry
 first_of_each [] = []
-first_of_each (entry ∷ entries) = entry ∷ filter (has_other_key entry) (first_of_each entries)
+first_of_each (entry ∷ cache_entries) = entry ∷ filter (has_other_key entry) (first_of_each cache_entries)
 
 -- the entries after these keepings, which are listed latest first
-unfoldable pub entries : List Keeping → List Entry
-entries keepings = reverse (first_of_each (take 4096 (numbered keepings)))
+unfoldable pub cache_entries : List Keeping → List CacheEntry
+cache_entries keepings = reverse (first_of_each (take 4096 (numbered_keepings keepings)))
 
 -- an entry as a map has it
-abbrev pub shown : {A : Type 0} → Vec ℕ A × KeptReply → Entry
+abbrev pub shown : {A : Type 0} → Vec ℕ A × KeptReply → CacheEntry
 shown pair = record { key = pair.0.items; number = pair.1.number; reply = pair.1.reply.list; moment = pair.1.moment }
 
 -- the entries as a map has them
-abbrev pub all_shown : {A : Type 0} → List (Vec ℕ A × KeptReply) → List Entry
+abbrev pub all_shown : {A : Type 0} → List (Vec ℕ A × KeptReply) → List CacheEntry
 all_shown pairs = map shown pairs

@@ -31,10 +31,10 @@ unfoldable pub kept : List Keeping → Addr → List ℕ → ℕ → Option (Lis
 kept keepings source cookie at = option_map (λ keeping. keeping.reply) (find (answers source cookie at) (recent keepings))
 
 -- the moment of the last keeping, at first 0
-abbrev pub last_moment : List Keeping → ℕ
-last_moment [] = 0
-last_moment (keeping ∷ keepings) = keeping.moment
+abbrev pub last_keeping_moment : List Keeping → ℕ
+last_keeping_moment [] = 0
+last_keeping_moment (keeping ∷ keepings) = keeping.moment
 
 -- the moment that is used where this one is handed in: a clock that went back stands still
 abbrev pub moment_used : List Keeping → ℕ → ℕ
-moment_used keepings now = max now (last_moment keepings)
+moment_used keepings now = max now (last_keeping_moment keepings)

@@ -4,7 +4,7 @@ use Rattle.relay_outside.specs.declared.address.Addr.{Addr}
 use Rattle.cookie_cache.specs.Keepings.{Keeping, recent}
 
 -- the keeping has this source and this cookie, and was made less than 60,000 milliseconds before this moment
-pub record Matches (source : Addr) (cookie : List ℕ) (at : ℕ) (keeping : Keeping) : Type 0 where
+pub record MatchesCookie (source : Addr) (cookie : List ℕ) (at : ℕ) (keeping : Keeping) : Type 0 where
   pub source_is : keeping.source ≡ source
   pub cookie_is : keeping.cookie ≡ cookie
   pub young : at < keeping.moment + 60000
@@ -15,6 +15,6 @@ pub record IsLatest (keepings : List Keeping) (source : Addr) (cookie : List ℕ
   pub keeping : Keeping
   pub earlier : List Keeping
   pub among : recent keepings ≡ later ++ keeping ∷ earlier
-  pub matches : Matches source cookie at keeping
-  pub none_later : All (λ other. Matches source cookie at other → ⊥) later
+  pub matches : MatchesCookie source cookie at keeping
+  pub none_later : All (λ other. MatchesCookie source cookie at other → ⊥) later
   pub reply_is : keeping.reply ≡ reply

@@ -37,13 +37,13 @@ pub struct CookieCache {
 impl CookieCache {
     ghost use Rattle.std.specs.Prelude.{drop, if◌then◌else◌};
     ghost use Rattle.cookie_cache.specs.Keepings.{kept, moment_used};
-    ghost use Rattle.cookie_cache.specs.Entries.{all_shown, entries};
+    ghost use Rattle.cookie_cache.specs.Entries.{all_shown, cache_entries};
     ghost use Rattle.cookie_cache.specs.Oldest.{without_gone};
-    ghost use Rattle.cookie_cache.specs.Caches.{StandsFor, HasSparePlace};
+    ghost use Rattle.cookie_cache.specs.Caches.{CacheStandsFor, HasSparePlace};
 
     /// An empty cache with capacity for the first few replies.
     pub fn new(alloc: Global) -> Result<CookieCache, OutOfMemory>
-        ensures { IfOk result (λ cache. StandsFor cache []) }
+        ensures { IfOk result (λ cache. CacheStandsFor cache []) }
     {
         Ok(CookieCache {
             entries: IndexMap::with_capacity(alloc, FIRST_ROOM)?,
@@ -58,7 +58,7 @@ impl CookieCache {
     /// moment `now`, in milliseconds, or at the moment of the last `keep`, where that is greater.
     pub fn find(&self, source: Addr, cookie: &[u8], now: u64) -> Option<&[u8]>
         requires { IsCookie cookie.now }
-        ensures { (keepings : List Keeping) → StandsFor self.now keepings →
+        ensures { (keepings : List Keeping) → CacheStandsFor self.now keepings →
             MatchOption result
             (kept keepings source cookie.now (moment_used keepings now) ≡ None)
             (λ reply. kept keepings source cookie.now (moment_used keepings now) ≡ Some reply.now) }
@@ -74,7 +74,7 @@ impl CookieCache {
 
     /// Makes the room that `keep` needs for one more reply. What is kept stays, also when it fails.
     pub fn reserve(&mut self) -> Result<(), OutOfMemory>
-        ensures kept { (keepings : List Keeping) → StandsFor self.old keepings → StandsFor self.new keepings }
+        ensures kept { (keepings : List Keeping) → CacheStandsFor self.old keepings → CacheStandsFor self.new keepings }
         ensures place { OnOk result (HasSparePlace self.new) }
         ensures place_stays { HasSparePlace self.old → HasSparePlace self.new }
     {
@@ -89,8 +89,8 @@ impl CookieCache {
     pub fn keep(&mut self, source: Addr, cookie: Text, reply: Text, now: u64)
         requires cookie { IsCookie cookie.list }
         requires place { HasSparePlace self.old }
-        ensures { (keepings : List Keeping) → StandsFor self.old keepings →
-            StandsFor self.new (record { source = source; cookie = cookie.list; reply = reply.list; moment = moment_used keepings now } ∷ keepings) }
+        ensures { (keepings : List Keeping) → CacheStandsFor self.old keepings →
+            CacheStandsFor self.new (record { source = source; cookie = cookie.list; reply = reply.list; moment = moment_used keepings now } ∷ keepings) }
     {
         let moment = now.max(self.last_moment);
         let alloc = *self.entries.allocator();
@@ -137,7 +137,7 @@ impl CookieCache {
     /// kept of that one. A key is a byte for the family of the source's address, 4 or 6, the address, the port in network
     /// order, and the cookie.
     pub fn entries(&self) -> &IndexMap<Vec<u8>, KeptReply>
-        ensures { (keepings : List Keeping) → StandsFor self.now keepings → all_shown result.now.entries ≡ entries keepings }
+        ensures { (keepings : List Keeping) → CacheStandsFor self.now keepings → all_shown result.now.entries ≡ cache_entries keepings }
     {
         &self.entries
     }

@@ -1,7 +1,7 @@
 //! The key of a kept reply, built in an array.
 ghost use Rattle.std.specs.Prelude.{◌≡◌, ◌+◌, ◌≤◌, ◌++◌, ℕ, List, [], length, take};
 ghost use Rattle.cookie_cache.specs.Caches.{IsSource};
-ghost use Rattle.cookie_cache.specs.Entries.{key_of};
+ghost use Rattle.cookie_cache.specs.Entries.{cache_key};
 
 use relay_outside::{Addr, Ip};
 use std::marker::Model;
@@ -34,7 +34,7 @@ impl KeyBytes {
     /// The key of a reply to a command with this cookie from this source.
     pub(crate) fn new(source: Addr, cookie: &[u8]) -> KeyBytes
         requires { length cookie.now ≤ 255 }
-        ensures bytes { result ≡ key_of source cookie.now }
+        ensures bytes { result ≡ cache_key source cookie.now }
         ensures source { IsSource source }
     {
         let mut key = KeyBytes {

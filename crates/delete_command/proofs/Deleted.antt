@@ -5,7 +5,7 @@ use Rattle.relay_outside.specs.declared.settings.Config.{Config}
 use Rattle.turn_table.specs.declared.hands.Hand.{Hand}
 use Rattle.ng_bencode.specs.Room.{Room}
 use Rattle.ng_bencode.specs.Tree.{Entries}
-use Rattle.ng_command.specs.Said.{Delete}
+use Rattle.ng_command.specs.Meanings.{Delete}
 use Rattle.sdes_lines.specs.declared.crypto_line.CryptoLine.{CryptoLine}
 use Rattle.call_board.specs.declared.board.Board.{Board}
 use Rattle.call_board.specs.Acts as act
@@ -17,15 +17,15 @@ use Rattle.call_board.specs.Replies.{reply_datagram}
 use Rattle.call_board.proofs.Done.{with_reply, due_fits, deleted_due}
 use Rattle.relay_core.specs.declared.part.Part.{Part}
 use Rattle.relay_core.specs.Entries.{board_history}
-use Rattle.relay_core.specs.Made.{Made}
-use Rattle.relay_core.specs.Turning.{made_by}
+use Rattle.relay_core.specs.Records.{Made}
+use Rattle.relay_core.specs.Turns.{made_by}
 use Rattle.board_turns.specs.declared.board_turn.BoardEntryId.{BoardEntryId}
-use Rattle.board_turns.specs.Acting.{DoesAct}
+use Rattle.board_turns.specs.Acts.{DoesAct}
 use Rattle.control_messages.specs.declared.request.Request.{Request}
 use Rattle.board_turns.specs.declared.device_answers.DeviceAnswers.TheVariants.{Nothing}
 use Rattle.board_turns.specs.Controls.{entry_with}
-use Rattle.board_turns.specs.Carrying.{hearing_as, Carries}
-use Rattle.board_turns.specs.Telling.{IsAnew, IsAsking}
+use Rattle.board_turns.specs.Commands.{record_as, ExecutesCommand}
+use Rattle.board_turns.specs.PlainReplies.{IsAnew, IsAsking}
 use Rattle.board_turns.proofs.Plain.{carries_due}
 use Rattle.delete_command.proofs.Missed.{asking_with, asks_delete}
 
@@ -35,24 +35,24 @@ deleting_due config request pairs of = with_reply config (asking_with request pa
 
 -- its entry
 abbrev pub deleting_entry : Config → ℕ → Request → Option Entries → Call → BoardEntry
-deleting_entry config moment request pairs of = entry_with moment (hearing_as request pairs [] Nothing) (deleting_due config request pairs of)
+deleting_entry config moment request pairs of = entry_with moment (record_as request pairs [] Nothing) (deleting_due config request pairs of)
 
 module _ {M I O T : Type 0} {g : _} where
   -- its turn did what is due
   pub deleted_carries : (config : Config) (old new : Hand M (Part I O) Made T g) (entry_id : BoardEntryId) (request : Request) (pairs : Option Entries) (chosen : List (Option CryptoLine))
-      (id : List ℕ) (tag : Option (List ℕ)) (fatal : Bool) (of : Call) (text : Room ℕ) (board : Board) (told : Option (List PortCall))
+      (id : List ℕ) (tag : Option (List ℕ)) (fatal : Bool) (of : Call) (text : Room ℕ) (board : Board) (log : Option (List PortCall))
       → IsAnew (board_history (made_by old) entry_id.number) entry_id.moment request → IsAsking request pairs (Delete id tag fatal)
       → find_call (board_history (made_by old) entry_id.number) id ≡ Some of → names_side (rounds (board_history (made_by old) entry_id.number) of.number) tag ≡ true
-      → DoesAct config old new entry_id (deleting_entry config entry_id.moment request pairs of) board told
+      → DoesAct config old new entry_id (deleting_entry config entry_id.moment request pairs of) board log
       → text.list ≡ reply_datagram config request.cookie.now request.body.now reply.Done → chosen ≡ []
-      → Carries config old new entry_id (hearing_as request pairs chosen Nothing) (Some text) board told
-  deleted_carries config old new entry_id request pairs chosen id tag fatal of text board told anew asking found names does bytes none =
+      → ExecutesCommand config old new entry_id (record_as request pairs chosen Nothing) (Some text) board log
+  deleted_carries config old new entry_id request pairs chosen id tag fatal of text board log anew asking found names does bytes none =
       let h = board_history (made_by old) entry_id.number in
       let c = asking_with request pairs in
       let due = deleting_due config request pairs of in
       let is = deleted_due config h entry_id.moment c id tag fatal of (asks_delete config h entry_id.moment request pairs id tag fatal anew asking) found names in
-      subst (λ (lines : List (Option CryptoLine)). Carries config old new entry_id (hearing_as request pairs lines Nothing) (Some text) board told) (sym none)
-      (carries_due config old new entry_id (hearing_as request pairs [] Nothing) due (Some text) board told is
+      subst (λ (lines : List (Option CryptoLine)). ExecutesCommand config old new entry_id (record_as request pairs lines Nothing) (Some text) board log) (sym none)
+      (carries_due config old new entry_id (record_as request pairs [] Nothing) due (Some text) board log is
       (due_fits config h entry_id.moment c due is anew.framed anew.length_is (λ read. asking.reads) (λ heard. absurd (let wrong : false ≡ true = heard in cc))
       (record { no_opens = refl; no_draws = refl; none_failed = refl }, refl) (λ out_of_memory none. refl))
       does (refl, bytes))

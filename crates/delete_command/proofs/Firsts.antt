@@ -7,18 +7,18 @@ use Rattle.turn_table.specs.declared.hands.Hand.{Hand}
 use Rattle.relay_outside.specs.declared.address.Addr.{Addr}
 use Rattle.cookie_cache.specs.Keepings.{kept}
 use Rattle.call_board.specs.declared.board.Board.{Board}
-use Rattle.call_board.specs.Boards.{Shows, BoardFor}
+use Rattle.call_board.specs.Boards.{BoardMatches, BoardFor}
 use Rattle.call_board.specs.Pairs.{held}
-use Rattle.call_board.specs.Views.{view_of, at_moment, last_moment}
+use Rattle.call_board.specs.Views.{view_of, view_at_moment, board_last_moment}
 use Rattle.relay_core.specs.declared.part.Part.{Part}
 use Rattle.relay_core.specs.Entries.{Entry, board_history}
-use Rattle.relay_core.specs.Made.{Made}
-use Rattle.relay_core.specs.Turning.{IsAbove, made_by}
-use Rattle.media_ports.specs.Held.{TellsHeld}
+use Rattle.relay_core.specs.Records.{Made}
+use Rattle.relay_core.specs.Turns.{IsAbove, made_by}
+use Rattle.media_ports.specs.OpenPorts.{LogsHeld}
 use Rattle.board_turns.specs.declared.board_turn.BoardEntryId.{BoardEntryId}
-use Rattle.board_turns.specs.Acting.{InTurn}
+use Rattle.board_turns.specs.Acts.{InTurn}
 use Rattle.board_turns.specs.Between.{IsBetween}
-use Rattle.board_turns.specs.Ending.{leg_pairs}
+use Rattle.board_turns.specs.CallEnds.{leg_pairs}
 use Rattle.board_turns.proofs.Firsts.{none_open}
 
 abbrev pub at_first : BoardEntryId
@@ -35,10 +35,10 @@ module _ {M I O T : Type 0} {g : _} where
     above = none_above (made_by hand) none;
     low = omega arith;
     orderly = b.orderly;
-    timely = subst (λ (l : List Entry). last_moment (board_history l 0) ≤ 0) (sym none) (omega arith);
-    shows = subst (λ (l : List Entry). Shows config board (at_moment (view_of config (board_history l 0)) 0)) (sym none) for;
-    opens = subst (λ (l : List Entry). TellsHeld config calls (leg_pairs (held (board_history l 0)))) (sym none)
-        (subst (λ (t : Option (List PortCall)). TellsHeld config t []) (sym nothing) (none_open config));
+    timely = subst (λ (l : List Entry). board_last_moment (board_history l 0) ≤ 0) (sym none) (omega arith);
+    shows = subst (λ (l : List Entry). BoardMatches config board (view_at_moment (view_of config (board_history l 0)) 0)) (sym none) for;
+    opens = subst (λ (l : List Entry). LogsHeld config calls (leg_pairs (held (board_history l 0)))) (sym none)
+        (subst (λ (t : Option (List PortCall)). LogsHeld config t []) (sym nothing) (none_open config));
   }
 
 -- nothing is kept before the first datagram

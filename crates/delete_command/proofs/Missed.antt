@@ -5,36 +5,36 @@ use Rattle.relay_outside.specs.declared.settings.Config.{Config}
 use Rattle.turn_table.specs.declared.hands.Turns.{Turns}
 use Rattle.turn_table.specs.declared.hands.Hand.{Hand}
 use Rattle.ng_bencode.specs.Tree.{Entries}
-use Rattle.ng_command.specs.Said.{Delete}
+use Rattle.ng_command.specs.Meanings.{Delete}
 use Rattle.ng_reply.specs.declared.code.ErrorCode.{ErrorCode}
 use Rattle.ng_reply.specs.declared.code.ErrorCode.TheVariants.{E9, E10}
 use Rattle.call_board.specs.declared.board.Board.{Board}
 use Rattle.call_board.specs.Acts as act
 use Rattle.call_board.specs.Acts.{Call, Control, BoardEntry}
 use Rattle.call_board.specs.Answers.{Answered, names_side}
-use Rattle.call_board.specs.Asked.{Reads, asked}
+use Rattle.call_board.specs.Requests.{ReadsBody, asked}
 use Rattle.call_board.specs.Calls.{find_call, rounds}
 use Rattle.call_board.specs.Fits.{is_found_late}
 use Rattle.call_board.specs.Replies.{Fault, Warned, reply_datagram}
 use Rattle.call_board.proofs.Done.{IsDue, Asks, with_reply, delete_unknown_due, delete_unknown_warned, delete_stranger_due, delete_stranger_warned}
 use Rattle.relay_core.specs.declared.part.Part.{Part}
 use Rattle.relay_core.specs.Entries.{board_history}
-use Rattle.relay_core.specs.Made.{Made}
-use Rattle.relay_core.specs.Turning.{made_by}
+use Rattle.relay_core.specs.Records.{Made}
+use Rattle.relay_core.specs.Turns.{made_by}
 use Rattle.board_turns.specs.declared.board_turn.BoardEntryId.{BoardEntryId}
-use Rattle.board_turns.specs.Acting.{InTurn}
+use Rattle.board_turns.specs.Acts.{InTurn}
 use Rattle.control_messages.specs.declared.request.Request.{Request}
 use Rattle.board_turns.specs.declared.device_answers.DeviceAnswers.TheVariants.{Nothing}
 use Rattle.board_turns.specs.declared.command_outcome.CommandOutcome.{CommandOutcome}
 use Rattle.board_turns.specs.Controls.{unanswered}
-use Rattle.board_turns.specs.Carrying.{hearing_as, hearing_by, Carries}
-use Rattle.board_turns.specs.Telling.{IsAnew, IsAsking, Tells, missing_reply}
+use Rattle.board_turns.specs.Commands.{record_as, record_by, ExecutesCommand}
+use Rattle.board_turns.specs.PlainReplies.{IsAnew, IsAsking, Tells, missing_reply}
 use Rattle.board_turns.proofs.Asking.{asks_so}
 use Rattle.board_turns.proofs.Tellings.{tells_carries}
 
 -- the datagram of a delete, before its reply
 abbrev pub asking_with : Request → Option Entries → Control
-asking_with request pairs = unanswered (hearing_as request pairs [] Nothing)
+asking_with request pairs = unanswered (record_as request pairs [] Nothing)
 
 -- what it asks
 pub asks_delete : (config : Config) (h : List BoardEntry) (moment : ℕ) (request : Request) (pairs : Option Entries) (id : List ℕ) (tag : Option (List ℕ)) (fatal : Bool)
@@ -62,40 +62,40 @@ stranger_due config h now c id tag false of asks found names = delete_stranger_w
 
 module _ {M I O T : Type 0} {g : _} where
   missed : (config : Config) (turns : Turns M (Part I O) Made T) (hand : Hand M (Part I O) Made T g) (entry_id : BoardEntryId) (request : Request) (pairs : Option Entries)
-      (code : ErrorCode) (fatal : Bool) (done : CommandOutcome) (board : Board) (told : Option (List PortCall))
-      → InTurn config turns hand entry_id board told → IsAnew (board_history (made_by hand) entry_id.number) entry_id.moment request
-      → (request.too_long ≡ false → Reads request.body.now pairs) → is_found_late code ≡ false
+      (code : ErrorCode) (fatal : Bool) (done : CommandOutcome) (board : Board) (log : Option (List PortCall))
+      → InTurn config turns hand entry_id board log → IsAnew (board_history (made_by hand) entry_id.number) entry_id.moment request
+      → (request.too_long ≡ false → ReadsBody request.body.now pairs) → is_found_late code ≡ false
       → IsDue config (board_history (made_by hand) entry_id.number) entry_id.moment (asking_with request pairs) (missing_due config (asking_with request pairs) code fatal)
       → Tells [] (reply_datagram config request.cookie.now request.body.now (missing_reply fatal code)) done
-      → Carries config hand hand entry_id (hearing_by request pairs done) done.reply board told
-  missed config turns hand entry_id request pairs code true done board told turn anew reads early is tells =
-      tells_carries config turns hand entry_id request pairs [] (missing_due config (asking_with request pairs) code true) done board told turn anew reads is refl refl
+      → ExecutesCommand config hand hand entry_id (record_by request pairs done) done.reply board log
+  missed config turns hand entry_id request pairs code true done board log turn anew reads early is tells =
+      tells_carries config turns hand entry_id request pairs [] (missing_due config (asking_with request pairs) code true) done board log turn anew reads is refl refl
       (λ heard. absurd (let late : is_found_late code ≡ true = heard in cc)) tells
-  missed config turns hand entry_id request pairs code false done board told turn anew reads early is tells =
-      tells_carries config turns hand entry_id request pairs [] (missing_due config (asking_with request pairs) code false) done board told turn anew reads is refl refl
+  missed config turns hand entry_id request pairs code false done board log turn anew reads early is tells =
+      tells_carries config turns hand entry_id request pairs [] (missing_due config (asking_with request pairs) code false) done board log turn anew reads is refl refl
       (λ heard. absurd (let wrong : false ≡ true = heard in cc)) tells
 
   -- no live call has the call-id
   pub unknown_carries : (config : Config) (turns : Turns M (Part I O) Made T) (hand : Hand M (Part I O) Made T g) (entry_id : BoardEntryId) (request : Request) (pairs : Option Entries)
-      (id : List ℕ) (tag : Option (List ℕ)) (fatal : Bool) (done : CommandOutcome) (board : Board) (told : Option (List PortCall))
-      → InTurn config turns hand entry_id board told → IsAnew (board_history (made_by hand) entry_id.number) entry_id.moment request
+      (id : List ℕ) (tag : Option (List ℕ)) (fatal : Bool) (done : CommandOutcome) (board : Board) (log : Option (List PortCall))
+      → InTurn config turns hand entry_id board log → IsAnew (board_history (made_by hand) entry_id.number) entry_id.moment request
       → IsAsking request pairs (Delete id tag fatal) → find_call (board_history (made_by hand) entry_id.number) id ≡ None
       → Tells [] (reply_datagram config request.cookie.now request.body.now (missing_reply fatal E9)) done
-      → Carries config hand hand entry_id (hearing_by request pairs done) done.reply board told
-  unknown_carries config turns hand entry_id request pairs id tag fatal done board told turn anew asking none tells =
+      → ExecutesCommand config hand hand entry_id (record_by request pairs done) done.reply board log
+  unknown_carries config turns hand entry_id request pairs id tag fatal done board log turn anew asking none tells =
       let h = board_history (made_by hand) entry_id.number in
-      missed config turns hand entry_id request pairs E9 fatal done board told turn anew (λ short. asking.reads) refl
+      missed config turns hand entry_id request pairs E9 fatal done board log turn anew (λ short. asking.reads) refl
       (unknown_due config h entry_id.moment (asking_with request pairs) id tag fatal (asks_delete config h entry_id.moment request pairs id tag fatal anew asking) none) tells
 
   -- the tag is of no side of the call
   pub stranger_carries : (config : Config) (turns : Turns M (Part I O) Made T) (hand : Hand M (Part I O) Made T g) (entry_id : BoardEntryId) (request : Request) (pairs : Option Entries)
-      (id : List ℕ) (tag : Option (List ℕ)) (fatal : Bool) (of : Call) (done : CommandOutcome) (board : Board) (told : Option (List PortCall))
-      → InTurn config turns hand entry_id board told → IsAnew (board_history (made_by hand) entry_id.number) entry_id.moment request
+      (id : List ℕ) (tag : Option (List ℕ)) (fatal : Bool) (of : Call) (done : CommandOutcome) (board : Board) (log : Option (List PortCall))
+      → InTurn config turns hand entry_id board log → IsAnew (board_history (made_by hand) entry_id.number) entry_id.moment request
       → IsAsking request pairs (Delete id tag fatal) → find_call (board_history (made_by hand) entry_id.number) id ≡ Some of
       → names_side (rounds (board_history (made_by hand) entry_id.number) of.number) tag ≡ false
       → Tells [] (reply_datagram config request.cookie.now request.body.now (missing_reply fatal E10)) done
-      → Carries config hand hand entry_id (hearing_by request pairs done) done.reply board told
-  stranger_carries config turns hand entry_id request pairs id tag fatal of done board told turn anew asking found names tells =
+      → ExecutesCommand config hand hand entry_id (record_by request pairs done) done.reply board log
+  stranger_carries config turns hand entry_id request pairs id tag fatal of done board log turn anew asking found names tells =
       let h = board_history (made_by hand) entry_id.number in
-      missed config turns hand entry_id request pairs E10 fatal done board told turn anew (λ short. asking.reads) refl
+      missed config turns hand entry_id request pairs E10 fatal done board log turn anew (λ short. asking.reads) refl
       (stranger_due config h entry_id.moment (asking_with request pairs) id tag fatal of (asks_delete config h entry_id.moment request pairs id tag fatal anew asking) found names) tells

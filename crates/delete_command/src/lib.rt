@@ -1,9 +1,9 @@
 //! A delete, carried out in the board's turn of its datagram: carries out the command and builds its reply.
 //!
-//! Module `deleting` finds the call and ends it. What its turn does is `Carries` of `board_turns`; `proofs/Missed.antt` shows it of
+//! Module `command` finds the call and ends it. What its turn does is `Carries` of `board_turns`; `proofs/Missed.antt` shows it of
 //! a delete that finds nothing to end, `proofs/Deleted.antt` of one that ends its call.
 #![tactic(auto)]
 
-mod deleting;
+mod command;
 
-pub use deleting::delete;
+pub use command::delete;

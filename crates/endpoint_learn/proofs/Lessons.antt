@@ -4,7 +4,7 @@ use Rattle.std.specs.Prelude.{not, ◌&&◌, find}
 use Rattle.relay_outside.specs.declared.address.Addr.{Addr}
 use Rattle.relay_outside.specs.declared.settings.Flags.{Flags}
 use Rattle.histories.specs.Words.{final, or_else}
-use Rattle.endpoint_learn.specs.Learning.{Step, Heard, Signalled, Signalling, last_signal, Lesson, lesson_under, lessons, is_new, source_in, learned, taught}
+use Rattle.endpoint_learn.specs.Lessons.{LearnStep, Heard, Signalled, Signalling, last_signal, Lesson, lesson_under, lessons, is_new, source_in, learned_after, taught}
 
 abbrev pub learned_from : List Lesson → Option Addr
 learned_from ls = source_in (or_else (find (λ lesson. lesson.moves) ls) (final ls))
@@ -65,14 +65,14 @@ heard_by s flags at source ls q =
     subst (λ o. learned_from (lesson_under source o ++ ls) ≡ taught flags (learned_from ls) source) (sym q)
     (asymmetric_case flags at source ls flags.asymmetric refl)
 
-pub learned_more : (steps : List Step) (at source : Addr) (flags : Flags) → last_signal steps ≡ Some (record { address = at; flags = flags })
-    → learned (Heard source ∷ steps) ≡ taught flags (learned steps) source
+pub learned_more : (steps : List LearnStep) (at source : Addr) (flags : Flags) → last_signal steps ≡ Some (record { address = at; flags = flags })
+    → learned_after (Heard source ∷ steps) ≡ taught flags (learned_after steps) source
 learned_more steps at source flags q = heard_by (last_signal steps) flags at source (lessons steps) q
 
-cut : (b : Bool) (steps : List Step) → learned_from (cond b [] (lessons steps)) ≡ cond b None (learned steps)
+cut : (b : Bool) (steps : List LearnStep) → learned_from (cond b [] (lessons steps)) ≡ cond b None (learned_after steps)
 cut true steps = refl
 cut false steps = refl
 
-pub learned_again : (steps : List Step) (at : Addr) (flags : Flags)
-    → learned (Signalled at flags ∷ steps) ≡ cond (is_new at (last_signal steps)) None (learned steps)
+pub learned_again : (steps : List LearnStep) (at : Addr) (flags : Flags)
+    → learned_after (Signalled at flags ∷ steps) ≡ cond (is_new at (last_signal steps)) None (learned_after steps)
 learned_again steps at flags = cut (is_new at (last_signal steps)) steps

@@ -1,2 +1,2 @@
-pub mod Learning
+pub mod Lessons
 pub mod Learners

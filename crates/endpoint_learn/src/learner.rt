@@ -1,7 +1,7 @@
 ghost use Rattle.std.specs.Prelude.{◌≡◌, List, [], ◌∷◌, Some};
-ghost use Rattle.endpoint_learn.specs.Learning as lessons;
-ghost use Rattle.endpoint_learn.specs.Learning.{Step, Signalled, Heard, is_wrong, endpoint};
-ghost use Rattle.endpoint_learn.specs.Learners.{StandsFor, judge_of};
+ghost use Rattle.endpoint_learn.specs.Lessons as lessons;
+ghost use Rattle.endpoint_learn.specs.Lessons.{LearnStep, Signalled, Heard, is_wrong_after, endpoint_after};
+ghost use Rattle.endpoint_learn.specs.Learners.{LearnerStandsFor, judge_of};
 
 use relay_outside::{Addr, Flags};
 
@@ -46,7 +46,7 @@ fn taught(flags: Flags, learned: Option<Addr>, source: Addr) -> Option<Addr>
 impl Learner {
     /// A learner that was signalled this address with these flags.
     pub fn new(signalled: Addr, flags: Flags) -> Learner
-        ensures { StandsFor result (Signalled signalled flags ∷ []) }
+        ensures { LearnerStandsFor result (Signalled signalled flags ∷ []) }
     {
         Learner {
             signalled,
@@ -57,7 +57,7 @@ impl Learner {
 
     /// Whether a packet from this source may be taken.
     pub fn judge(&self, source: Addr) -> Judge
-        ensures { (steps : List Step) → StandsFor self.now steps → result ≡ judge_of (is_wrong steps source) }
+        ensures { (steps : List LearnStep) → LearnerStandsFor self.now steps → result ≡ judge_of (is_wrong_after steps source) }
     {
         let Some(known) = self.learned else {
             return Judge::Pass;
@@ -71,14 +71,14 @@ impl Learner {
 
     /// Learns from the source of an accepted packet.
     pub fn learn(&mut self, source: Addr)
-        ensures { (steps : List Step) → StandsFor self.old steps → StandsFor self.new (Heard source ∷ steps) }
+        ensures { (steps : List LearnStep) → LearnerStandsFor self.old steps → LearnerStandsFor self.new (Heard source ∷ steps) }
     {
         self.learned = taught(self.flags, self.learned, source);
     }
 
     /// Takes a new signal. Learning begins again exactly where the address is another one.
     pub fn signal(&mut self, signalled: Addr, flags: Flags)
-        ensures { (steps : List Step) → StandsFor self.old steps → StandsFor self.new (Signalled signalled flags ∷ steps) }
+        ensures { (steps : List LearnStep) → LearnerStandsFor self.old steps → LearnerStandsFor self.new (Signalled signalled flags ∷ steps) }
     {
         if self.signalled != signalled {
             self.learned = None;
@@ -89,7 +89,7 @@ impl Learner {
 
     /// Where packets go.
     pub fn endpoint(&self) -> Addr
-        ensures { (steps : List Step) → StandsFor self.now steps → endpoint steps ≡ Some result }
+        ensures { (steps : List LearnStep) → LearnerStandsFor self.now steps → endpoint_after steps ≡ Some result }
     {
         match self.learned {
             Some(source) if !self.flags.asymmetric => source,

@@ -2,7 +2,7 @@
 use Rattle.std.proofs.Common.{◌∙◌, ◌≡◌, ap, sym, subst, ℕ, ◌==◌, ◌&&◌, true, Some, None, Option, List, [], ◌∷◌, ◌++◌}
 use Rattle.std.specs.List.{list_all}
 use Rattle.std.proofs.lemmas.List.Folds.{list_all-append}
-use Rattle.relay_outside.specs.Told.{Gains}
+use Rattle.relay_outside.specs.DeviceLogs.{Gains}
 use Rattle.load_maker.specs.Moments.{AreZero}
 
 zero_more : (moments : List ℕ) → list_all (λ moment. moment == 0) moments ≡ true → list_all (λ moment. moment == 0) (moments ++ 0 ∷ []) ≡ true

@@ -14,8 +14,8 @@ use Rattle.srtp_sources.specs.Notes.{indices, sources, has_room}
 use Rattle.srtp_sources.specs.Judged.{Sends}
 use Rattle.srtp_context.specs.declared.outbound.OutRtp.{OutRtp}
 use Rattle.srtp_context.specs.Packets.{protect}
-use Rattle.srtp_context.specs.Wrapping.{Wrapped, sent_index, wrapped_at, wrapping}
-use Rattle.srtp_context.specs.Contexts.{OutFor, WrapsTo}
+use Rattle.srtp_context.specs.OutboundPackets.{Wrapped, sent_index, wrapped_at, wrapping}
+use Rattle.srtp_context.specs.Contexts.{OutRtpFor, WrapsRtpTo}
 
 -- its index is its sequence number
 abbrev pub first_sealed : List ℕ → List ℕ → RtpHead → Wrapped
@@ -32,10 +32,10 @@ first_wraps master packet found head =
 
 pub first_sends : (master : List ℕ) (old new : OutRtp) (buf buf_new : List ℕ) (found : RtpHead) (result : Result (ℕ × ℕ) ProtectFault)
     → rtp_head (take 32 buf) ≡ Some found
-    → WrapsTo (wrapping master Tag80 [] (take 32 buf)) master Tag80 [] old new buf buf_new result
-    → Sends (OutFor master Tag80) [] (first_sealed master (take 32 buf) found) new buf buf_new result
+    → WrapsRtpTo (wrapping master Tag80 [] (take 32 buf)) master Tag80 [] old new buf buf_new result
+    → Sends (OutRtpFor master Tag80) [] (first_sealed master (take 32 buf) found) new buf buf_new result
 first_sends master old new buf buf_new found result head wraps =
-    subst (λ (o : Result Wrapped ProtectFault). WrapsTo o master Tag80 [] old new buf buf_new result)
+    subst (λ (o : Result Wrapped ProtectFault). WrapsRtpTo o master Tag80 [] old new buf buf_new result)
     (first_wraps master (take 32 buf) found head) wraps
 
 abbrev pub size_of : Result (ℕ × ℕ) ProtectFault → ℕ

@@ -8,9 +8,9 @@ use Rattle.relay_outside.specs.declared.ports.InCall.TheVariants as into
 use Rattle.relay_outside.specs.declared.ports.InGiven.TheVariants as given
 use Rattle.relay_outside.specs.declared.ports.PortCall.{PortCall}
 use Rattle.relay_outside.specs.declared.ports.PortCall.TheVariants as port
-use Rattle.relay_outside.specs.Told.{Gains, WhereTold}
+use Rattle.relay_outside.specs.DeviceLogs.{Gains, WhereLogged}
 use Rattle.load_maker.specs.declared.stream.Stream.{Stream}
-use Rattle.load_maker.specs.Packets.{source_of, packet}
+use Rattle.load_maker.specs.Packets.{side_source, packet}
 use Rattle.load_maker.specs.declared.ports.ClosedEnd.{ClosedEnd}
 use Rattle.load_maker.specs.Ports.{where_left}
 use Rattle.load_maker.specs.Takes.{GivesOn, GaveFirst, AreClosed}
@@ -25,9 +25,9 @@ gives_nothing (Some stream) before after room (into.Take r (given.Datagram from 
     (gives.0, gives.1, gives_nothing (Some stream) (before + 1) after room calls gives.2)
 
 gives_packet : (stream : Stream) (before after room : ℕ) (calls : List InCall) → GivesOn (Some stream) before calls after
-    → GivesOn (Some stream) before (calls ++ into.Take room (given.Datagram (source_of stream.call stream.side) (take room (packet stream.call stream.side (after + 1)))) ∷ []) (after + 1)
+    → GivesOn (Some stream) before (calls ++ into.Take room (given.Datagram (side_source stream.call stream.side) (take room (packet stream.call stream.side (after + 1)))) ∷ []) (after + 1)
 gives_packet stream before after room [] gives =
-    subst (λ n. GivesOn (Some stream) n (into.Take room (given.Datagram (source_of stream.call stream.side) (take room (packet stream.call stream.side (after + 1)))) ∷ []) (after + 1)) gives (refl, refl, refl)
+    subst (λ n. GivesOn (Some stream) n (into.Take room (given.Datagram (side_source stream.call stream.side) (take room (packet stream.call stream.side (after + 1)))) ∷ []) (after + 1)) gives (refl, refl, refl)
 gives_packet stream before after room (into.Take r given.Nothing ∷ calls) gives = gives_packet stream before after room calls gives
 gives_packet stream before after room (into.Take r given.Failed ∷ calls) gives = absurd gives
 gives_packet stream before after room (into.Take r (given.Datagram from bytes) ∷ calls) gives =
@@ -45,17 +45,17 @@ left_stream false stream next is = let k : Some next ≡ None = is in cc
 -- The same of what an end tells, where it still tells.
 
 pub noted_nothing : (stream : Option Stream) (count room : ℕ) (old new : Option (List InCall)) → Gains old new (into.Take room given.Nothing)
-    → WhereTold old (λ takes. GivesOn stream 0 takes count) → WhereTold new (λ takes. GivesOn stream 0 takes count)
-noted_nothing stream count room old None gains told = tt
-noted_nothing stream count room None (Some new) gains told = elim gains [ ]
-noted_nothing stream count room (Some calls) (Some new) gains told = subst (λ l. GivesOn stream 0 l count) (sym gains) (gives_nothing stream 0 count room calls told)
+    → WhereLogged old (λ takes. GivesOn stream 0 takes count) → WhereLogged new (λ takes. GivesOn stream 0 takes count)
+noted_nothing stream count room old None gains log = tt
+noted_nothing stream count room None (Some new) gains log = elim gains [ ]
+noted_nothing stream count room (Some calls) (Some new) gains log = subst (λ l. GivesOn stream 0 l count) (sym gains) (gives_nothing stream 0 count room calls log)
 
 pub noted_packet : (stream : Stream) (count room : ℕ) (old new : Option (List InCall))
-    → Gains old new (into.Take room (given.Datagram (source_of stream.call stream.side) (take room (packet stream.call stream.side (count + 1)))))
-    → WhereTold old (λ takes. GivesOn (Some stream) 0 takes count) → WhereTold new (λ takes. GivesOn (Some stream) 0 takes (count + 1))
-noted_packet stream count room old None gains told = tt
-noted_packet stream count room None (Some new) gains told = elim gains [ ]
-noted_packet stream count room (Some calls) (Some new) gains told = subst (λ l. GivesOn (Some stream) 0 l (count + 1)) (sym gains) (gives_packet stream 0 count room calls told)
+    → Gains old new (into.Take room (given.Datagram (side_source stream.call stream.side) (take room (packet stream.call stream.side (count + 1)))))
+    → WhereLogged old (λ takes. GivesOn (Some stream) 0 takes count) → WhereLogged new (λ takes. GivesOn (Some stream) 0 takes (count + 1))
+noted_packet stream count room old None gains log = tt
+noted_packet stream count room None (Some new) gains log = elim gains [ ]
+noted_packet stream count room (Some calls) (Some new) gains log = subst (λ l. GivesOn (Some stream) 0 l (count + 1)) (sym gains) (gives_packet stream 0 count room calls log)
 
 -- Ports.
 
@@ -75,20 +75,20 @@ closes_more one taken (port.Close there t sent ∷ calls) [] gives closed = absu
 closes_more one taken (port.Close there t sent ∷ calls) (c ∷ closings) gives closed = (closed.0, closed.1, closes_more one taken calls closings gives closed.2)
 
 pub noted_open : (at : Addr) (closings : List ClosedEnd) (old new : Option (List PortCall)) → Gains old new (port.Open at true)
-    → WhereTold old (λ calls. AreClosed calls closings) → WhereTold new (λ calls. AreClosed calls closings)
-noted_open at closings old None gains told = tt
-noted_open at closings None (Some new) gains told = elim gains [ ]
-noted_open at closings (Some calls) (Some new) gains told = subst (λ l. AreClosed l closings) (sym gains) (opens_more at calls closings told)
+    → WhereLogged old (λ calls. AreClosed calls closings) → WhereLogged new (λ calls. AreClosed calls closings)
+noted_open at closings old None gains log = tt
+noted_open at closings None (Some new) gains log = elim gains [ ]
+noted_open at closings (Some calls) (Some new) gains log = subst (λ l. AreClosed l closings) (sym gains) (opens_more at calls closings log)
 
 pub noted_close : (one : ClosedEnd) (taken : Option (List InCall)) (closings : List ClosedEnd) (old new : Option (List PortCall)) → Gains old new (port.Close one.at taken None)
     → GaveFirst one.stream taken one.given
-    → WhereTold old (λ calls. AreClosed calls closings) → WhereTold new (λ calls. AreClosed calls (closings ++ one ∷ []))
-noted_close one taken closings old None gains gives told = tt
-noted_close one taken closings None (Some new) gains gives told = elim gains [ ]
-noted_close one taken closings (Some calls) (Some new) gains gives told = subst (λ l. AreClosed l (closings ++ one ∷ [])) (sym gains) (closes_more one taken calls closings gives told)
+    → WhereLogged old (λ calls. AreClosed calls closings) → WhereLogged new (λ calls. AreClosed calls (closings ++ one ∷ []))
+noted_close one taken closings old None gains gives log = tt
+noted_close one taken closings None (Some new) gains gives log = elim gains [ ]
+noted_close one taken closings (Some calls) (Some new) gains gives log = subst (λ l. AreClosed l (closings ++ one ∷ [])) (sym gains) (closes_more one taken calls closings gives log)
 
 -- an end that tells what it gave
-gave_first : (stream : Option Stream) (taken : Option (List InCall)) (given : ℕ) → IsSome taken → WhereTold taken (λ takes. GivesOn stream 0 takes given) → GaveFirst stream taken given
+gave_first : (stream : Option Stream) (taken : Option (List InCall)) (given : ℕ) → IsSome taken → WhereLogged taken (λ takes. GivesOn stream 0 takes given) → GaveFirst stream taken given
 gave_first stream None given tells gives = let k : false ≡ true = tells in cc
 gave_first stream (Some takes) given tells gives = (takes, refl, gives)
 
@@ -99,11 +99,11 @@ pub noted_kept : (one : ClosedEnd) (taken : Option (List InCall)) (closings clos
     → IfSome call (λ c. c ≡ port.Close one.at taken None)
     → (IsSome call → IsSome taken)
     → (kept ≡ true → closings_now ≡ closings ++ one ∷ [])
-    → WhereTold taken (λ takes. GivesOn one.stream 0 takes one.given)
-    → WhereTold old (λ calls. AreClosed calls closings) → WhereTold new (λ calls. AreClosed calls closings_now)
-noted_kept one taken closings closings_now old new None call kept stops both is tells more gives told = subst (λ n. WhereTold n (λ calls. AreClosed calls closings_now)) (sym stops) tt
-noted_kept one taken closings closings_now old new (Some c) call kept gains both is tells more gives told =
+    → WhereLogged taken (λ takes. GivesOn one.stream 0 takes one.given)
+    → WhereLogged old (λ calls. AreClosed calls closings) → WhereLogged new (λ calls. AreClosed calls closings_now)
+noted_kept one taken closings closings_now old new None call kept stops both is tells more gives log = subst (λ n. WhereLogged n (λ calls. AreClosed calls closings_now)) (sym stops) tt
+noted_kept one taken closings closings_now old new (Some c) call kept gains both is tells more gives log =
     let same : c ≡ port.Close one.at taken None = subst (λ x. IfSome x (λ c. c ≡ port.Close one.at taken None)) both.1 is in
-    subst (λ l. WhereTold new (λ calls. AreClosed calls l)) (sym (more both.0))
+    subst (λ l. WhereLogged new (λ calls. AreClosed calls l)) (sym (more both.0))
     (noted_close one taken closings old new (subst (λ x. Gains old new x) same gains)
-    (gave_first one.stream taken one.given (tells (subst (λ x. IsSome x) (sym both.1) refl)) gives) told)
+    (gave_first one.stream taken one.given (tells (subst (λ x. IsSome x) (sym both.1) refl)) gives) log)

@@ -10,18 +10,18 @@ abbrev pub call_id : ℕ → List ℕ
 call_id call = codes "load-" ++ decimal call
 
 -- the port that both sides of a call signal for RTP
-abbrev pub media_port : ℕ → ℕ
-media_port call = 10000 + 2 * call
+abbrev pub signalled_port : ℕ → ℕ
+signalled_port call = 10000 + 2 * call
 
 -- side B's master key and salt
 abbrev pub answer_key : ℕ → List ℕ
 answer_key call = replicate 30 (call % 256)
 
 -- side A's description
-abbrev pub offered_sdp : ℕ → List ℕ
-offered_sdp call =
+abbrev pub side_a_sdp : ℕ → List ℕ
+side_a_sdp call =
     codes "v=0\r\no=alice 1 1 IN IP4 192.0.2.10\r\ns=-\r\nc=IN IP4 192.0.2.10\r\nt=0 0\r\nm=audio "
-    ++ decimal (media_port call)
+    ++ decimal (signalled_port call)
     ++ codes " RTP/AVP 0 8\r\na=rtpmap:0 PCMU/8000\r\na=sendrecv\r\n"
 
 -- what follows the port in side B's description: where the call is protected, its one crypto line with side B's key
@@ -33,7 +33,7 @@ answer_end call false = codes " RTP/AVP 0\r\n"
 abbrev pub answered_sdp : ℕ → Bool → List ℕ
 answered_sdp call protected =
     codes "v=0\r\no=bob 2 2 IN IP4 198.51.100.20\r\ns=-\r\nc=IN IP4 198.51.100.20\r\nt=0 0\r\nm=audio "
-    ++ decimal (media_port call)
+    ++ decimal (signalled_port call)
     ++ answer_end call protected
 
 -- the pairs, and after them the protocol towards side B, where it is to be protected
@@ -42,19 +42,19 @@ with_profile pairs true = with_pair pairs (codes "transport protocol") (Bytes (c
 with_profile pairs false = pairs
 
 -- the body of a call's offer; its keys stand in byte order
-abbrev pub offer_of : ℕ → Bool → Tree
-offer_of call protected =
+abbrev pub offer_body : ℕ → Bool → Tree
+offer_body call protected =
     Dict
     (with_profile
     (text_entry (codes "call-id") (call_id call)
     (text_entry (codes "command") (codes "offer")
     (text_entry (codes "from-tag") (codes "a")
-    (text_entry (codes "sdp") (offered_sdp call) no_entries))))
+    (text_entry (codes "sdp") (side_a_sdp call) no_entries))))
     protected)
 
 -- the body of its answer
-abbrev pub answer_of : ℕ → Bool → Tree
-answer_of call protected =
+abbrev pub answer_body : ℕ → Bool → Tree
+answer_body call protected =
     Dict
     (text_entry (codes "call-id") (call_id call)
     (text_entry (codes "command") (codes "answer")

@@ -6,14 +6,14 @@ use Rattle.relay_outside.specs.declared.address.Ip.TheVariants as ip
 use Rattle.ng_bencode.specs.Tree.{Tree}
 use Rattle.ng_bencode.specs.Spells.{spelling}
 use Rattle.ng_frame.specs.Frame.{frame}
-use Rattle.load_maker.specs.Calls.{offer_of, answer_of}
+use Rattle.load_maker.specs.Calls.{offer_body, answer_body}
 
 -- the call that the datagram is of
 abbrev pub call_at : ℕ → ℕ
 call_at number = number / 2 + 1
 
-abbrev pub is_offer : ℕ → Bool
-is_offer number = number % 2 == 0
+abbrev pub is_offer_turn : ℕ → Bool
+is_offer_turn number = number % 2 == 0
 
 -- of the calls with an even number, side B's media are protected
 abbrev pub is_protected_call : ℕ → Bool
@@ -25,18 +25,18 @@ mark_of true = codes "o"
 mark_of false = codes "a"
 
 abbrev pub cookie_of : ℕ → List ℕ
-cookie_of number = mark_of (is_offer number) ++ decimal (call_at number)
+cookie_of number = mark_of (is_offer_turn number) ++ decimal (call_at number)
 
 abbrev pub body_by : Bool → ℕ → Tree
-body_by true call = offer_of call (is_protected_call call)
-body_by false call = answer_of call (is_protected_call call)
+body_by true call = offer_body call (is_protected_call call)
+body_by false call = answer_body call (is_protected_call call)
 
 abbrev pub body_of : ℕ → Tree
-body_of number = body_by (is_offer number) (call_at number)
+body_of number = body_by (is_offer_turn number) (call_at number)
 
 -- the cookie, a space, the body
-abbrev pub datagram_at : ℕ → List ℕ
-datagram_at number = cookie_of number ++ 32 ∷ spelling (body_of number)
+abbrev pub datagram_with : ℕ → List ℕ
+datagram_with number = cookie_of number ++ 32 ∷ spelling (body_of number)
 
 -- where they all come from
 abbrev pub controller : Addr
@@ -45,7 +45,7 @@ controller = record { ip = ip.V4 (127 ∷ 0 ∷ 0 ∷ 1 ∷ []); port = 2224 }
 -- the first so many, in order, each with its source
 unfoldable pub first_datagrams : ℕ → List (Addr × List ℕ)
 first_datagrams zero = []
-first_datagrams (suc number) = first_datagrams number ++ (controller, datagram_at number) ∷ []
+first_datagrams (suc number) = first_datagrams number ++ (controller, datagram_with number) ∷ []
 
 -- a reply, by its frame, whose body begins as that of a success does
 abbrev pub has_succeeded : Option (List ℕ × List ℕ) → Bool

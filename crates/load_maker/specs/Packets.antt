@@ -7,12 +7,12 @@ use Rattle.port_pool.specs.declared.holder.Side.{Side}
 use Rattle.port_pool.specs.declared.holder.Side.TheVariants.{A, B}
 use Rattle.sdes_lines.specs.declared.crypto_line.Suite.TheVariants.{Tag80}
 use Rattle.srtp_context.specs.Packets.{protect}
-use Rattle.load_maker.specs.Calls.{media_port, answer_key}
+use Rattle.load_maker.specs.Calls.{signalled_port, answer_key}
 
 -- the address that a side signals, from which it sends
-abbrev pub source_of : ℕ → Side → Addr
-source_of call A = record { ip = ip.V4 (192 ∷ 0 ∷ 2 ∷ 10 ∷ []); port = media_port call }
-source_of call B = record { ip = ip.V4 (198 ∷ 51 ∷ 100 ∷ 20 ∷ []); port = media_port call }
+abbrev pub side_source : ℕ → Side → Addr
+side_source call A = record { ip = ip.V4 (192 ∷ 0 ∷ 2 ∷ 10 ∷ []); port = signalled_port call }
+side_source call B = record { ip = ip.V4 (198 ∷ 51 ∷ 100 ∷ 20 ∷ []); port = signalled_port call }
 
 -- the synchronization source of a side's packets
 abbrev pub ssrc_of : ℕ → Side → ℕ

@@ -5,35 +5,35 @@ use Rattle.relay_outside.specs.declared.address.Ip.{Ip}
 use Rattle.relay_outside.specs.declared.ports.InCall.{InCall}
 use Rattle.relay_outside.specs.declared.ports.OutCall.{OutCall}
 use Rattle.relay_outside.specs.declared.ports.PortCall.{PortCall}
-use Rattle.relay_outside.specs.Told.{EndTold, opened_for}
+use Rattle.relay_outside.specs.DeviceLogs.{EndLog, opened_for}
 use Rattle.port_pool.specs.declared.holder.Side.TheVariants.{A, B}
 use Rattle.load_maker.specs.declared.ports.ClosedEnd.{ClosedEnd}
 use Rattle.load_maker.specs.declared.stream.Stream.{Stream}
-use Rattle.load_maker.specs.Packets.{source_of, packet}
+use Rattle.load_maker.specs.Packets.{side_source, packet}
 
 -- an in end: what it tells; whose packets it gives, if any; how many there are, and how many of them were given
-pub record InState : Type 0 where
-  pub told : EndTold InCall
+pub record LoadInState : Type 0 where
+  pub log : EndLog InCall
   pub stream : Option Stream
   pub packets : ℕ
   pub given : ℕ
 
 -- the maker: what it tells; how many packets each side sends; the call that was begun last, and how many ports were opened since then;
 -- the ends that were given back
-pub record MakerState : Type 0 where
-  pub told : Option (List PortCall)
+pub record LoadMakerState : Type 0 where
+  pub log : Option (List PortCall)
   pub packets : ℕ
   pub call : Option ℕ
   pub opened : ℕ
   pub closed : List ClosedEnd
 
 -- the maker of a whole load: the maker of its ports, and how many were opened in all
-pub record PortsState : Type 0 where
-  pub maker : MakerState
+pub record LoadPortsState : Type 0 where
+  pub maker : LoadMakerState
   pub opened : ℕ
 
 -- what an out end tells: its address, and nothing of its calls
-abbrev pub silent_at : Addr → EndTold OutCall
+abbrev pub silent_at : Addr → EndLog OutCall
 silent_at at = record { at = at; calls = None }
 
 -- whose packets the next port that is opened gives. The first pair of a call is that of side B's leg, the second that of side A's; of each the
@@ -60,9 +60,9 @@ abbrev pub IsInCall : (call : Option ℕ) → (begun : ℕ) → (opened : ℕ) �
 IsInCall call begun opened = opened < 4000 → 0 < opened % 4 → (call ≡ Some (opened / 4 + 1)) × (begun ≡ opened % 4)
 
 -- the in end of the next port, opened for this address
-abbrev pub next_end : MakerState → Addr → InState
+abbrev pub next_end : LoadMakerState → Addr → LoadInState
 next_end maker at = record {
-  told = opened_for at;
+  log = opened_for at;
   stream = stream_at maker.call maker.opened;
   packets = maker.packets;
   given = 0;
@@ -72,21 +72,21 @@ abbrev pub where_left : Bool → Option Stream → Option Stream
 where_left more stream = if more then stream else None
 
 -- whose packet the next take gives, where one is left
-abbrev pub next_stream : InState → Option Stream
+abbrev pub next_stream : LoadInState → Option Stream
 next_stream end = where_left (nat_lt end.given end.packets) end.stream
 
 -- a take gives these bytes from this source, cut at the room of the buffer
-pub record GivesPacket (source : Addr) (bytes : List ℕ) (answer : Option (Addr × ℕ)) (buf : List ℕ) : Type 0 where
+pub record GivesLoadPacket (source : Addr) (bytes : List ℕ) (answer : Option (Addr × ℕ)) (buf : List ℕ) : Type 0 where
   pub len : ℕ
   pub cut : len ≡ min (length bytes) (length buf)
   pub answer_is : answer ≡ Some (source, len)
   pub front : take len buf ≡ take len bytes
 
 -- a take gives the next packet of the stream; after the last one it gives nothing
-abbrev pub Takes : InState → InState → Option (Addr × ℕ) → List ℕ → Type 0
-Takes before after answer buf =
+abbrev pub TakesNext : LoadInState → LoadInState → Option (Addr × ℕ) → List ℕ → Type 0
+TakesNext before after answer buf =
     MatchOption (next_stream before)
     ((answer ≡ None) × (after.given ≡ before.given))
     (λ stream.
-    GivesPacket (source_of stream.call stream.side) (packet stream.call stream.side (before.given + 1)) answer buf
+    GivesLoadPacket (side_source stream.call stream.side) (packet stream.call stream.side (before.given + 1)) answer buf
     × (after.given ≡ before.given + 1))

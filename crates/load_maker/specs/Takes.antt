@@ -6,9 +6,9 @@ use Rattle.relay_outside.specs.declared.ports.InCall.TheVariants as into
 use Rattle.relay_outside.specs.declared.ports.InGiven.TheVariants as given
 use Rattle.relay_outside.specs.declared.ports.PortCall.{PortCall}
 use Rattle.relay_outside.specs.declared.ports.PortCall.TheVariants as port
-use Rattle.relay_outside.specs.Told.{WhereTold}
+use Rattle.relay_outside.specs.DeviceLogs.{WhereLogged}
 use Rattle.load_maker.specs.declared.stream.Stream.{Stream}
-use Rattle.load_maker.specs.Packets.{source_of, packet}
+use Rattle.load_maker.specs.Packets.{side_source, packet}
 use Rattle.load_maker.specs.declared.ports.ClosedEnd.{ClosedEnd}
 use Rattle.load_maker.specs.Ports.{end_at}
 
@@ -20,7 +20,7 @@ GivesOn stream before (into.Take room given.Nothing ∷ calls) after = GivesOn s
 GivesOn stream before (into.Take room given.Failed ∷ calls) after = ⊥
 GivesOn None before (into.Take room (given.Datagram from bytes) ∷ calls) after = ⊥
 GivesOn (Some stream) before (into.Take room (given.Datagram from bytes) ∷ calls) after =
-    (from ≡ source_of stream.call stream.side) × (bytes ≡ take room (packet stream.call stream.side (before + 1))) × GivesOn (Some stream) (before + 1) calls after
+    (from ≡ side_source stream.call stream.side) × (bytes ≡ take room (packet stream.call stream.side (before + 1))) × GivesOn (Some stream) (before + 1) calls after
 
 -- an end tells what its takes gave: the first so many packets of this stream, in order
 abbrev pub GaveFirst : Option Stream → (taken : Option (List InCall)) → (given : ℕ) → Type 0
@@ -41,7 +41,7 @@ pub record AreAllEnds (host : Ip) (first calls packets : ℕ) (closed : List Clo
   pub ends : (n : ℕ) (d : ClosedEnd) → n < 4 * calls → slice_index_or closed n d ≡ end_at host first packets n
 
 -- The ends that a maker was given back, by what it tells, are those of this many calls, and each gave all packets of its side, one after the other
-pub record HasGivenAll (host : Ip) (first calls packets : ℕ) (told : Option (List PortCall)) : Type 0 where
+pub record HasGivenAll (host : Ip) (first calls packets : ℕ) (log : Option (List PortCall)) : Type 0 where
   pub closed : List ClosedEnd
   pub all : AreAllEnds host first calls packets closed
-  pub gave : WhereTold told (λ opened. AreClosed opened closed)
+  pub gave : WhereLogged log (λ opened. AreClosed opened closed)

@@ -3,11 +3,11 @@ ghost use Rattle.std.specs.Prelude.{◌≡◌, ◌≤◌, IfOk, OnOk};
 ghost use Rattle.ng_bencode.specs.Row.{list_in};
 ghost use Rattle.ng_bencode.specs.Tree.{pairs_of};
 ghost use Rattle.ng_bencode.specs.Spells.{spelling};
-ghost use Rattle.load_maker.specs.Calls.{call_id, with_profile, offer_of, answer_of};
+ghost use Rattle.load_maker.specs.Calls.{call_id, with_profile, offer_body, answer_body};
 
 use crate::commands::Signals;
 use crate::sdp::{answered_sdp, offered_sdp};
-use crate::writing::{put, put_number};
+use crate::text::{put, put_number};
 use ng_bencode::{Pairs, Text, Value, encode};
 use ng_reply::put_text;
 use relay_outside::OutOfMemory;
@@ -16,8 +16,8 @@ use std::alloc::Global;
 /// The bodies of the commands that make this call, from 1. Where it is `protected`, side B is offered `RTP/SAVP` and answers with a key.
 pub fn signals(alloc: Global, call: u32, protected: bool) -> Result<Signals, OutOfMemory>
     requires { (1 ≤ call) × (call ≤ 1000) }
-    ensures offer { IfOk result (λ signals. signals.offer.list ≡ spelling (offer_of call protected)) }
-    ensures answer { IfOk result (λ signals. signals.answer.list ≡ spelling (answer_of call protected)) }
+    ensures offer { IfOk result (λ signals. signals.offer.list ≡ spelling (offer_body call protected)) }
+    ensures answer { IfOk result (λ signals. signals.answer.list ≡ spelling (answer_body call protected)) }
 {
     let offer = offer_body(alloc, call, protected)?;
     let answer = answer_body(alloc, call, protected)?;
@@ -27,7 +27,7 @@ pub fn signals(alloc: Global, call: u32, protected: bool) -> Result<Signals, Out
 /// The body of a call's offer.
 pub(crate) fn offer_body(alloc: Global, call: u32, protected: bool) -> Result<Text, OutOfMemory>
     requires { call ≤ 1000 }
-    ensures { IfOk result (λ body. body.list ≡ spelling (offer_of call protected)) }
+    ensures { IfOk result (λ body. body.list ≡ spelling (offer_body call protected)) }
 {
     let id = call_id(alloc, call)?;
     let sdp = offered_sdp(alloc, call)?;
@@ -47,7 +47,7 @@ pub(crate) fn offer_body(alloc: Global, call: u32, protected: bool) -> Result<Te
 /// It has the from-tag `a` and the to-tag `b`, as every answer after an offer of side A.
 pub(crate) fn answer_body(alloc: Global, call: u32, protected: bool) -> Result<Text, OutOfMemory>
     requires { call ≤ 1000 }
-    ensures { IfOk result (λ body. body.list ≡ spelling (answer_of call protected)) }
+    ensures { IfOk result (λ body. body.list ≡ spelling (answer_body call protected)) }
 {
     let id = call_id(alloc, call)?;
     let sdp = answered_sdp(alloc, call, protected)?;

@@ -1,10 +1,10 @@
 //! The datagrams of the control protocol that make the calls of a load.
 ghost use Rattle.std.specs.Prelude.{◌≡◌, ◌++◌, ◌<◌, decimal, IfOk};
-ghost use Rattle.load_maker.specs.Datagrams.{mark_of, cookie_of, body_of, datagram_at};
+ghost use Rattle.load_maker.specs.Datagrams.{mark_of, cookie_of, body_of, datagram_with};
 ghost use Rattle.ng_bencode.specs.Spells.{spelling};
 
 use crate::body::{answer_body, offer_body};
-use crate::writing::{put, put_number};
+use crate::text::{put, put_number};
 use ng_bencode::Text;
 use ng_frame::join;
 use relay_outside::OutOfMemory;
@@ -41,7 +41,7 @@ fn datagram_body(alloc: Global, number: u32) -> Result<Text, OutOfMemory>
 /// A datagram by its number from 0.
 pub(crate) fn load_datagram(alloc: Global, number: u32) -> Result<Text, OutOfMemory>
     requires { number < 2000 }
-    ensures { IfOk result (λ datagram. datagram.list ≡ datagram_at number) }
+    ensures { IfOk result (λ datagram. datagram.list ≡ datagram_with number) }
 {
     let cookie = datagram_cookie(alloc, number)?;
     let body = datagram_body(alloc, number)?;

@@ -1,9 +1,9 @@
 //! The ends of the ports of the load.
 ghost use Rattle.std.specs.Prelude.{◌≡◌, ◌≤◌, ◌<◌, ℕ, None, MatchOption, IfOk, IfSome, IsOk, length, min, take};
-ghost use Rattle.relay_outside.specs.Told.{EndGains, HasCause, WhereTold, is_done, opened_for};
+ghost use Rattle.relay_outside.specs.DeviceLogs.{EndGains, HasCause, WhereLogged, is_done, opened_for};
 ghost use Rattle.load_maker.specs.Takes.{GivesOn};
 ghost use Rattle.relay_outside.specs.Ports.{FitsTake, in_given};
-ghost use Rattle.load_maker.specs.Ports.{Takes, next_stream, silent_at};
+ghost use Rattle.load_maker.specs.Ports.{TakesNext, next_stream, silent_at};
 
 use crate::stream::{ROOM, Stream};
 use relay_outside::{Addr, CallList, Copied, Failed, InCall, InEnd, InGiven, OutEnd};
@@ -15,7 +15,7 @@ use std::marker::Model;
 pub struct LoadIn {
     alloc: Global,
     at: Addr,
-    told: CallList<InCall>,
+    log: CallList<InCall>,
     stream: Option<Stream>,
     packets: u32,
     given: u32,
@@ -23,15 +23,15 @@ pub struct LoadIn {
 
 impl Model for LoadIn {
     ghost use Rattle.std.specs.Prelude.{◌≤◌, IfSome};
-    ghost use Rattle.relay_outside.specs.Told.{WhereTold};
-    ghost use Rattle.load_maker.specs.Ports.{InState};
+    ghost use Rattle.relay_outside.specs.DeviceLogs.{WhereLogged};
+    ghost use Rattle.load_maker.specs.Ports.{LoadInState};
     ghost use Rattle.load_maker.specs.Takes.{GivesOn};
 
-    ghost Value = { InState };
+    ghost Value = { LoadInState };
 
-    ghost view = { λ end. record { told = record { at = end.at; calls = end.told }; stream = end.stream; packets = end.packets; given = end.given } };
+    ghost view = { λ end. record { log = record { at = end.at; calls = end.log }; stream = end.stream; packets = end.packets; given = end.given } };
 
-    ghost invariant = { λ end. (end.given ≤ end.packets) × (end.packets ≤ 1000) × IfSome end.stream (λ stream. stream.call ≤ 1000) × WhereTold end.told (λ takes. GivesOn end.stream 0 takes end.given) };
+    ghost invariant = { λ end. (end.given ≤ end.packets) × (end.packets ≤ 1000) × IfSome end.stream (λ stream. stream.call ≤ 1000) × WhereLogged end.log (λ takes. GivesOn end.stream 0 takes end.given) };
 }
 
 impl LoadIn {
@@ -39,12 +39,12 @@ impl LoadIn {
     pub(crate) fn new(alloc: Global, at: Addr, stream: Option<Stream>, packets: u32) -> LoadIn
         requires packets { packets ≤ 1000 }
         requires call { IfSome stream (λ stream. stream.call ≤ 1000) }
-        ensures { result ≡ record { told = opened_for at; stream = stream; packets = packets; given = 0 } }
+        ensures { result ≡ record { log = opened_for at; stream = stream; packets = packets; given = 0 } }
     {
         LoadIn {
             alloc,
             at,
-            told: CallList::new(alloc),
+            log: CallList::new(alloc),
             stream,
             packets,
             given: 0,
@@ -68,43 +68,43 @@ impl LoadIn {
     pub(crate) fn gave(&self) -> (Option<Stream>, u32)
         ensures stream { result.0 ≡ self.now.stream }
         ensures given { result.1 ≡ self.now.given }
-        ensures takes { WhereTold self.now.told.calls (λ takes. GivesOn self.now.stream 0 takes self.now.given) }
+        ensures takes { WhereLogged self.now.log.calls (λ takes. GivesOn self.now.stream 0 takes self.now.given) }
     {
         (self.stream, self.given)
     }
 
     /// What the end told of its calls.
     pub(crate) fn into_list(self) -> CallList<InCall>
-        ensures { result ≡ self.told.calls }
+        ensures { result ≡ self.log.calls }
     {
-        let LoadIn { told, .. } = self;
-        told
+        let LoadIn { log, .. } = self;
+        log
     }
 }
 
 impl InEnd for LoadIn {
     ghost use Rattle.std.specs.Prelude.{◌≡◌, ◌<◌, IfOk, IsOk, length};
-    ghost use Rattle.relay_outside.specs.Told.{EndGains, HasCause};
+    ghost use Rattle.relay_outside.specs.DeviceLogs.{EndGains, HasCause};
     ghost use Rattle.relay_outside.specs.Ports.{FitsTake, in_given};
-    ghost use Rattle.load_maker.specs.Ports.{Takes};
+    ghost use Rattle.load_maker.specs.Ports.{TakesNext};
 
-    ghost told = { λ end. end.told };
+    ghost log = { λ end. end.log };
 
     ghost faults = { λ end. 0 };
 
     fn take(&mut self, buf: &mut [u8]) -> Result<Option<(Addr, usize)>, Failed>
         requires { 0 < length buf.old }
         ensures within { FitsTake result (length buf.old) }
-        ensures told { EndGains self.old.told self.new.told (InCall.Take (length buf.old) (in_given result buf.new)) }
+        ensures log { EndGains self.old.log self.new.log (InCall.Take (length buf.old) (in_given result buf.new)) }
         ensures cause { HasCause 0 0 result }
         ensures done { IsOk result }
-        ensures takes { IfOk result (λ answer. Takes self.old self.new answer buf.new) }
-        ensures same { self.new ≡ record self.old { told = self.new.told; given = self.new.given } }
+        ensures takes { IfOk result (λ answer. TakesNext self.old self.new answer buf.new) }
+        ensures same { self.new ≡ record self.old { log = self.new.log; given = self.new.given } }
     {
         let room = buf.len();
         let Some(stream) = self.next_stream() else {
             let given = InGiven::Nothing;
-            self.told.note(Some(InCall::Take { room, given }));
+            self.log.note(Some(InCall::Take { room, given }));
             return Ok(None);
         };
         self.given += 1;
@@ -113,7 +113,7 @@ impl InEnd for LoadIn {
         let from = stream.source();
         let len = fill(buf, &packet[..size]);
         let call = arrival_call(self.alloc, room, from, &buf[..len]);
-        self.told.note(call);
+        self.log.note(call);
         Ok(Some((from, len)))
     }
 }
@@ -166,16 +166,16 @@ impl LoadOut {
 
 impl OutEnd for LoadOut {
     ghost use Rattle.std.specs.Prelude.{◌≡◌, IsOk};
-    ghost use Rattle.relay_outside.specs.Told.{EndGains, HasCause, is_done};
+    ghost use Rattle.relay_outside.specs.DeviceLogs.{EndGains, HasCause, is_done};
     ghost use Rattle.relay_outside.specs.declared.ports.OutCall.TheVariants as out;
     ghost use Rattle.load_maker.specs.Ports.{silent_at};
 
-    ghost told = { λ end. silent_at end };
+    ghost log = { λ end. silent_at end };
 
     ghost faults = { λ end. 0 };
 
     fn send(&mut self, to: Addr, bytes: &[u8]) -> Result<(), Failed>
-        ensures told { EndGains (silent_at self.old) (silent_at self.new) (out.Send to bytes.now (is_done result)) }
+        ensures log { EndGains (silent_at self.old) (silent_at self.new) (out.Send to bytes.now (is_done result)) }
         ensures cause { HasCause 0 0 result }
         ensures done { IsOk result }
         ensures same { self.new ≡ self.old }

@@ -15,9 +15,9 @@ mod link;
 mod ports;
 mod sdp;
 mod stream;
+mod text;
 mod timer;
 mod whole;
-mod writing;
 
 pub use body::signals;
 pub use commands::Signals;

@@ -1,8 +1,8 @@
 //! The control link of a load.
 ghost use Rattle.std.specs.Prelude.{◌≡◌, ◌↔◌, ◌≤◌, ◌<◌, ◌*◌, ℕ, true, false, Some, [], IsTrue, IsSome, IfOk, IfSome, MatchOption, length, take};
-ghost use Rattle.relay_outside.specs.Told.{Gains, HasCause, is_done};
+ghost use Rattle.relay_outside.specs.DeviceLogs.{Gains, HasCause, is_done};
 ghost use Rattle.relay_outside.specs.Link.{FitsRoom, link_given};
-ghost use Rattle.load_maker.specs.Datagrams.{controller, datagram_at, is_success};
+ghost use Rattle.load_maker.specs.Datagrams.{controller, datagram_with, is_success};
 ghost use Rattle.load_maker.specs.Links.{IsOfLoad};
 
 use crate::datagrams::load_datagram;
@@ -25,7 +25,7 @@ const CONTROLLER: Addr = Addr {
 #[derive(Drop)]
 pub struct LoadLink {
     alloc: Global,
-    told: CallList<LinkCall>,
+    log: CallList<LinkCall>,
     calls: u32,
     given: u32,
     well: bool,
@@ -34,13 +34,13 @@ pub struct LoadLink {
 
 impl Model for LoadLink {
     ghost use Rattle.std.specs.Prelude.{◌≤◌, ◌*◌};
-    ghost use Rattle.load_maker.specs.Links.{LinkState, IsOfLoad};
+    ghost use Rattle.load_maker.specs.Links.{LoadLinkState, IsOfLoad};
 
-    ghost Value = { LinkState };
+    ghost Value = { LoadLinkState };
 
-    ghost view = { λ link. record { told = link.told; calls = link.calls; given = link.given; well = link.well; faults = link.faults } };
+    ghost view = { λ link. record { log = link.log; calls = link.calls; given = link.given; well = link.well; faults = link.faults } };
 
-    ghost invariant = { λ link. IsOfLoad (record { told = link.told; calls = link.calls; given = link.given; well = link.well; faults = link.faults }) };
+    ghost invariant = { λ link. IsOfLoad (record { log = link.log; calls = link.calls; given = link.given; well = link.well; faults = link.faults }) };
 }
 
 /// Whether a reply is that of a success.
@@ -68,11 +68,11 @@ impl LoadLink {
     /// A link whose takes give the datagrams of this many calls.
     pub fn new(alloc: Global, calls: u32) -> LoadLink
         requires { calls ≤ 1000 }
-        ensures { result ≡ record { told = Some []; calls = calls; given = 0; well = true; faults = 0 } }
+        ensures { result ≡ record { log = Some []; calls = calls; given = 0; well = true; faults = 0 } }
     {
         LoadLink {
             alloc,
-            told: CallList::new(alloc),
+            log: CallList::new(alloc),
             calls,
             given: 0,
             well: true,
@@ -82,10 +82,10 @@ impl LoadLink {
 
     /// Whether the link still tells its list.
     pub fn tells(&self) -> bool
-        ensures tells { IsTrue result ↔ IsSome self.now.told }
+        ensures tells { IsTrue result ↔ IsSome self.now.log }
         ensures of_load { IsOfLoad self.now }
     {
-        self.told.tells()
+        self.log.tells()
     }
 
     /// Whether each reply so far was a success.
@@ -107,7 +107,7 @@ impl LoadLink {
     /// The next datagram, where the replies were successes, there is memory for it, and it is no longer than the room for it.
     fn next_datagram(&self, room: usize) -> Option<Text>
         requires { self.now.given < 2 * self.now.calls }
-        ensures { IfSome result (λ datagram. (datagram.list ≡ datagram_at self.now.given) × (length datagram.list ≤ room)) }
+        ensures { IfSome result (λ datagram. (datagram.list ≡ datagram_with self.now.given) × (length datagram.list ≤ room)) }
     {
         if !self.well {
             return None;
@@ -124,42 +124,42 @@ impl LoadLink {
 
 impl ControlLink for LoadLink {
     ghost use Rattle.std.specs.Prelude.{◌≡◌, ◌<◌, length};
-    ghost use Rattle.relay_outside.specs.Told.{Gains, HasCause, is_done};
+    ghost use Rattle.relay_outside.specs.DeviceLogs.{Gains, HasCause, is_done};
     ghost use Rattle.relay_outside.specs.Link.{FitsRoom, link_given};
 
-    ghost told = { λ link. link.told };
+    ghost log = { λ link. link.log };
 
     ghost faults = { λ link. link.faults };
 
     fn bind(&mut self, at: Addr) -> Result<(), Failed>
-        ensures told { Gains self.old.told self.new.told (LinkCall.Bind at (is_done result)) }
+        ensures log { Gains self.old.log self.new.log (LinkCall.Bind at (is_done result)) }
         ensures cause { HasCause self.old.faults self.new.faults result }
     {
-        self.told.note(Some(LinkCall::Bind { at, done: true }));
+        self.log.note(Some(LinkCall::Bind { at, done: true }));
         Ok(())
     }
 
     fn take(&mut self, buf: &mut [u8]) -> Result<Taken, Failed>
         requires { 0 < length buf.old }
         ensures within { FitsRoom result (length buf.old) }
-        ensures told { Gains self.old.told self.new.told (LinkCall.Take (length buf.old) (link_given result buf.new)) }
+        ensures log { Gains self.old.log self.new.log (LinkCall.Take (length buf.old) (link_given result buf.new)) }
         ensures cause { HasCause self.old.faults self.new.faults result }
     {
         let room = buf.len();
         if self.given == 2 * self.calls {
             let given = LinkGiven::End;
-            self.told.note(Some(LinkCall::Take { room, given }));
+            self.log.note(Some(LinkCall::Take { room, given }));
             return Ok(Taken::End);
         }
         let Some(datagram) = self.next_datagram(room) else {
             let given = LinkGiven::Failed;
-            self.told.note(Some(LinkCall::Take { room, given }));
+            self.log.note(Some(LinkCall::Take { room, given }));
             self.faults = self.faults.saturating_add(1);
             return Err(Failed);
         };
         let len = put_front(buf, datagram.as_slice());
         let call = datagram_call(self.alloc, room, CONTROLLER, &buf[..len]);
-        self.told.note(call);
+        self.log.note(call);
         self.given += 1;
         Ok(Taken::Datagram {
             from: CONTROLLER,
@@ -168,12 +168,12 @@ impl ControlLink for LoadLink {
     }
 
     fn send(&mut self, to: Addr, bytes: &[u8]) -> Result<(), Failed>
-        ensures told { Gains self.old.told self.new.told (LinkCall.Send to bytes.now (is_done result)) }
+        ensures log { Gains self.old.log self.new.log (LinkCall.Send to bytes.now (is_done result)) }
         ensures cause { HasCause self.old.faults self.new.faults result }
     {
         self.well = self.well & is_success(bytes);
         let call = send_call(self.alloc, to, bytes, true);
-        self.told.note(call);
+        self.log.note(call);
         Ok(())
     }
 }

@@ -1,6 +1,6 @@
 //! The maker of the ports of the load.
 ghost use Rattle.std.specs.Prelude.{◌≡◌, ◌↔◌, ◌≤◌, ◌<◌, ◌+◌, ◌-◌, ◌^◌, ℕ, Some, None, [], true, false, IsTrue, IsSome, IsOk, IfOk, IfSome, min};
-ghost use Rattle.relay_outside.specs.Told.{Gains, HasCause, IsOpenedFor, WhereTold, is_done};
+ghost use Rattle.relay_outside.specs.DeviceLogs.{Gains, HasCause, IsOpenedFor, WhereLogged, is_done};
 ghost use Rattle.relay_outside.specs.Ports.{IsOpen};
 ghost use Rattle.load_maker.specs.Ports.{end_at, next_end, silent_at, stream_at};
 ghost use Rattle.load_maker.specs.Takes.{AreAllEnds, AreClosed, HasGivenAll};
@@ -17,7 +17,7 @@ use std::marker::Model;
 #[derive(Drop)]
 pub struct LoadMaker {
     alloc: Global,
-    told: CallList<PortCall>,
+    log: CallList<PortCall>,
     packets: u32,
     call: Option<u32>,
     opened: u32,
@@ -37,26 +37,26 @@ pub(crate) struct ClosedEnd {
 
 impl Model for LoadMaker {
     ghost use Rattle.std.specs.Prelude.{◌≤◌, IfSome};
-    ghost use Rattle.relay_outside.specs.Told.{WhereTold};
-    ghost use Rattle.load_maker.specs.Ports.{MakerState};
+    ghost use Rattle.relay_outside.specs.DeviceLogs.{WhereLogged};
+    ghost use Rattle.load_maker.specs.Ports.{LoadMakerState};
     ghost use Rattle.load_maker.specs.Takes.{AreClosed};
 
-    ghost Value = { MakerState };
+    ghost Value = { LoadMakerState };
 
-    ghost view = { λ maker. record { told = maker.told; packets = maker.packets; call = maker.call; opened = maker.opened; closed = maker.closed.items } };
+    ghost view = { λ maker. record { log = maker.log; packets = maker.packets; call = maker.call; opened = maker.opened; closed = maker.closed.items } };
 
-    ghost invariant = { λ maker. (maker.packets ≤ 1000) × IfSome maker.call (λ call. call ≤ 1000) × WhereTold maker.told (λ calls. AreClosed calls maker.closed.items) };
+    ghost invariant = { λ maker. (maker.packets ≤ 1000) × IfSome maker.call (λ call. call ≤ 1000) × WhereLogged maker.log (λ calls. AreClosed calls maker.closed.items) };
 }
 
 impl LoadMaker {
     /// A maker for calls whose sides send this many packets each. No call is begun.
     pub fn new(alloc: Global, packets: u32) -> LoadMaker
         requires { (1 ≤ packets) × (packets ≤ 1000) }
-        ensures { result ≡ record { told = Some []; packets = packets; call = None; opened = 0; closed = [] } }
+        ensures { result ≡ record { log = Some []; packets = packets; call = None; opened = 0; closed = [] } }
     {
         LoadMaker {
             alloc,
-            told: CallList::new(alloc),
+            log: CallList::new(alloc),
             packets,
             call: None,
             opened: 0,
@@ -75,18 +75,18 @@ impl LoadMaker {
 
     /// Whether the maker still tells its list, and each of its in ends that were given back told its own.
     pub fn tells(&self) -> bool
-        ensures { IsTrue result ↔ IsSome self.now.told }
+        ensures { IsTrue result ↔ IsSome self.now.log }
     {
-        self.told.tells()
+        self.log.tells()
     }
 
     /// Whether the ends that were given back are those of this many calls, of each two pairs, in the order of their ports, from the first one on,
     /// and each gave this many packets of its side, if it is one to which the side sends.
     pub fn gave_all(&self, host: Ip, first: u16, calls: u32, packets: u32) -> bool
         requires { calls ≤ 1000 }
-        ensures gave { IsTrue result → HasGivenAll host first calls packets self.now.told }
+        ensures gave { IsTrue result → HasGivenAll host first calls packets self.now.log }
         ensures otherwise { result ≡ false → AreAllEnds host first calls packets self.now.closed → ⊥ }
-        ensures closed { WhereTold self.now.told (λ opened. AreClosed opened self.now.closed) }
+        ensures closed { WhereLogged self.now.log (λ opened. AreClosed opened self.now.closed) }
     {
         if self.closed.len() != 4 * calls as usize {
             return false;
@@ -153,8 +153,8 @@ fn untold(alloc: Global) -> CallList<OutCall>
 
 /// The record of a closing; `None` where the in end tells nothing any more.
 fn close_call(alloc: Global, at: Addr, receiving: LoadIn) -> Option<PortCall>
-    ensures call { IfSome result (λ call. call ≡ PortCall.Close at receiving.told.calls None) }
-    ensures told { IsSome result → IsSome receiving.told.calls }
+    ensures call { IfSome result (λ call. call ≡ PortCall.Close at receiving.log.calls None) }
+    ensures log { IsSome result → IsSome receiving.log.calls }
 {
     let taken = receiving.into_list();
     if !taken.tells() {
@@ -177,43 +177,43 @@ impl PortMaker for LoadMaker {
     type Out = LoadOut;
 
     ghost use Rattle.std.specs.Prelude.{◌≡◌, ◌≤◌, ◌+◌, ◌-◌, ◌^◌, None, IfOk, IsOk, IsSome, min};
-    ghost use Rattle.relay_outside.specs.Told.{Gains, HasCause, IsOpenedFor, WhereTold, is_done};
+    ghost use Rattle.relay_outside.specs.DeviceLogs.{Gains, HasCause, IsOpenedFor, WhereLogged, is_done};
     ghost use Rattle.relay_outside.specs.Ports.{IsOpen};
     ghost use Rattle.load_maker.specs.Ports.{next_end, silent_at};
 
-    ghost told = { λ maker. maker.told };
+    ghost log = { λ maker. maker.log };
 
     ghost faults = { λ maker. 0 };
 
     fn open(&mut self, at: Addr) -> Result<(LoadIn, LoadOut), Failed>
-        requires { WhereTold self.old.told (λ calls. IsOpen calls at → ⊥) }
-        ensures told { Gains self.old.told self.new.told (PortCall.Open at (is_done result)) }
-        ensures receiving { IfOk result (λ ends. IsOpenedFor at ends.0.told) }
+        requires { WhereLogged self.old.log (λ calls. IsOpen calls at → ⊥) }
+        ensures log { Gains self.old.log self.new.log (PortCall.Open at (is_done result)) }
+        ensures receiving { IfOk result (λ ends. IsOpenedFor at ends.0.log) }
         ensures sending { IfOk result (λ ends. IsOpenedFor at (silent_at ends.1)) }
         ensures cause { HasCause 0 0 result }
         ensures done { IsOk result }
         ensures ends { IfOk result (λ ends. (ends.0 ≡ next_end self.old at) × (ends.1 ≡ at)) }
-        ensures left { self.new ≡ record self.old { told = self.new.told; opened = min (self.old.opened + 1) (2 ^ 32 - 1) } }
+        ensures left { self.new ≡ record self.old { log = self.new.log; opened = min (self.old.opened + 1) (2 ^ 32 - 1) } }
     {
         let stream = self.next_stream();
         self.opened = self.opened.saturating_add(1);
-        self.told.note(Some(PortCall::Open { at, done: true }));
+        self.log.note(Some(PortCall::Open { at, done: true }));
         let receiving = LoadIn::new(self.alloc, at, stream, self.packets);
         Ok((receiving, LoadOut::new(at)))
     }
 
     fn close(&mut self, at: Addr, receiving: LoadIn, sending: LoadOut)
-        requires open { WhereTold self.old.told (λ calls. IsOpen calls at) }
-        requires ends { (receiving.told.at ≡ at) × (sending ≡ at) }
-        ensures told { Gains self.old.told self.new.told (PortCall.Close at receiving.told.calls None) }
-        ensures stops { IsSome self.new.told → IsSome receiving.told.calls }
+        requires open { WhereLogged self.old.log (λ calls. IsOpen calls at) }
+        requires ends { (receiving.log.at ≡ at) × (sending ≡ at) }
+        ensures log { Gains self.old.log self.new.log (PortCall.Close at receiving.log.calls None) }
+        ensures stops { IsSome self.new.log → IsSome receiving.log.calls }
         ensures later { 0 ≤ 0 }
-        ensures left { self.new ≡ record self.old { told = self.new.told; closed = self.new.closed } }
+        ensures left { self.new ≡ record self.old { log = self.new.log; closed = self.new.closed } }
     {
         let _ = sending;
         let (stream, given) = receiving.gave();
         let call = close_call(self.alloc, at, receiving);
         let kept = self.closed.push(ClosedEnd { at, stream, given });
-        self.told.note(when_kept(kept.is_ok(), call));
+        self.log.note(when_kept(kept.is_ok(), call));
     }
 }

@@ -2,9 +2,9 @@
 ghost use Rattle.std.specs.Prelude.{◌≡◌, ◌≤◌, ◌++◌, length, take, codes, IfOk, OnOk};
 ghost use Rattle.sdes_lines.specs.CryptoLine.{line_text};
 ghost use Rattle.sdes_lines.specs.declared.crypto_line.Suite.TheVariants.{Tag80};
-ghost use Rattle.load_maker.specs.Calls.{media_port, answer_key, answer_end, offered_sdp, answered_sdp};
+ghost use Rattle.load_maker.specs.Calls.{signalled_port, answer_key, answer_end, side_a_sdp, answered_sdp};
 
-use crate::writing::{put, put_number};
+use crate::text::{put, put_number};
 use ng_bencode::Text;
 use relay_outside::{KeyAndSalt, OutOfMemory};
 use sdes_lines::{CryptoLine, Suite, write_line};
@@ -13,7 +13,7 @@ use std::alloc::Global;
 /// The port that both sides of a call signal for RTP.
 pub(crate) fn media_port(call: u32) -> u16
     requires { call ≤ 1000 }
-    ensures { result ≡ media_port call }
+    ensures { result ≡ signalled_port call }
 {
     10_000 + 2 * (call as u16)
 }
@@ -28,7 +28,7 @@ pub(crate) fn answer_key(call: u32) -> KeyAndSalt
 /// Side A's description.
 pub(crate) fn offered_sdp(alloc: Global, call: u32) -> Result<Text, OutOfMemory>
     requires { call ≤ 1000 }
-    ensures { IfOk result (λ sdp. sdp.list ≡ offered_sdp call) }
+    ensures { IfOk result (λ sdp. sdp.list ≡ side_a_sdp call) }
 {
     let mut sdp = Text::new(alloc);
     put(

@@ -4,7 +4,7 @@ ghost use Rattle.rtp_packet.specs.declared.head.RtpHead.{RtpHead};
 ghost use Rattle.rtp_packet.specs.Head.{rtp_head};
 ghost use Rattle.sdes_lines.specs.declared.crypto_line.Suite.TheVariants.{Tag80};
 ghost use Rattle.srtp_context.specs.Packets.{protect};
-ghost use Rattle.load_maker.specs.Packets.{source_of, ssrc_of, is_protected, plain_packet, packet};
+ghost use Rattle.load_maker.specs.Packets.{side_source, ssrc_of, is_protected, plain_packet, packet};
 
 use crate::sdp::{answer_key, media_port};
 use port_pool::Side;
@@ -32,7 +32,7 @@ impl Stream {
     /// The address that the side signals, from which it sends.
     pub(crate) fn source(self) -> Addr
         requires { self.call ≤ 1000 }
-        ensures { result ≡ source_of self.call self.side }
+        ensures { result ≡ side_source self.call self.side }
     {
         let port = media_port(self.call);
         match self.side {

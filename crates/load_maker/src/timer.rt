@@ -1,6 +1,6 @@
 //! The timer of a load.
 ghost use Rattle.std.specs.Prelude.{◌≡◌, ◌↔◌, Some, [], IsTrue, IsSome};
-ghost use Rattle.relay_outside.specs.Told.{Gains};
+ghost use Rattle.relay_outside.specs.DeviceLogs.{Gains};
 ghost use Rattle.load_maker.specs.Moments.{AreZero};
 
 use relay_outside::{CallList, Timer};
@@ -10,7 +10,7 @@ use std::marker::Model;
 /// The timer of a load, which stands at 0.
 #[derive(Drop)]
 pub struct LoadTimer {
-    told: CallList<u64>,
+    log: CallList<u64>,
 }
 
 impl Model for LoadTimer {
@@ -19,9 +19,9 @@ impl Model for LoadTimer {
 
     ghost Value = { Option (List ℕ) };
 
-    ghost view = { λ timer. timer.told };
+    ghost view = { λ timer. timer.log };
 
-    ghost invariant = { λ timer. AreZero timer.told };
+    ghost invariant = { λ timer. AreZero timer.log };
 }
 
 impl LoadTimer {
@@ -30,7 +30,7 @@ impl LoadTimer {
         ensures { result ≡ Some [] }
     {
         LoadTimer {
-            told: CallList::new(alloc),
+            log: CallList::new(alloc),
         }
     }
 
@@ -39,21 +39,21 @@ impl LoadTimer {
         ensures tells { IsTrue result ↔ IsSome self.now }
         ensures zero { AreZero self.now }
     {
-        self.told.tells()
+        self.log.tells()
     }
 }
 
 impl Timer for LoadTimer {
     ghost use Rattle.std.specs.Prelude.{◌≡◌};
-    ghost use Rattle.relay_outside.specs.Told.{Gains};
+    ghost use Rattle.relay_outside.specs.DeviceLogs.{Gains};
 
-    ghost told = { λ timer. timer };
+    ghost log = { λ timer. timer };
 
     fn now(&mut self) -> u64
-        ensures told { Gains self.old self.new result }
+        ensures log { Gains self.old self.new result }
         ensures zero { result ≡ 0 }
     {
-        self.told.note(Some(0));
+        self.log.note(Some(0));
         0
     }
 }

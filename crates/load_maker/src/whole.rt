@@ -1,6 +1,6 @@
 //! The port maker of a whole load.
 ghost use Rattle.std.specs.Prelude.{◌≡◌, ◌↔◌, ◌≤◌, ◌<◌, ◌+◌, ◌-◌, ◌/◌, ◌%◌, ◌^◌, Some, [], None, false, IsTrue, IsSome, IsOk, IfOk, min};
-ghost use Rattle.relay_outside.specs.Told.{Gains, HasCause, IsOpenedFor, WhereTold, is_done};
+ghost use Rattle.relay_outside.specs.DeviceLogs.{Gains, HasCause, IsOpenedFor, WhereLogged, is_done};
 ghost use Rattle.relay_outside.specs.Ports.{IsOpen};
 ghost use Rattle.load_maker.specs.Ports.{silent_at, stream_at};
 ghost use Rattle.load_maker.specs.Takes.{AreAllEnds, AreClosed, HasGivenAll};
@@ -26,9 +26,9 @@ pub struct LoadPorts {
 }
 
 impl Model for LoadPorts {
-    ghost use Rattle.load_maker.specs.Ports.{PortsState, IsInCall};
+    ghost use Rattle.load_maker.specs.Ports.{LoadPortsState, IsInCall};
 
-    ghost Value = { PortsState };
+    ghost Value = { LoadPortsState };
 
     ghost view = { λ ports. record { maker = ports.maker; opened = ports.opened } };
 
@@ -39,7 +39,7 @@ impl LoadPorts {
     /// The ports of calls whose sides send this many packets each. None is open.
     pub fn new(alloc: Global, packets: u32) -> LoadPorts
         requires { (1 ≤ packets) × (packets ≤ 1000) }
-        ensures { result ≡ record { maker = record { told = Some []; packets = packets; call = None; opened = 0; closed = [] }; opened = 0 } }
+        ensures { result ≡ record { maker = record { log = Some []; packets = packets; call = None; opened = 0; closed = [] }; opened = 0 } }
     {
         LoadPorts {
             maker: LoadMaker::new(alloc, packets),
@@ -49,7 +49,7 @@ impl LoadPorts {
 
     /// Whether the maker still tells its list, and each of its in ends that were given back told its own.
     pub fn tells(&self) -> bool
-        ensures { IsTrue result ↔ IsSome self.now.maker.told }
+        ensures { IsTrue result ↔ IsSome self.now.maker.log }
     {
         self.maker.tells()
     }
@@ -60,9 +60,9 @@ impl LoadPorts {
     /// and each gave this many packets of its side, if it is one to which the side sends.
     pub fn gave_all(&self, host: Ip, first: u16, calls: u32, packets: u32) -> bool
         requires { calls ≤ 1000 }
-        ensures gave { IsTrue result → HasGivenAll host first calls packets self.now.maker.told }
+        ensures gave { IsTrue result → HasGivenAll host first calls packets self.now.maker.log }
         ensures otherwise { result ≡ false → AreAllEnds host first calls packets self.now.maker.closed → ⊥ }
-        ensures closed { WhereTold self.now.maker.told (λ opened. AreClosed opened self.now.maker.closed) }
+        ensures closed { WhereLogged self.now.maker.log (λ opened. AreClosed opened self.now.maker.closed) }
     {
         self.maker.gave_all(host, first, calls, packets)
     }
@@ -74,18 +74,18 @@ impl PortMaker for LoadPorts {
     type Out = LoadOut;
 
     ghost use Rattle.std.specs.Prelude.{◌≡◌, ◌≤◌, ◌<◌, ◌+◌, ◌-◌, ◌/◌, ◌%◌, ◌^◌, Some, None, IfOk, IsOk, min};
-    ghost use Rattle.relay_outside.specs.Told.{Gains, HasCause, IsOpenedFor, WhereTold, is_done};
+    ghost use Rattle.relay_outside.specs.DeviceLogs.{Gains, HasCause, IsOpenedFor, WhereLogged, is_done};
     ghost use Rattle.relay_outside.specs.Ports.{IsOpen};
     ghost use Rattle.load_maker.specs.Ports.{silent_at, stream_at};
 
-    ghost told = { λ ports. ports.maker.told };
+    ghost log = { λ ports. ports.maker.log };
 
     ghost faults = { λ ports. 0 };
 
     fn open(&mut self, at: Addr) -> Result<(LoadIn, LoadOut), Failed>
-        requires { WhereTold self.old.maker.told (λ calls. IsOpen calls at → ⊥) }
-        ensures told { Gains self.old.maker.told self.new.maker.told (PortCall.Open at (is_done result)) }
-        ensures receiving { IfOk result (λ ends. IsOpenedFor at ends.0.told) }
+        requires { WhereLogged self.old.maker.log (λ calls. IsOpen calls at → ⊥) }
+        ensures log { Gains self.old.maker.log self.new.maker.log (PortCall.Open at (is_done result)) }
+        ensures receiving { IfOk result (λ ends. IsOpenedFor at ends.0.log) }
         ensures sending { IfOk result (λ ends. IsOpenedFor at (silent_at ends.1)) }
         ensures cause { HasCause 0 0 result }
         ensures done { IsOk result }
@@ -103,11 +103,11 @@ impl PortMaker for LoadPorts {
     }
 
     fn close(&mut self, at: Addr, receiving: LoadIn, sending: LoadOut)
-        requires open { WhereTold self.old.maker.told (λ calls. IsOpen calls at) }
-        requires ends { (receiving.told.at ≡ at) × (sending ≡ at) }
-        ensures told { Gains self.old.maker.told self.new.maker.told (PortCall.Close at receiving.told.calls None) }
+        requires open { WhereLogged self.old.maker.log (λ calls. IsOpen calls at) }
+        requires ends { (receiving.log.at ≡ at) × (sending ≡ at) }
+        ensures log { Gains self.old.maker.log self.new.maker.log (PortCall.Close at receiving.log.calls None) }
         ensures later { 0 ≤ 0 }
-        ensures left { self.new ≡ record self.old { maker = record self.old.maker { told = self.new.maker.told; closed = self.new.maker.closed } } }
+        ensures left { self.new ≡ record self.old { maker = record self.old.maker { log = self.new.maker.log; closed = self.new.maker.closed } } }
     {
         self.maker.close(at, receiving, sending);
     }

@@ -2,19 +2,19 @@
 use Rattle.std.proofs.Common.{◌≡◌, refl, sym, ◌∙◌, ap, subst, ℕ, ◌<◌, List, [], ◌∷◌, ◌++◌}
 use Rattle.relay_outside.specs.declared.ports.InCall.{InCall}
 use Rattle.relay_outside.specs.declared.ports.OutCall.{OutCall}
-use Rattle.relay_outside.specs.Told.{EndTold}
+use Rattle.relay_outside.specs.DeviceLogs.{EndLog}
 use Rattle.turn_table.specs.declared.machine.Entry as table
 use Rattle.turn_table.specs.declared.hands.Hand.{Hand}
 use Rattle.turn_table.specs.Hands.{entries, tries, TriedUntilFree}
 use Rattle.turn_table.specs.Steps.{entry}
 use Rattle.relay_core.specs.declared.part.Part.{Part}
 use Rattle.relay_core.specs.Entries.{Entry}
-use Rattle.relay_core.specs.Made.{Made, entry_of, list_of}
-use Rattle.relay_core.specs.Turning.{IsAbove, made_by}
+use Rattle.relay_core.specs.Records.{Made, entry_of, list_of}
+use Rattle.relay_core.specs.Turns.{IsAbove, made_by}
 use Rattle.relay_core.proofs.Own.{in_rows}
 use Rattle.media_lane.specs.Busy.{Gives}
 
-module _ {I O : Type 0} (it : I → EndTold InCall) (ic : I → ℕ) (ot : O → EndTold OutCall) (oc : O → ℕ) {M : Type 0} {g : _} where
+module _ {I O : Type 0} (it : I → EndLog InCall) (ic : I → ℕ) (ot : O → EndLog OutCall) (oc : O → ℕ) {M : Type 0} {g : _} where
   pub above : (hand : Hand M (Part I O) Made (Unit {0}) g) (k n : ℕ) (x : Part I O) → Gives it ic ot oc hand k n x → IsAbove (made_by hand) k n
   above hand k n x given e i p =
       let found = in_rows (entries hand) i in

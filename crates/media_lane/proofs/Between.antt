@@ -11,12 +11,12 @@ use Rattle.histories.specs.Words.{In}
 use Rattle.histories.proofs.Lists.{in_left}
 use Rattle.relay_core.specs.declared.part.Part.{Part}
 use Rattle.relay_core.specs.Entries.{Entry}
-use Rattle.relay_core.specs.Made.{Made, entry_of, list_of}
-use Rattle.relay_core.specs.Beginning.{AreParts}
-use Rattle.relay_core.specs.Handed.{IsHanded}
-use Rattle.relay_core.specs.Joining.{TakesOwnPairs}
-use Rattle.relay_core.specs.Recorded.{AreReturned, is_boards}
-use Rattle.relay_core.specs.Turning.{Numbered, IsOfLane, made_by}
+use Rattle.relay_core.specs.Records.{Made, entry_of, list_of}
+use Rattle.relay_core.specs.FirstPlaces.{AreParts}
+use Rattle.relay_core.specs.NestedMoments.{IsHanded}
+use Rattle.relay_core.specs.Joins.{TakesOwnPairs}
+use Rattle.relay_core.specs.ReturnedPairs.{AreReturned, is_boards}
+use Rattle.relay_core.specs.Turns.{Numbered, IsOfLane, made_by}
 use Rattle.relay_core.proofs.Joins.{handed_joined}
 use Rattle.relay_core.proofs.Recording.{lane_no_boards, returned_behind}
 use Rattle.media_lane.specs.Receipts.{KeepsList}
@@ -24,7 +24,7 @@ use Rattle.board_turns.specs.Between.{board_of, IsBetween}
 use Rattle.board_turns.proofs.MainHands.{history_stays}
 
 -- the board's whole history is the same with rows after it that are none of its own
-pub lanes_board : {T : Type 0} (rows others : List (table.Entry Made T)) → ((row : table.Entry Made T) → table_lists.In row others → is_boards row.event.event ≡ false)
+pub lanes_board : {T : Type 0} (rows others : List (table.Entry Made T)) → ((row : table.Entry Made T) → table_lists.IsMemberOf row others → is_boards row.event.event ≡ false)
     → board_of (list_of (rows ++ others)) ≡ board_of (list_of rows)
 lanes_board rows others none = history_stays rows others none
 
@@ -35,14 +35,14 @@ module _ {M I O T : Type 0} {g : _} where
     pub idle : HasNoTurn new
     pub list : KeepsList config (made_by old) (made_by new)
     pub rows_are : entries new ≡ entries old ++ rows
-    pub of_lane : (row : table.Entry Made T) → table_lists.In row rows → IsOfLane row.event.event
+    pub of_lane : (row : table.Entry Made T) → table_lists.IsMemberOf row rows → IsOfLane row.event.event
 
   module _ (config : Config) (turns : Turns M (Part I O) Made T) (old new : Hand M (Part I O) Made T g) (rows : List (table.Entry Made T))
       (b : IsBetween config turns old) (s : StepsBy config old new rows) where
     pub list_is : made_by new ≡ made_by old ++ list_of rows
     list_is = ap (λ (xs : List (table.Entry Made T)). list_of xs) s.rows_are ∙ map-append entry_of (entries old) rows
 
-    no_boards : (row : table.Entry Made T) → table_lists.In row rows → is_boards row.event.event ≡ false
+    no_boards : (row : table.Entry Made T) → table_lists.IsMemberOf row rows → is_boards row.event.event ≡ false
     no_boards row i = lane_no_boards row.event.event (s.of_lane row i)
 
     pub in_longer : (e : Entry) → In e (made_by old) → In e (made_by new)
@@ -76,7 +76,7 @@ module _ {M I O T : Type 0} {g : _} where
 module _ {M I O T : Type 0} {g : _} where
   pub steps_at : (config config' : Config) (old first last new : Hand M (Part I O) Made T g) (rows : List (table.Entry Made T)) → first ≡ old → new ≡ last
       → config' ≡ config → IsSameHand first last → HasNoTurn new → KeepsList config' (made_by first) (made_by last) → entries last ≡ entries first ++ rows
-      → ((row : table.Entry Made T) → table_lists.In row rows → IsOfLane row.event.event) → StepsBy config old new rows
+      → ((row : table.Entry Made T) → table_lists.IsMemberOf row rows → IsOfLane row.event.event) → StepsBy config old new rows
   steps_at config config' old first last new rows begins ends config_is same idle list rows_are lanes = record {
     same = subst (λ h. IsSameHand h new) begins (subst (λ h. IsSameHand first h) (sym ends) same);
     idle = idle;
@@ -87,6 +87,6 @@ module _ {M I O T : Type 0} {g : _} where
   }
 
 -- one row
-pub one_row : {A : Type 0} (P : A → Type 0) (row : A) → P row → (x : A) → table_lists.In x (row ∷ []) → P x
+pub one_row : {A : Type 0} (P : A → Type 0) (row : A) → P row → (x : A) → table_lists.IsMemberOf x (row ∷ []) → P x
 one_row P row p x (table_lists.here q) = subst P (sym q) p
 one_row P row p x (table_lists.there i) = elim i [ ]

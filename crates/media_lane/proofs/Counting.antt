@@ -12,12 +12,12 @@ use Rattle.srtp_sources.specs.Notes.{is_half}
 use Rattle.relay_core.proofs.Turns.{filter_append, nothing_more}
 use Rattle.media_lane.specs.declared.answers.Totals.{Totals}
 use Rattle.media_lane.specs.declared.lane.LaneHand.{LaneHand}
-use Rattle.media_lane.specs.Lanes.{hand_in, list_in, config_in, index_in, lanes_in, IsSameHandOf}
+use Rattle.media_lane.specs.Lanes.{hand_in, lane_list, config_in, index_in, lanes_in, IsSameHandOf}
 use Rattle.media_lane.specs.Receipts.{KeepsList}
-use Rattle.media_lane.specs.Visits.{Row, Visit, rows_of, all_rows, ArePassed, is_of, times, is_own, one_if, AreTotals}
-use Rattle.media_lane.specs.Gated.{GainsGated}
-use Rattle.media_lane.specs.Covering.{Covers}
-use Rattle.media_lane.specs.Sweeping.{VisitsOnce, Sweeps}
+use Rattle.media_lane.specs.Visits.{Row, Visit, rows_of, all_rows, ArePassed, is_of, visit_times, is_own, one_where, AreTotals}
+use Rattle.media_lane.specs.Gates.{GainsGated}
+use Rattle.media_lane.specs.Progress.{Covers}
+use Rattle.media_lane.specs.Sweeps.{VisitsOnce, Sweeps}
 use Rattle.media_lane.proofs.Gates.{gains_none, gains_both}
 use Rattle.media_lane.proofs.Visiting.{keeps_more}
 
@@ -55,7 +55,7 @@ not_same a b (inl h) = grind (arith, nat_tests)
 not_same a b (inr h) = grind (arith, nat_tests)
 
 -- the pair that is visited now is one below the next
-at_pair : (x y z own : Bool) → x ≡ false → y ≡ true → z ≡ true → own ≡ true → one_if (x && own) + one_if y ≡ one_if (z && own)
+at_pair : (x y z own : Bool) → x ≡ false → y ≡ true → z ≡ true → own ≡ true → one_where (x && own) + one_where y ≡ one_where (z && own)
 at_pair false true true true p q r s = refl
 at_pair false true true false p q r s = absurd (cc)
 at_pair false true false own p q r s = absurd (cc)
@@ -63,15 +63,15 @@ at_pair false false z own p q r s = absurd (cc)
 at_pair true y z own p q r s = absurd (cc)
 
 -- one below it stays so
-before_pair : (x y z own : Bool) → x ≡ true → y ≡ false → z ≡ true → one_if (x && own) + one_if y ≡ one_if (z && own)
+before_pair : (x y z own : Bool) → x ≡ true → y ≡ false → z ≡ true → one_where (x && own) + one_where y ≡ one_where (z && own)
 before_pair true false true own p q r = omega arith
 before_pair true false false own p q r = absurd (cc)
 before_pair true true z own p q r = absurd (cc)
 before_pair false y z own p q r = absurd (cc)
 
 -- and no other is one
-after_pair : (x y z own : Bool) → x ≡ false → y ≡ false → (z && own) ≡ false → one_if (x && own) + one_if y ≡ one_if (z && own)
-after_pair false false z own p q r = ap (λ (b : Bool). one_if b) (sym r)
+after_pair : (x y z own : Bool) → x ≡ false → y ≡ false → (z && own) ≡ false → one_where (x && own) + one_where y ≡ one_where (z && own)
+after_pair false false z own p q r = ap (λ (b : Bool). one_where b) (sym r)
 after_pair false true z own p q r = absurd (cc)
 after_pair true y z own p q r = absurd (cc)
 
@@ -94,7 +94,7 @@ either true own h = refl
 either false true h = absurd (let k = h refl in cc)
 either false false h = refl
 
-one_half : (b : Bool) (half : Half) → one_if (b && is_half Rtp half) + one_if (b && is_half Rtcp half) ≡ one_if b
+one_half : (b : Bool) (half : Half) → one_where (b && is_half Rtp half) + one_where (b && is_half Rtcp half) ≡ one_where b
 one_half true Rtp = refl
 one_half true Rtcp = refl
 one_half false Rtp = refl
@@ -103,7 +103,7 @@ one_half false Rtcp = refl
 -- the own pairs below the next one are those below this one, and this one
 module _ (count lanes index : ℕ) (upto : ℕ) (below : upto < count) (own : upto % lanes ≡ index) (some : 0 < lanes) where
   next_below : (pair : ℕ)
-      → one_if (nat_lt pair upto && (nat_lt pair count && (pair % lanes == index))) + one_if (upto == pair) ≡ one_if (nat_lt pair (upto + lanes) && (nat_lt pair count && (pair % lanes == index)))
+      → one_where (nat_lt pair upto && (nat_lt pair count && (pair % lanes == index))) + one_where (upto == pair) ≡ one_where (nat_lt pair (upto + lanes) && (nat_lt pair count && (pair % lanes == index)))
   next_below pair =
       elim (cases_order pair upto) [
         | inl h ↦
@@ -126,9 +126,9 @@ module _ (count lanes index : ℕ) (upto : ℕ) (below : upto < count) (own : up
           ]
 
 -- no own pair is below the first
-none_below : (count lanes index pair : ℕ) → index < lanes → one_if (nat_lt pair index && (nat_lt pair count && (pair % lanes == index))) ≡ 0
+none_below : (count lanes index pair : ℕ) → index < lanes → one_where (nat_lt pair index && (nat_lt pair count && (pair % lanes == index))) ≡ 0
 none_below count lanes index pair one_of =
-    ap (λ (b : Bool). one_if b) (none_of (nat_lt pair index) (nat_lt pair count && (pair % lanes == index)) (λ q. not_first (own_rest pair count lanes index q)))
+    ap (λ (b : Bool). one_where b) (none_of (nat_lt pair index) (nat_lt pair count && (pair % lanes == index)) (λ q. not_first (own_rest pair count lanes index q)))
   where
     not_first : pair % lanes ≡ index → nat_lt pair index ≡ false
     not_first mine =
@@ -138,23 +138,23 @@ none_below count lanes index pair one_of =
         ]
 
 -- and all are below the end
-all_below : (count lanes index upto pair : ℕ) → count ≤ upto → one_if (nat_lt pair upto && (nat_lt pair count && (pair % lanes == index))) ≡ one_if (nat_lt pair count && (pair % lanes == index))
+all_below : (count lanes index upto pair : ℕ) → count ≤ upto → one_where (nat_lt pair upto && (nat_lt pair count && (pair % lanes == index))) ≡ one_where (nat_lt pair count && (pair % lanes == index))
 all_below count lanes index upto pair end =
-    ap (λ (b : Bool). one_if b) (either (nat_lt pair upto) (nat_lt pair count && (pair % lanes == index))
+    ap (λ (b : Bool). one_where b) (either (nat_lt pair upto) (nat_lt pair count && (pair % lanes == index))
     (λ q. (let low = own_below pair count lanes index q in is_below pair upto (omega (arith, low, end)))))
 
 -- Lists of visits.
 
-one_long : (b : Bool) (v : Visit) → length (cond b (v ∷ []) []) ≡ one_if b
+one_long : (b : Bool) (v : Visit) → length (cond b (v ∷ []) []) ≡ one_where b
 one_long true v = refl
 one_long false v = refl
 
-times_one : (pair : ℕ) (half : Half) (v : Visit) (own : ℕ) (at : Half) → v.pair ≡ own → v.half ≡ at → times pair half (v ∷ []) ≡ one_if ((own == pair) && is_half at half)
+times_one : (pair : ℕ) (half : Half) (v : Visit) (own : ℕ) (at : Half) → v.pair ≡ own → v.half ≡ at → visit_times pair half (v ∷ []) ≡ one_where ((own == pair) && is_half at half)
 times_one pair half v own at p h =
     one_long (is_of pair half v) v
-    ∙ ap (λ (n : ℕ). one_if ((n == pair) && is_half v.half half)) p ∙ ap (λ (x : Half). one_if ((own == pair) && is_half x half)) h
+    ∙ ap (λ (n : ℕ). one_where ((n == pair) && is_half v.half half)) p ∙ ap (λ (x : Half). one_where ((own == pair) && is_half x half)) h
 
-times_append : (pair : ℕ) (half : Half) (vs ws : List Visit) → times pair half (vs ++ ws) ≡ times pair half vs + times pair half ws
+times_append : (pair : ℕ) (half : Half) (vs ws : List Visit) → visit_times pair half (vs ++ ws) ≡ visit_times pair half vs + visit_times pair half ws
 times_append pair half vs ws =
     ap (λ (xs : List Visit). length xs) (filter_append (is_of pair half) vs ws) ∙ length-append (filter (is_of pair half) vs) (filter (is_of pair half) ws)
 
@@ -186,16 +186,16 @@ module _ {I O : Type 0} {gi : _} {go : _} {gm : _} where
     visits = [];
     list_is = sym (append-nil (entries (hand_in lane)));
     passed = tt;
-    gated = gains_none gate (list_in lane);
+    gated = gains_none gate (lane_list lane);
     own_once = λ pair half. sym (none_below (pair_count (config_in lane)) (lanes_in lane) (index_in lane) pair lane.one_of);
     counted = λ earlier t. subst (λ (vs : List Visit). AreTotals vs totals) (sym (append-nil earlier)) t;
   }
 
   -- Both halves of the next own pair were visited as well.
   module _ (range : Option (ℕ × ℕ)) (gate : ℕ → Type 0) (upto : ℕ) (a b c d : LaneHand I O gi go gm) (x y z w : Totals) (so_far : Covers range gate upto a b x y)
-      (same1 : IsSameHandOf b c) (keeps1 : KeepsList (config_in b) (list_in b) (list_in c)) (gated1 : GainsGated gate (list_in b) (list_in c))
+      (same1 : IsSameHandOf b c) (keeps1 : KeepsList (config_in b) (lane_list b) (lane_list c)) (gated1 : GainsGated gate (lane_list b) (lane_list c))
       (one : VisitsOnce (config_in b) range upto Rtp (hand_in b) (hand_in c) y z)
-      (same2 : IsSameHandOf c d) (keeps2 : KeepsList (config_in c) (list_in c) (list_in d)) (gated2 : GainsGated gate (list_in c) (list_in d))
+      (same2 : IsSameHandOf c d) (keeps2 : KeepsList (config_in c) (lane_list c) (lane_list d)) (gated2 : GainsGated gate (lane_list c) (lane_list d))
       (two : VisitsOnce (config_in c) range upto Rtcp (hand_in c) (hand_in d) z w)
       (below : upto < pair_count (config_in a)) (own : upto % lanes_in a ≡ index_in a) (some : 0 < lanes_in a) where
     vs : List Visit
@@ -216,11 +216,11 @@ module _ {I O : Type 0} {gi : _} {go : _} {gm : _} where
     both_rows : all_rows (config_in a) (one.visit ∷ two.visit ∷ []) ≡ rows_of (config_in a) one.visit ++ rows_of (config_in a) two.visit
     both_rows = ap (λ (rows : List Row). rows_of (config_in a) one.visit ++ rows) (nothing_more (rows_of (config_in a) two.visit))
 
-    times_both : (pair : ℕ) (half : Half) → times pair half (one.visit ∷ two.visit ∷ []) ≡ one_if (upto == pair)
+    times_both : (pair : ℕ) (half : Half) → visit_times pair half (one.visit ∷ two.visit ∷ []) ≡ one_where (upto == pair)
     times_both pair half =
         times_append pair half (one.visit ∷ []) (two.visit ∷ [])
-        ∙ ap (λ (n : ℕ). n + times pair half (two.visit ∷ [])) (times_one pair half one.visit upto Rtp one.pair_is one.half_is)
-        ∙ ap (λ (n : ℕ). one_if ((upto == pair) && is_half Rtp half) + n) (times_one pair half two.visit upto Rtcp two.pair_is two.half_is)
+        ∙ ap (λ (n : ℕ). n + visit_times pair half (two.visit ∷ [])) (times_one pair half one.visit upto Rtp one.pair_is one.half_is)
+        ∙ ap (λ (n : ℕ). one_where ((upto == pair) && is_half Rtp half) + n) (times_one pair half two.visit upto Rtcp two.pair_is two.half_is)
         ∙ one_half (upto == pair) half
 
     pub covers_next : Covers range gate (upto + lanes_in a) a d x w
@@ -237,11 +237,11 @@ module _ {I O : Type 0} {gi : _} {go : _} {gm : _} where
           ∙ ap (λ (rows : List Row). entries (hand_in a) ++ (all_rows (config_in a) so_far.visits ++ rows)) (sym both_rows)
           ∙ ap (λ (rows : List Row). entries (hand_in a) ++ rows) (sym (rows_append (config_in a) so_far.visits (one.visit ∷ two.visit ∷ [])));
       passed = passed_append range so_far.visits (one.visit ∷ two.visit ∷ []) so_far.passed (one.passed, (two.passed, tt));
-      gated = gains_both gate (list_in a) (list_in c) (list_in d) (gains_both gate (list_in a) (list_in b) (list_in c) so_far.gated gated1) gated2;
+      gated = gains_both gate (lane_list a) (lane_list c) (lane_list d) (gains_both gate (lane_list a) (lane_list b) (lane_list c) so_far.gated gated1) gated2;
       own_once = λ pair half.
           times_append pair half so_far.visits (one.visit ∷ two.visit ∷ [])
-          ∙ ap (λ (n : ℕ). n + times pair half (one.visit ∷ two.visit ∷ [])) (so_far.own_once pair half)
-          ∙ ap (λ (n : ℕ). one_if (nat_lt pair upto && is_own (config_in a) (index_in a) (lanes_in a) pair) + n) (times_both pair half)
+          ∙ ap (λ (n : ℕ). n + visit_times pair half (one.visit ∷ two.visit ∷ [])) (so_far.own_once pair half)
+          ∙ ap (λ (n : ℕ). one_where (nat_lt pair upto && is_own (config_in a) (index_in a) (lanes_in a) pair) + n) (times_both pair half)
           ∙ next_below (pair_count (config_in a)) (lanes_in a) (index_in a) upto below own some pair;
       counted = λ earlier t.
           subst (λ (us : List Visit). AreTotals us w) (append_assoc (earlier ++ so_far.visits) (one.visit ∷ []) (two.visit ∷ []) ∙ append_assoc earlier so_far.visits (one.visit ∷ two.visit ∷ []))

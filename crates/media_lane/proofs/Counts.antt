@@ -13,14 +13,14 @@ use Rattle.call_board.specs.Acts.{BoardEntry}
 use Rattle.relay_core.specs.declared.part.Part.{Part}
 use Rattle.relay_core.specs.Entries.{Event, Board, Cell, Box, Entry, is_nested, board_at}
 use Rattle.relay_core.specs.Legal.{Orderly}
-use Rattle.relay_core.specs.Made.{Made, entry_of, list_of, told, told_event}
-use Rattle.relay_core.specs.Turning.{IsTurn, with_turn, made_by}
+use Rattle.relay_core.specs.Records.{Made, entry_of, list_of, as_logged, logged_event}
+use Rattle.relay_core.specs.Turns.{IsTurn, with_turn, made_by}
 use Rattle.relay_core.proofs.Recording.{turn_list}
 use Rattle.relay_core.proofs.Turns.{turn_elsewhere}
 use Rattle.media_lane.specs.declared.answers.Totals.{Totals}
-use Rattle.media_lane.specs.Visits.{is_sent, is_refused, is_lost}
+use Rattle.media_lane.specs.Visits.{has_sent, is_refused, is_lost}
 use Rattle.board_turns.specs.Between.{MakesTurn}
-use Rattle.media_lane.specs.Totals.{gave, relayed, capped, counted, HasTotals}
+use Rattle.media_lane.specs.Totals.{gave, is_relayed, capped, counted, HasTotals}
 
 pub counted_append : (q : Event → Bool) (l k : List Entry) → counted q (l ++ k) ≡ counted q l + counted q k
 counted_append q l k = sum_by-append (λ (e : Entry). cond (q e.event) 1 0) l k
@@ -42,7 +42,7 @@ counted_none q (e ∷ l) none =
 record IsOfMedia (q : Event → Bool) : Type 0 where
   nested : (v : Event) → is_nested v ≡ true → q v ≡ false
   boards : (moment : ℕ) (v : Event) (x : BoardEntry) → board_at moment v ≡ Some x → q v ≡ false
-  recorded : (v : Event) → q (told_event v) ≡ q v
+  recorded : (v : Event) → q (logged_event v) ≡ q v
 
 gave_nested : (v : Event) → is_nested v ≡ true → gave v ≡ false
 gave_nested (Board b) h = refl
@@ -56,7 +56,7 @@ gave_boards moment (Board b) x q = refl
 gave_boards moment (Cell c) x q = refl
 gave_boards moment (Box b) x q = absurd (let k = q in cc)
 
-gave_recorded : (v : Event) → gave (told_event v) ≡ gave v
+gave_recorded : (v : Event) → gave (logged_event v) ≡ gave v
 gave_recorded (Board b) = refl
 gave_recorded (Cell c) = refl
 gave_recorded (Box b) = refl
@@ -64,7 +64,7 @@ gave_recorded (Box b) = refl
 gave_media : IsOfMedia gave
 gave_media = record { nested = gave_nested; boards = gave_boards; recorded = gave_recorded }
 
-relayed_nested : (p : Outcome → Bool) (v : Event) → is_nested v ≡ true → relayed p v ≡ false
+relayed_nested : (p : Outcome → Bool) (v : Event) → is_nested v ≡ true → is_relayed p v ≡ false
 relayed_nested p (Board b) h = refl
 relayed_nested p (Cell (Prepare call legs keys dropped)) h = refl
 relayed_nested p (Cell (Commit signal)) h = refl
@@ -74,12 +74,12 @@ relayed_nested p (Cell (Read reports)) h = refl
 relayed_nested p (Cell End) h = refl
 relayed_nested p (Box b) h = refl
 
-relayed_boards : (p : Outcome → Bool) (moment : ℕ) (v : Event) (x : BoardEntry) → board_at moment v ≡ Some x → relayed p v ≡ false
+relayed_boards : (p : Outcome → Bool) (moment : ℕ) (v : Event) (x : BoardEntry) → board_at moment v ≡ Some x → is_relayed p v ≡ false
 relayed_boards p moment (Board b) x q = refl
 relayed_boards p moment (Cell c) x q = absurd (let k = q in cc)
 relayed_boards p moment (Box b) x q = refl
 
-relayed_recorded : (p : Outcome → Bool) (v : Event) → relayed p (told_event v) ≡ relayed p v
+relayed_recorded : (p : Outcome → Bool) (v : Event) → is_relayed p (logged_event v) ≡ is_relayed p v
 relayed_recorded p (Board b) = refl
 relayed_recorded p (Cell (Prepare call legs keys dropped)) = refl
 relayed_recorded p (Cell (Commit signal)) = refl
@@ -89,16 +89,16 @@ relayed_recorded p (Cell (Read reports)) = refl
 relayed_recorded p (Cell End) = refl
 relayed_recorded p (Box b) = refl
 
-relayed_media : (p : Outcome → Bool) → IsOfMedia (relayed p)
+relayed_media : (p : Outcome → Bool) → IsOfMedia (is_relayed p)
 relayed_media p = record { nested = relayed_nested p; boards = relayed_boards p; recorded = relayed_recorded p }
 
 -- where the counts are the same, so are the totals
 same_totals : (l k : List Entry) (t : Totals) → ((q : Event → Bool) → IsOfMedia q → counted q k ≡ counted q l) → HasTotals l t → HasTotals k t
 same_totals l k t same h = record {
   taken = h.taken ∙ ap capped (sym (same gave gave_media));
-  sent = h.sent ∙ ap capped (sym (same (relayed is_sent) (relayed_media is_sent)));
-  refused = h.refused ∙ ap capped (sym (same (relayed is_refused) (relayed_media is_refused)));
-  lost = h.lost ∙ ap capped (sym (same (relayed is_lost) (relayed_media is_lost)));
+  sent = h.sent ∙ ap capped (sym (same (is_relayed has_sent) (relayed_media has_sent)));
+  refused = h.refused ∙ ap capped (sym (same (is_relayed is_refused) (relayed_media is_refused)));
+  lost = h.lost ∙ ap capped (sym (same (is_relayed is_lost) (relayed_media is_lost)));
 }
 
 -- A turn of the board takes and relays nothing.
@@ -127,13 +127,13 @@ module _ {M I O T : Type 0} {g : _} where
 
 -- What is recorded of a list has the same totals.
 
-told_counted : (q : Event → Bool) → IsOfMedia q → (l : List Entry) → counted q (map told l) ≡ counted q l
+told_counted : (q : Event → Bool) → IsOfMedia q → (l : List Entry) → counted q (map as_logged l) ≡ counted q l
 told_counted q media [] = refl
 told_counted q media (e ∷ l) =
-    counted_cons q (told e) (map told l)
-    ∙ ap (λ (b : Bool). cond b 1 0 + counted q (map told l)) (media.recorded e.event)
+    counted_cons q (as_logged e) (map as_logged l)
+    ∙ ap (λ (b : Bool). cond b 1 0 + counted q (map as_logged l)) (media.recorded e.event)
     ∙ ap (λ (n : ℕ). cond (q e.event) 1 0 + n) (told_counted q media l)
     ∙ sym (counted_cons q e l)
 
-pub told_totals : (l : List Entry) (t : Totals) → HasTotals (map told l) t → HasTotals l t
-told_totals l t h = same_totals (map told l) l t (λ q media. sym (told_counted q media l)) h
+pub told_totals : (l : List Entry) (t : Totals) → HasTotals (map as_logged l) t → HasTotals l t
+told_totals l t h = same_totals (map as_logged l) l t (λ q media. sym (told_counted q media l)) h

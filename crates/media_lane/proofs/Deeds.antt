@@ -3,7 +3,7 @@ use Rattle.std.proofs.Common.{◌≡◌, ◌∙◌, sym, ap, subst, ℕ, ◌≤�
 use Rattle.relay_outside.specs.declared.ports.InCall.{InCall}
 use Rattle.relay_outside.specs.declared.ports.OutCall.{OutCall}
 use Rattle.relay_outside.specs.declared.settings.Config.{Config}
-use Rattle.relay_outside.specs.Told.{EndTold}
+use Rattle.relay_outside.specs.DeviceLogs.{EndLog}
 use Rattle.turn_table.specs.declared.hands.Hand.{Hand}
 use Rattle.turn_table.specs.Hands.{view, entries, starts, parts, IsMain}
 use Rattle.call_cell.specs.declared.outcome.Outcome.{Outcome}
@@ -11,11 +11,11 @@ use Rattle.call_cell.specs.Cells.{Receipt}
 use Rattle.relay_core.specs.declared.part.Part.{Part}
 use Rattle.relay_core.specs.declared.part.Part.TheVariants as part
 use Rattle.relay_core.specs.Entries.{Entry, box_of, history}
-use Rattle.relay_core.specs.Made.{Made}
-use Rattle.relay_core.specs.Beginning.{AreParts}
+use Rattle.relay_core.specs.Records.{Made}
+use Rattle.relay_core.specs.FirstPlaces.{AreParts}
 use Rattle.relay_core.specs.Legal.{Orderly}
-use Rattle.relay_core.specs.Standing.{Stands}
-use Rattle.relay_core.specs.Turning.{Numbered, made_by}
+use Rattle.relay_core.specs.PlaceHistories.{Stands}
+use Rattle.relay_core.specs.Turns.{Numbered, made_by}
 use Rattle.relay_core.proofs.Given.{given_box, given_whole_cell}
 use Rattle.relay_core.proofs.KeysOnce.{keys_once}
 use Rattle.relay_core.proofs.Own.{in_rows}
@@ -23,20 +23,20 @@ use Rattle.port_pool.specs.declared.holder.Holder.{Holder}
 use Rattle.port_pool.specs.Boxes.{FitsTaken}
 use Rattle.rtp_packet.specs.declared.head.Half.{Half}
 use Rattle.media_lane.specs.declared.answers.Received.{Received}
-use Rattle.media_lane.specs.Relaying.{MakesRelay}
-use Rattle.media_lane.specs.Taking.{MakesTake}
-use Rattle.media_lane.specs.Steps.{take_entry, Took, relay_entry, RelaysBy}
+use Rattle.media_lane.specs.Relays.{MakesRelay}
+use Rattle.media_lane.specs.Takes.{MakesTake}
+use Rattle.media_lane.specs.Steps.{take_entry, Took, recorded_relay, RelaysBy}
 
 -- bytes that are those of a copy, where it was made
 pub of_copy : {T E : Type 0} (copy : Result T E) (list : T → List ℕ) (bytes : List ℕ) (P : List ℕ → Type 0) → IfOk copy (λ t. list t ≡ bytes) → P bytes → IfOk copy (λ t. P (list t))
 of_copy (Ok t) list bytes P is p = subst P (sym is) p
 of_copy (Err e) list bytes P is p = tt
 
-module _ {I O : Type 0} (it : I → EndTold InCall) (ic : I → ℕ) (ot : O → EndTold OutCall) (oc : O → ℕ) {M : Type 0} {g : _} where
+module _ {I O : Type 0} (it : I → EndLog InCall) (ic : I → ℕ) (ot : O → EndLog OutCall) (oc : O → ℕ) {M : Type 0} {g : _} where
   -- by the only hand
   pub relays_by : (Tried : Type 0) (config : Config) (p : Receipt) (now : ℕ) (outcome : Outcome) (bytes : List ℕ) (old after : Hand M (Part I O) Made (Unit {0}) g) (new : List Entry)
       → AreParts config (starts old) → Numbered (made_by old) → Orderly config (made_by old) → (1 ≤ p.holder.cell) × (p.holder.cell ≤ config.max_sessions) → parts old ≡ 1024
-      → (r : MakesRelay it ic ot oc Tried p now outcome bytes old after) → new ≡ made_by old ++ relay_entry p r.number r.moment outcome ∷ []
+      → (r : MakesRelay it ic ot oc Tried p now outcome bytes old after) → new ≡ made_by old ++ recorded_relay p r.number r.moment outcome ∷ []
       → RelaysBy config (made_by old) p now outcome bytes new
   relays_by Tried config p now outcome bytes old after new are numbered orderly in_range all r is =
       let k = p.holder.cell in
@@ -52,7 +52,7 @@ module _ {I O : Type 0} (it : I → EndTold InCall) (ic : I → ℕ) (ot : O →
         fitting = stands.fitting;
         outcome_is = did.1.outcome;
         bytes_are = r.are_sent config stands.history stands.stands;
-        list_is = is ∙ ap (λ (m : ℕ). made_by old ++ relay_entry p r.number m outcome ∷ []) did.0;
+        list_is = is ∙ ap (λ (m : ℕ). made_by old ++ recorded_relay p r.number m outcome ∷ []) did.0;
       }
 
   -- a take by the main hand

@@ -11,11 +11,11 @@ use Rattle.call_cell.specs.declared.outcome.Outcome.{Outcome}
 use Rattle.call_cell.specs.Cells as cells
 use Rattle.call_cell.specs.Cells.{Relay, Relayed}
 use Rattle.relay_core.specs.Entries.{Cell, Box, Entry}
-use Rattle.relay_core.specs.Made.{Made, entry_of}
-use Rattle.relay_core.specs.Turning.{made_by}
-use Rattle.media_lane.specs.Gated.{AreGated, GainsGated}
-use Rattle.media_lane.specs.Relaying.{relay_made}
-use Rattle.media_lane.specs.Taking.{take_made}
+use Rattle.relay_core.specs.Records.{Made, entry_of}
+use Rattle.relay_core.specs.Turns.{made_by}
+use Rattle.media_lane.specs.Gates.{AreGated, GainsGated}
+use Rattle.media_lane.specs.Relays.{relay_made}
+use Rattle.media_lane.specs.Takes.{take_made}
 use Rattle.media_lane.proofs.Above.{made_more}
 
 module _ (gate : ℕ → Type 0) where

@@ -7,9 +7,9 @@ use Rattle.histories.proofs.Lists.{in_append, in_left, in_right}
 use Rattle.port_pool.specs.Boxes.{Taken, Take, Datagram}
 use Rattle.call_cell.specs.Cells.{Receipt, Relay, Relayed}
 use Rattle.relay_core.specs.Entries.{Event, Cell, Box, Entry, box_of}
-use Rattle.relay_core.specs.Joining.{TakesOwnPairs}
+use Rattle.relay_core.specs.Joins.{TakesOwnPairs}
 use Rattle.relay_core.specs.Legal.{IsReceived}
-use Rattle.relay_core.specs.Turning.{IsAbove, IsOfLane, IsReceiving}
+use Rattle.relay_core.specs.Turns.{IsAbove, IsOfLane, IsReceiving}
 use Rattle.relay_core.proofs.Turns.{before_left, numbered_append, numbered_single, lane_keeps}
 use Rattle.media_lane.specs.Receipts.{IsUnspent, IsReceiptOf, KeepsList}
 

@@ -4,14 +4,14 @@ use Rattle.relay_outside.specs.declared.settings.Config.{Config}
 use Rattle.turn_table.specs.declared.hands.Hand.{Hand}
 use Rattle.turn_table.specs.Hands.{entries}
 use Rattle.relay_core.specs.Entries.{Entry}
-use Rattle.relay_core.specs.Made.{Made, list_of}
-use Rattle.relay_core.specs.Turning.{made_by}
+use Rattle.relay_core.specs.Records.{Made, list_of}
+use Rattle.relay_core.specs.Turns.{made_by}
 use Rattle.relay_core.proofs.Turns.{filter_append}
 use Rattle.media_lane.specs.declared.answers.Totals.{Totals}
 use Rattle.media_lane.specs.Receipts.{KeepsList}
-use Rattle.media_lane.specs.Visits.{Row, Visit, rows_of, all_rows, has_packet, ends_with, is_sent, is_refused, is_lost, count, AreTotals}
-use Rattle.media_lane.specs.Sweeping.{Sweeps}
-use Rattle.media_lane.specs.Looping.{sum_of, AddsTotals, visits_of, MakesSweeps}
+use Rattle.media_lane.specs.Visits.{Row, Visit, rows_of, all_rows, has_packet, ends_with, has_sent, is_refused, is_lost, count, AreTotals}
+use Rattle.media_lane.specs.Sweeps.{Sweeps}
+use Rattle.media_lane.specs.SweepLoops.{sum_of, AddsTotals, visits_of, MakesSweeps}
 use Rattle.media_lane.proofs.Visiting.{keeps_both, list_append}
 
 rows_both : (config : Config) (vs ws : List Visit) → all_rows config (vs ++ ws) ≡ all_rows config vs ++ all_rows config ws
@@ -32,7 +32,7 @@ count_both p vs ws x y z first second sum =
 pub totals_both : (vs ws : List Visit) (s t u : Totals) → AreTotals vs s → AreTotals ws t → AddsTotals s t u → AreTotals (vs ++ ws) u
 totals_both vs ws s t u a b sum = record {
   taken = count_both has_packet vs ws s.taken t.taken u.taken a.taken b.taken sum.taken;
-  sent = count_both (ends_with is_sent) vs ws s.sent t.sent u.sent a.sent b.sent sum.sent;
+  sent = count_both (ends_with has_sent) vs ws s.sent t.sent u.sent a.sent b.sent sum.sent;
   refused = count_both (ends_with is_refused) vs ws s.refused t.refused u.refused a.refused b.refused sum.refused;
   lost = count_both (ends_with is_lost) vs ws s.lost t.lost u.lost a.lost b.lost sum.lost;
 }

@@ -3,11 +3,11 @@ use Rattle.std.proofs.Common.{◌≡◌, refl, ◌∙◌, ap, subst, ℕ, suc, �
 use Rattle.relay_outside.specs.declared.ports.InCall.{InCall}
 use Rattle.relay_outside.specs.declared.ports.OutCall.{OutCall}
 use Rattle.relay_outside.specs.declared.settings.Config.{Config}
-use Rattle.relay_outside.specs.Told.{EndTold}
+use Rattle.relay_outside.specs.DeviceLogs.{EndLog}
 use Rattle.turn_table.specs.declared.machine.Entry as table
 use Rattle.turn_table.specs.declared.view.View.{View}
 use Rattle.turn_table.specs.Histories.{Leaves}
-use Rattle.turn_table.specs.Steps.{Given}
+use Rattle.turn_table.specs.Steps.{GivenView}
 use Rattle.port_pool.specs.declared.holder.Holder.{Holder}
 use Rattle.port_pool.specs.declared.boxes.PairBox.{PairBox}
 use Rattle.port_pool.specs.Boxes.{BoxEvent, Open, holder}
@@ -15,14 +15,14 @@ use Rattle.port_pool.specs.PairBoxes.{BoxFor, holder_in, cells_of}
 use Rattle.relay_core.specs.declared.part.Part.{Part}
 use Rattle.relay_core.specs.declared.part.Part.TheVariants as part
 use Rattle.relay_core.specs.Entries.{Event, Board, Cell, Box}
-use Rattle.relay_core.specs.Made.{Made}
+use Rattle.relay_core.specs.Records.{Made}
 use Rattle.relay_core.specs.Steps.{BoxSteps, IsReserved}
-use Rattle.relay_core.specs.Standing.{IsCellPart}
-use Rattle.relay_core.specs.Beginning.{AreParts, BeginsAs}
+use Rattle.relay_core.specs.PlaceHistories.{IsCellPart}
+use Rattle.relay_core.specs.FirstPlaces.{AreParts, BeginsAs}
 use Rattle.relay_core.proofs.Stays.{cell_stays}
 use Rattle.relay_core.proofs.Given.{begins_as}
-use Rattle.media_lane.specs.Starts.{HasCells, IsBoxOf, IsPair, HasLaneStarts}
-use Rattle.media_lane.specs.Busy.{Steps}
+use Rattle.media_lane.specs.Starts.{HasCells, IsBoxOf, IsPairPart, HasLaneStarts}
+use Rattle.media_lane.specs.Busy.{BusySteps}
 
 -- the history of a box that was opened for this leg, or of a closed one
 abbrev opened_for : Option Holder → List BoxEvent
@@ -62,7 +62,7 @@ module _ {I : Type 0} where
     held_by = λ leg q. (let w = held_by box h for (holder_in box) refl leg q in (w.0, let b = w.1 in omega (arith, b, is)));
   }
 
-  box_kept : (it : I → EndTold InCall) (ic : I → ℕ) (cells : ℕ) (old new : PairBox I) (made : Made) (ev : Event) → BoxSteps it ic old made ev new
+  box_kept : (it : I → EndLog InCall) (ic : I → ℕ) (cells : ℕ) (old new : PairBox I) (made : Made) (ev : Event) → BoxSteps it ic old made ev new
       → HasCells cells old → HasCells cells new
   box_kept it ic cells old new made (Box e) step has =
       let s = stands_for cells old has in
@@ -70,29 +70,29 @@ module _ {I : Type 0} where
   box_kept it ic cells old new made (Cell e) step has = absurd step
   box_kept it ic cells old new made (Board e) step has = absurd step
 
-module _ {I O : Type 0} (it : I → EndTold InCall) (ic : I → ℕ) (ot : O → EndTold OutCall) (oc : O → ℕ) where
-  box_step : (cells : ℕ) (a b : Part I O) (made : Made) → Steps it ic ot oc a made tt b → IsBoxOf cells a → IsBoxOf cells b
+module _ {I O : Type 0} (it : I → EndLog InCall) (ic : I → ℕ) (ot : O → EndLog OutCall) (oc : O → ℕ) where
+  box_step : (cells : ℕ) (a b : Part I O) (made : Made) → BusySteps it ic ot oc a made tt b → IsBoxOf cells a → IsBoxOf cells b
   box_step cells (part.Board old) (part.Board new) made step is = is
   box_step cells (part.Cell old) (part.Cell new) made step is = is
   box_step cells (part.Pair old) (part.Pair new) made step is = box_kept it ic cells old new made made.event step is
   box_step cells _ _ made step is = absurd step
 
-  box_stays : (cells : ℕ) (a b : Part I O) (rows : List (table.Entry Made (Unit {0}))) → Leaves (Steps it ic ot oc) a rows b → IsBoxOf cells a → IsBoxOf cells b
+  box_stays : (cells : ℕ) (a b : Part I O) (rows : List (table.Entry Made (Unit {0}))) → Leaves (BusySteps it ic ot oc) a rows b → IsBoxOf cells a → IsBoxOf cells b
   box_stays cells a b [] same is = subst (λ (x : Part I O). IsBoxOf cells x) same is
   box_stays cells a b (row ∷ rows) l is = box_stays cells l.0 b rows l.2 (box_step cells a l.0 row.event l.1 is)
 
   -- by any hand, a box's turn gives a box of these cells, and a cell's turn a cell
   pub gives_box : (config : Config) (v : View (Part I O) Made (Unit {0})) (k n : ℕ) (x : Part I O) → HasLaneStarts config v.starts → config.max_sessions < k
-      → Given (Steps it ic ot oc) IsReserved k v n x → IsBoxOf config.max_sessions x
+      → GivenView (BusySteps it ic ot oc) IsReserved k v n x → IsBoxOf config.max_sessions x
   gives_box config v k n x begins above g =
       box_stays config.max_sessions g.start x g.history g.leaves (begins.boxes k g.start g.starts above)
 
   pub gives_cell : (config : Config) (v : View (Part I O) Made (Unit {0})) (k n : ℕ) (x : Part I O) → HasLaneStarts config v.starts → 1 ≤ k → k ≤ config.max_sessions
-      → Given (Steps it ic ot oc) IsReserved k v n x → IsCellPart x
+      → GivenView (BusySteps it ic ot oc) IsReserved k v n x → IsCellPart x
   gives_cell config v k n x begins low high g = cell_stays it ic ot oc g.start x g.history g.leaves (begins.cells k g.start g.starts low high)
 
 module _ {I O : Type 0} where
-  pub is_pair : (cells : ℕ) (x : Part I O) → IsBoxOf cells x → IsPair x
+  pub is_pair : (cells : ℕ) (x : Part I O) → IsBoxOf cells x → IsPairPart x
   is_pair cells (part.Pair box) is = tt
   is_pair cells (part.Board board) is = absurd is
   is_pair cells (part.Cell cell) is = absurd is

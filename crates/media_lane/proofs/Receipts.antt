@@ -9,16 +9,16 @@ use Rattle.port_pool.specs.Boxes.{Take, Taken}
 use Rattle.call_cell.specs.declared.outcome.Outcome.{Outcome}
 use Rattle.call_cell.specs.Cells.{Relay, Relayed, Receipt}
 use Rattle.relay_core.specs.Entries.{Cell, Box, Entry, box_of}
-use Rattle.relay_core.specs.Made.{told_relay, entry_of}
-use Rattle.relay_core.specs.Joining.{TakesOwnPairs}
-use Rattle.relay_core.specs.Turning.{IsReceiving, Numbered}
+use Rattle.relay_core.specs.Records.{logged_relay, entry_of}
+use Rattle.relay_core.specs.Joins.{TakesOwnPairs}
+use Rattle.relay_core.specs.Turns.{IsReceiving, Numbered}
 use Rattle.relay_core.proofs.Joins.{not_in_both}
 use Rattle.media_lane.specs.declared.answers.Received.{Received}
 use Rattle.media_lane.specs.declared.answers.Received.TheVariants as answer
 use Rattle.media_lane.specs.Receipts.{IsReceiptOf, IsUnspent}
-use Rattle.media_lane.specs.Relaying.{relay_made}
-use Rattle.media_lane.specs.Taking.{take_made, Tells}
-use Rattle.media_lane.specs.Steps.{IsIn, AreApart, IsNew, take_entry}
+use Rattle.media_lane.specs.Relays.{relay_made}
+use Rattle.media_lane.specs.Takes.{take_made, TellsOfTake}
+use Rattle.media_lane.specs.Steps.{IsIn, AreOfTwoTakes, IsNew, take_entry}
 
 -- a relay of that take
 pub record Spends (config : Config) (p : Receipt) (e : Entry) : Type 0 where
@@ -59,7 +59,7 @@ leg_pair config l r own of =
 
 -- a relay of the one spends no other
 pub apart_unspent : (config : Config) (l : List Entry) (r s : ℕ × Receipt) → TakesOwnPairs config l → IsReceiptOf config l r.0 r.1 → IsReceiptOf config l s.0 s.1
-    → AreApart r s → r.1.holder.pair ≡ s.1.holder.pair → r.1.take ≡ s.1.take → ⊥
+    → AreOfTwoTakes r s → r.1.holder.pair ≡ s.1.holder.pair → r.1.take ≡ s.1.take → ⊥
 apart_unspent config l r s own of also apart pair take =
     apart (sym (leg_pair config l r own of) ∙ pair ∙ leg_pair config l s own also) take
 
@@ -78,7 +78,7 @@ new_take config l pair number half taken numbered s of pairs numbers =
     (of.at_box ∙ ap (box_of config) (sym pairs)) (of.with_number ∙ sym numbers)
 
 pub is_new : (config : Config) (l : List Entry) (pair number : ℕ) (half : Half) (taken : Taken) (answer : Received)
-    → Numbered (l ++ take_entry config pair half number taken ∷ []) → Tells answer pair number half taken → IsNew config l answer
+    → Numbered (l ++ take_entry config pair half number taken ∷ []) → TellsOfTake answer pair number half taken → IsNew config l answer
 is_new config l pair number half taken (answer.Got r) numbered tells = λ s of pairs takes.
     new_take config l pair number half taken numbered s of (sym tells.pair_is ∙ pairs) (sym tells.number_is ∙ takes)
 is_new config l pair number half taken answer.Nothing numbered tells = tt
@@ -91,11 +91,11 @@ relay_is : (x y : Relayed) → Cell (Relay x) ≡ Cell (Relay y) → x ≡ y
 relay_is x y q = cc
 
 pub relay_spends : (config : Config) (l : List Entry) (r s : ℕ × Receipt) (place number now moment : ℕ) (outcome : Outcome) → TakesOwnPairs config l
-    → IsReceiptOf config l r.0 r.1 → IsReceiptOf config l s.0 s.1 → AreApart r s → (e : Entry)
+    → IsReceiptOf config l r.0 r.1 → IsReceiptOf config l s.0 s.1 → AreOfTwoTakes r s → (e : Entry)
     → In e (entry_of (entry place number (relay_made r.1 now moment outcome) (tt {0})) ∷ []) → Spends config s.1 e → ⊥
 relay_spends config l r s place number now moment outcome own of also apart e (here q) spent =
-    let same : told_relay r.1 outcome ≡ spent.relay =
-    relay_is (told_relay r.1 outcome) spent.relay (sym (ap (λ (x : Entry). x.event) q) ∙ spent.is) in
+    let same : logged_relay r.1 outcome ≡ spent.relay =
+    relay_is (logged_relay r.1 outcome) spent.relay (sym (ap (λ (x : Entry). x.event) q) ∙ spent.is) in
     apart_unspent config l r s own of also apart
     (ap (λ (x : Relayed). x.packet.holder.pair) same ∙ spent.pair_is) (ap (λ (x : Relayed). x.packet.take) same ∙ spent.take_is)
 relay_spends config l r s place number now moment outcome own of also apart e (there i) spent = elim i [ ]

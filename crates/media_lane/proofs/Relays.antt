@@ -4,7 +4,7 @@ use Rattle.std.proofs.lemmas.List.{length-take-le}
 use Rattle.relay_outside.specs.declared.settings.Config.{Config}
 use Rattle.relay_outside.specs.declared.ports.InCall.{InCall}
 use Rattle.relay_outside.specs.declared.ports.OutCall.{OutCall}
-use Rattle.relay_outside.specs.Told.{EndTold}
+use Rattle.relay_outside.specs.DeviceLogs.{EndLog}
 use Rattle.turn_table.specs.declared.hands.Hand.{Hand}
 use Rattle.turn_table.specs.Hands.{entries}
 use Rattle.turn_table.specs.Steps.{entry}
@@ -14,19 +14,19 @@ use Rattle.call_cell.specs.declared.outcome.Outcome.TheVariants as outcomes
 use Rattle.call_cell.specs.declared.cell.Cell as cell
 use Rattle.call_cell.specs.Cells as cells
 use Rattle.call_cell.specs.Cells.{CellEntry, Sending, since_end}
-use Rattle.call_cell.specs.CellStanding.{CellFor, CellRelays}
+use Rattle.call_cell.specs.CellHistories.{CellFor, CellRelays}
 use Rattle.call_cell.specs.Deeds.{deed}
-use Rattle.call_cell.specs.Standing.{receipt_of, sent_ok, FrontIs}
+use Rattle.call_cell.specs.LegHistories.{receipt_of, sent_ok, FrontIs}
 use Rattle.call_cell.proofs.Sends.{sent}
 use Rattle.relay_core.specs.declared.part.Part.{Part}
 use Rattle.relay_core.specs.declared.part.Part.TheVariants as part
 use Rattle.relay_core.specs.Entries.{Entry}
-use Rattle.relay_core.specs.Made.{Made, entry_of, told_relay}
+use Rattle.relay_core.specs.Records.{Made, entry_of, logged_relay}
 use Rattle.relay_core.specs.Steps.{Relates, CellRelayed}
-use Rattle.relay_core.specs.Turning.{made_by}
+use Rattle.relay_core.specs.Turns.{made_by}
 use Rattle.media_lane.specs.Busy.{Gives}
 use Rattle.media_lane.specs.Receipts.{IsReceiptOf, KeepsList}
-use Rattle.media_lane.specs.Relaying.{relay_made, relay_by, bytes_left, AreSent, RelaysPart, MakesRelay}
+use Rattle.media_lane.specs.Relays.{relay_made, relay_by, bytes_left, AreSent, RelaysPart, MakesRelay}
 use Rattle.media_lane.proofs.Above.{above, made_more}
 use Rattle.media_lane.proofs.Keeping.{relay_keeps}
 
@@ -51,17 +51,17 @@ put_packet number packet bytes front shown is within put =
 
 -- The step.
 
-pub part_relays : {I O : Type 0} (ot : O → EndTold OutCall) (oc : O → ℕ) (p q : cells.Receipt) (now : ℕ) (x : Part I O) (old new : cell.Cell O) (buf : List ℕ) (outcome : Outcome)
+pub part_relays : {I O : Type 0} (ot : O → EndLog OutCall) (oc : O → ℕ) (p q : cells.Receipt) (now : ℕ) (x : Part I O) (old new : cell.Cell O) (buf : List ℕ) (outcome : Outcome)
     → x ≡ part.Cell old → q ≡ p → ((config : Config) (h : List CellEntry) → CellFor config old h → CellRelays ot oc config old new h q now buf outcome)
     → RelaysPart ot oc p now x buf outcome (part.Cell new)
 part_relays {I} ot oc p q now x old new buf outcome is same relays =
     subst (λ (y : Part I _). RelaysPart ot oc p now y buf outcome (part.Cell new)) (sym is)
     (λ config h for. subst (λ (r : cells.Receipt). CellRelays ot oc config old new h r now buf outcome) same (relays config h for))
 
-module _ {I O : Type 0} (it : I → EndTold InCall) (ic : I → ℕ) (ot : O → EndTold OutCall) (oc : O → ℕ) where
+module _ {I O : Type 0} (it : I → EndLog InCall) (ic : I → ℕ) (ot : O → EndLog OutCall) (oc : O → ℕ) where
   cell_relayed : (p : cells.Receipt) (now : ℕ) (buf : List ℕ) (outcome : Outcome) (old new : cell.Cell O)
       → ((config : Config) (h : List CellEntry) → CellFor config old h → CellRelays ot oc config old new h p now buf outcome)
-      → CellRelayed ot oc old (relay_made p now (max now old.moment) outcome) (told_relay p outcome) new
+      → CellRelayed ot oc old (relay_made p now (max now old.moment) outcome) (logged_relay p outcome) new
   cell_relayed p now buf outcome old new relays = record {
     is_told = refl;
     buffer = buf;
@@ -111,4 +111,4 @@ module _ {I O : Type 0} (it : I → EndTold InCall) (ic : I → ℕ) (ot : O →
   keeps config pair p now outcome old new number x rec given list_is =
       let row = entry p.holder.cell number (relay_by x p now outcome) (tt {0}) in
       subst (λ (l : List Entry). KeepsList config (made_by old) l) (sym (made_more old new row list_is))
-      (relay_keeps config (made_by old) (entry_of {T = Unit {0}} row) pair p (told_relay p outcome) rec refl refl refl (above it ic ot oc old p.holder.cell number x given))
+      (relay_keeps config (made_by old) (entry_of {T = Unit {0}} row) pair p (logged_relay p outcome) rec refl refl refl (above it ic ot oc old p.holder.cell number x given))

@@ -4,7 +4,7 @@ use Rattle.relay_outside.specs.declared.address.Addr.{Addr}
 use Rattle.relay_outside.specs.declared.settings.Config.{Config}
 use Rattle.relay_outside.specs.declared.ports.InCall.{InCall}
 use Rattle.relay_outside.specs.declared.ports.OutCall.{OutCall}
-use Rattle.relay_outside.specs.Told.{EndTold}
+use Rattle.relay_outside.specs.DeviceLogs.{EndLog}
 use Rattle.rtp_packet.specs.declared.head.Half.{Half}
 use Rattle.turn_table.specs.declared.hands.Hand.{Hand}
 use Rattle.turn_table.specs.Hands.{starts, entries, TriedOnce, TriedUntilFree}
@@ -18,9 +18,9 @@ use Rattle.call_cell.specs.Cells as cells
 use Rattle.relay_core.specs.declared.part.Part.{Part}
 use Rattle.relay_core.specs.declared.part.Part.TheVariants as part
 use Rattle.relay_core.specs.Entries.{Box, Entry, box_of}
-use Rattle.relay_core.specs.Made.{Made, entry_of}
+use Rattle.relay_core.specs.Records.{Made, entry_of}
 use Rattle.relay_core.specs.Steps.{Relates, BoxStep}
-use Rattle.relay_core.specs.Turning.{IsAbove, made_by}
+use Rattle.relay_core.specs.Turns.{IsAbove, made_by}
 use Rattle.media_lane.specs.declared.receipt.Receipt.{Receipt}
 use Rattle.media_lane.specs.declared.answers.Received.{Received}
 use Rattle.media_lane.specs.declared.answers.Received.TheVariants as answer
@@ -28,7 +28,7 @@ use Rattle.media_lane.specs.Starts.{HasCells, IsBoxOf, HasLaneStarts}
 use Rattle.media_lane.specs.Lanes.{packet_of}
 use Rattle.media_lane.specs.Busy.{Gives}
 use Rattle.media_lane.specs.Receipts.{IsReceiptOf, KeepsList}
-use Rattle.media_lane.specs.Taking.{take_made, IsOfTake, Tells, IsShort, HasReceipt, MakesTake, Receives, TakesAtLast}
+use Rattle.media_lane.specs.Takes.{take_made, IsOfTake, TellsOfTake, IsShort, HasReceipt, MakesTake, Receives, TakesAtLast}
 use Rattle.media_lane.specs.Visits.{packet_by}
 use Rattle.media_lane.proofs.Places.{stands_for, gives_box}
 use Rattle.media_lane.proofs.Above.{above, made_more}
@@ -64,7 +64,7 @@ packet_fields number half box.Nothing p is = absurd (let z = is in cc)
 packet_fields number half (box.TooLong source bytes) p is = absurd (let z = is in cc)
 packet_fields number half box.Fault p is = absurd (let z = is in cc)
 
-module _ {I O : Type 0} (it : I → EndTold InCall) (ic : I → ℕ) (ot : O → EndTold OutCall) (oc : O → ℕ) where
+module _ {I O : Type 0} (it : I → EndLog InCall) (ic : I → ℕ) (ot : O → EndLog OutCall) (oc : O → ℕ) where
   -- a step that takes from a box
   pub record Took (cells : ℕ) (half : Half) (taken : Taken) (x : Part I O) : Type 0 where
     pub before : PairBox I
@@ -104,7 +104,7 @@ module _ {I O : Type 0} (it : I → EndTold InCall) (ic : I → ℕ) (ot : O →
     gave = took config.max_sessions half taken x y
         (gives_box it ic ot oc config _ (box_of config pair) number x begins (omega arith) given) step
 
-    made_of : (Tried : Type 0) → Tried → (result : Received) → Tells result pair number half taken → MakesTake it ic ot oc Tried config pair half result old new
+    made_of : (Tried : Type 0) → Tried → (result : Received) → TellsOfTake result pair number half taken → MakesTake it ic ot oc Tried config pair half result old new
     unfolding gave
     made_of Tried found result tells = record {
       number = number;
@@ -120,7 +120,7 @@ module _ {I O : Type 0} (it : I → EndTold InCall) (ic : I → ℕ) (ot : O →
     }
 
     -- the result of a call that tried once
-    pub receives : TriedOnce (box_of config pair) 0 old new → (result : Received) → Tells result pair number half taken → Receives it ic ot oc config pair half result old new
+    pub receives : TriedOnce (box_of config pair) 0 old new → (result : Received) → TellsOfTake result pair number half taken → Receives it ic ot oc config pair half result old new
     receives found (answer.Got r) tells = made_of _ found (answer.Got r) tells
     receives found answer.Nothing tells = made_of _ found answer.Nothing tells
     receives found (answer.Busy front) tells = absurd tells
@@ -128,7 +128,7 @@ module _ {I O : Type 0} (it : I → EndTold InCall) (ic : I → ℕ) (ot : O →
     receives found answer.TakeFault tells = made_of _ found answer.TakeFault tells
 
     -- that of one that tried until the mark was free
-    pub takes_at_last : TriedUntilFree (box_of config pair) old new → (result : Received) → Tells result pair number half taken
+    pub takes_at_last : TriedUntilFree (box_of config pair) old new → (result : Received) → TellsOfTake result pair number half taken
         → TakesAtLast it ic ot oc config pair half result old new
     takes_at_last found result tells = made_of _ found result tells
 
@@ -154,7 +154,7 @@ module _ {I O : Type 0} (it : I → EndTold InCall) (ic : I → ℕ) (ot : O →
 
 -- a receipt that is returned is of that packet
 pub has_receipt : (config : Config) (l : List Entry) (pair number : ℕ) (half : Half) (taken : Taken) → ((p : cells.Receipt) → packet_by number half taken ≡ Some p → IsReceiptOf config l pair p)
-    → (result : Received) → Tells result pair number half taken → HasReceipt config l result
+    → (result : Received) → TellsOfTake result pair number half taken → HasReceipt config l result
 has_receipt config l pair number half taken each (answer.Got r) tells =
     subst (λ (n : ℕ). IsReceiptOf config l n (packet_of r)) (sym tells.pair_is) (each (packet_of r) (taken_packet r pair number half taken tells))
 has_receipt config l pair number half taken each answer.Nothing tells = tt {0}

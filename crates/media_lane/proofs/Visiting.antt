@@ -1,7 +1,7 @@
 -- A visit, from the take and the relay that it made.
 use Rattle.std.proofs.Common.{◌≡◌, refl, sym, ◌∙◌, ap, subst, ℕ, ◌+◌, ◌-◌, ◌^◌, Bool, true, false, cond, min, List, [], ◌∷◌, ◌++◌, Option, Some, None, filter, length, length-append, append_assoc, arith}
 use Rattle.relay_outside.specs.declared.settings.Config.{Config}
-use Rattle.relay_outside.specs.Told.{WhereInRange}
+use Rattle.relay_outside.specs.DeviceLogs.{WhereInRange}
 use Rattle.rtp_packet.specs.declared.head.Half.{Half}
 use Rattle.histories.proofs.Lists.{in_left}
 use Rattle.turn_table.specs.declared.hands.Hand.{Hand}
@@ -10,22 +10,22 @@ use Rattle.turn_table.specs.Hands.{entries}
 use Rattle.turn_table.specs.Steps.{entry}
 use Rattle.port_pool.specs.declared.boxes.BoxTake.{BoxTake}
 use Rattle.port_pool.specs.Boxes.{Taken}
-use Rattle.port_pool.specs.Taking.{taken_of}
+use Rattle.port_pool.specs.Takes.{taken_within}
 use Rattle.call_cell.specs.declared.outcome.Incoming.{Incoming}
 use Rattle.call_cell.specs.declared.outcome.Outcome.{Outcome}
 use Rattle.call_cell.specs.Cells as cells
-use Rattle.call_cell.specs.Standing.{receipt_of}
+use Rattle.call_cell.specs.LegHistories.{receipt_of}
 use Rattle.relay_core.specs.Entries.{Entry, box_of}
-use Rattle.relay_core.specs.Made.{Made, entry_of, list_of}
-use Rattle.relay_core.specs.Joining.{TakesOwnPairs}
-use Rattle.relay_core.specs.Turning.{made_by}
+use Rattle.relay_core.specs.Records.{Made, entry_of, list_of}
+use Rattle.relay_core.specs.Joins.{TakesOwnPairs}
+use Rattle.relay_core.specs.Turns.{made_by}
 use Rattle.relay_core.proofs.Turns.{filter_append}
 use Rattle.media_lane.specs.declared.answers.Totals.{Totals}
 use Rattle.media_lane.specs.Receipts.{KeepsList}
-use Rattle.media_lane.specs.Taking.{take_made}
-use Rattle.media_lane.specs.Relaying.{relay_made}
-use Rattle.media_lane.specs.Visits.{Row, Visit, Passing, packet_by, relay_rows, IsPassed, has_packet, is_there, ends_so, ends_with, is_sent, is_refused, is_lost, count, one_more, AreTotals, CountsRelay}
-use Rattle.media_lane.specs.Sweeping.{VisitsOnce}
+use Rattle.media_lane.specs.Takes.{take_made}
+use Rattle.media_lane.specs.Relays.{relay_made}
+use Rattle.media_lane.specs.Visits.{Row, Visit, Passing, packet_by, relay_rows, IsPassed, has_packet, is_there, ends_so, ends_with, has_sent, is_refused, is_lost, count, one_more, AreTotals, CountsRelay}
+use Rattle.media_lane.specs.Sweeps.{VisitsOnce}
 
 -- One list after another.
 
@@ -73,7 +73,7 @@ count_more p vs v false q = ap (λ (n : ℕ). min n (2 ^ 64 - 1)) (length_more p
 same_totals : (vs : List Visit) (v : Visit) (t : Totals) → has_packet v ≡ false → v.passing ≡ None → AreTotals vs t → AreTotals (vs ++ v ∷ []) t
 same_totals vs v t none passing a = record {
   taken = a.taken ∙ sym (count_more has_packet vs v false none);
-  sent = a.sent ∙ sym (count_more (ends_with is_sent) vs v false (ap (λ (o : Option Passing). ends_so is_sent o) passing));
+  sent = a.sent ∙ sym (count_more (ends_with has_sent) vs v false (ap (λ (o : Option Passing). ends_so has_sent o) passing));
   refused = a.refused ∙ sym (count_more (ends_with is_refused) vs v false (ap (λ (o : Option Passing). ends_so is_refused o) passing));
   lost = a.lost ∙ sym (count_more (ends_with is_lost) vs v false (ap (λ (o : Option Passing). ends_so is_lost o) passing));
 }
@@ -82,11 +82,11 @@ counted_by : (p : Visit → Bool) (vs : List Visit) (v : Visit) (old new : ℕ) 
 counted_by p vs v old new true q was now = now ∙ ap (λ (n : ℕ). one_more n) was ∙ sym (count_more p vs v true q)
 counted_by p vs v old new false q was now = now ∙ was ∙ sym (count_more p vs v false q)
 
-more_totals : (vs : List Visit) (v : Visit) (outcome : Outcome) (s t : Totals) → has_packet v ≡ true → ends_with is_sent v ≡ is_sent outcome → ends_with is_refused v ≡ is_refused outcome
+more_totals : (vs : List Visit) (v : Visit) (outcome : Outcome) (s t : Totals) → has_packet v ≡ true → ends_with has_sent v ≡ has_sent outcome → ends_with is_refused v ≡ is_refused outcome
     → ends_with is_lost v ≡ is_lost outcome → CountsRelay outcome s t → AreTotals vs s → AreTotals (vs ++ v ∷ []) t
 more_totals vs v outcome s t packet sent refused lost c a = record {
   taken = counted_by has_packet vs v s.taken t.taken true packet a.taken c.taken;
-  sent = counted_by (ends_with is_sent) vs v s.sent t.sent (is_sent outcome) sent a.sent c.sent;
+  sent = counted_by (ends_with has_sent) vs v s.sent t.sent (has_sent outcome) sent a.sent c.sent;
   refused = counted_by (ends_with is_refused) vs v s.refused t.refused (is_refused outcome) refused a.refused c.refused;
   lost = counted_by (ends_with is_lost) vs v s.lost t.lost (is_lost outcome) lost a.lost c.lost;
 }
@@ -94,13 +94,13 @@ more_totals vs v outcome s t packet sent refused lost c a = record {
 -- What was taken, by the bytes of the room.
 
 pub packet_taken : (number : ℕ) (half : Half) (given : BoxTake) (packet : Incoming) (front room : List ℕ) → front ≡ room
-    → packet_by number half (taken_of given front) ≡ Some (receipt_of number packet front) → packet_by number half (taken_of given room) ≡ Some (receipt_of number packet room)
+    → packet_by number half (taken_within given front) ≡ Some (receipt_of number packet front) → packet_by number half (taken_within given room) ≡ Some (receipt_of number packet room)
 packet_taken number half given packet front room is =
-    subst (λ (buf : List ℕ). packet_by number half (taken_of given buf) ≡ Some (receipt_of number packet buf)) is
+    subst (λ (buf : List ℕ). packet_by number half (taken_within given buf) ≡ Some (receipt_of number packet buf)) is
 
-pub nothing_taken : (number : ℕ) (half : Half) (given : BoxTake) (front room : List ℕ) → front ≡ room → packet_by number half (taken_of given front) ≡ None
-    → packet_by number half (taken_of given room) ≡ None
-nothing_taken number half given front room is = subst (λ (buf : List ℕ). packet_by number half (taken_of given buf) ≡ None) is
+pub nothing_taken : (number : ℕ) (half : Half) (given : BoxTake) (front room : List ℕ) → front ≡ room → packet_by number half (taken_within given front) ≡ None
+    → packet_by number half (taken_within given room) ≡ None
+nothing_taken number half given front room is = subst (λ (buf : List ℕ). packet_by number half (taken_within given buf) ≡ None) is
 
 -- The visit.
 

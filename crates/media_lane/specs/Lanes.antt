@@ -4,16 +4,16 @@ use Rattle.relay_outside.specs.declared.settings.Config.{Config}
 use Rattle.turn_table.specs.declared.hands.Hand.{Hand}
 use Rattle.turn_table.specs.Hands.{IsSameHand}
 use Rattle.call_cell.specs.Cells as cells
-use Rattle.call_cell.specs.Standing as standing
+use Rattle.call_cell.specs.LegHistories as standing
 use Rattle.relay_core.specs.declared.part.Part.{Part}
 use Rattle.relay_core.specs.declared.machine.Relay.{Relay}
-use Rattle.relay_core.specs.Made.{Made}
+use Rattle.relay_core.specs.Records.{Made}
 use Rattle.relay_core.specs.Entries.{Entry}
-use Rattle.relay_core.specs.Turning.{made_by}
+use Rattle.relay_core.specs.Turns.{made_by}
 use Rattle.media_lane.specs.declared.receipt.Receipt.{Receipt}
 use Rattle.media_lane.specs.declared.lane.LaneHand.{LaneHand}
 use Rattle.media_lane.specs.declared.lane.Lane.{Lane}
-use Rattle.media_lane.specs.Rooms.{sent_in}
+use Rattle.media_lane.specs.Rooms.{sent_room}
 
 -- the packet of a receipt: what was taken, by which take, and for which leg
 abbrev pub packet_of : Receipt → cells.Receipt
@@ -29,8 +29,8 @@ module _ {I O : Type 0} {gi : _} {go : _} {gm : _} where
   abbrev pub hand_in : LaneHand I O gi go gm → Hand (Relay I O) (Part I O) Made (Unit {0}) gm
   hand_in lane = lane.hand
 
-  abbrev pub list_in : LaneHand I O gi go gm → List Entry
-  list_in lane = made_by lane.hand
+  abbrev pub lane_list : LaneHand I O gi go gm → List Entry
+  lane_list lane = made_by lane.hand
 
   abbrev pub config_in : LaneHand I O gi go gm → Config
   config_in lane = lane.config
@@ -54,11 +54,11 @@ module _ {I O : Type 0} {gi : _} {go : _} {gm : _} where
   abbrev pub hand_of : Lane I O gi go gm → Hand (Relay I O) (Part I O) Made (Unit {0}) gm
   hand_of lane = hand_in lane.own
 
-  abbrev pub list_of : Lane I O gi go gm → List Entry
-  list_of lane = list_in lane.own
+  abbrev pub list_of_lane : Lane I O gi go gm → List Entry
+  list_of_lane lane = lane_list lane.own
 
-  abbrev pub config_of : Lane I O gi go gm → Config
-  config_of lane = config_in lane.own
+  abbrev pub lane_config : Lane I O gi go gm → Config
+  lane_config lane = config_in lane.own
 
   abbrev pub index_of : Lane I O gi go gm → ℕ
   index_of lane = index_in lane.own
@@ -67,8 +67,8 @@ module _ {I O : Type 0} {gi : _} {go : _} {gm : _} where
   lanes_of lane = lanes_in lane.own
 
   -- the bytes that its last relay sent
-  abbrev pub sent_of : Lane I O gi go gm → List ℕ
-  sent_of lane = sent_in lane.rooms
+  abbrev pub sent_last : Lane I O gi go gm → List ℕ
+  sent_last lane = sent_room lane.rooms
 
   -- the same lane of the same table
   abbrev pub IsSameLane : (old new : Lane I O gi go gm) → Type 0

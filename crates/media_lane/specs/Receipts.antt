@@ -5,9 +5,9 @@ use Rattle.histories.specs.Words.{In}
 use Rattle.port_pool.specs.Boxes.{Take, Datagram}
 use Rattle.call_cell.specs.Cells.{Receipt, Relay, Relayed}
 use Rattle.relay_core.specs.Entries.{Cell, Box, Entry, box_of}
-use Rattle.relay_core.specs.Joining.{TakesOwnPairs}
+use Rattle.relay_core.specs.Joins.{TakesOwnPairs}
 use Rattle.relay_core.specs.Legal.{Orderly}
-use Rattle.relay_core.specs.Turning.{Numbered, IsReceiving}
+use Rattle.relay_core.specs.Turns.{Numbered, IsReceiving}
 
 -- no relay of the list names the take of this packet
 abbrev pub IsUnspent : List Entry → Receipt → Type 0

@@ -9,8 +9,8 @@ use Rattle.port_pool.specs.declared.boxes.PairBox.{PairBox}
 use Rattle.port_pool.specs.PairBoxes.{holder_in, cells_of}
 use Rattle.relay_core.specs.declared.part.Part.{Part}
 use Rattle.relay_core.specs.declared.part.Part.TheVariants as part
-use Rattle.relay_core.specs.Standing.{IsCellPart}
-use Rattle.relay_core.specs.Beginning.{AreParts}
+use Rattle.relay_core.specs.PlaceHistories.{IsCellPart}
+use Rattle.relay_core.specs.FirstPlaces.{AreParts}
 
 -- a box of a table with `cells` cells, closed or held by a leg of one of them
 pub record HasCells {I : Type 0} (cells : ℕ) (box : PairBox I) : Type 0 where
@@ -22,9 +22,9 @@ module _ {I O : Type 0} where
   IsBoxOf cells (part.Pair box) = HasCells cells box
   IsBoxOf cells _ = ⊥
 
-  abbrev pub IsPair : Part I O → Type 0
-  IsPair (part.Pair box) = Unit {0}
-  IsPair _ = ⊥
+  abbrev pub IsPairPart : Part I O → Type 0
+  IsPairPart (part.Pair box) = Unit {0}
+  IsPairPart _ = ⊥
 
   -- As many places as the parts of this configuration, and each of its kind: after the board's a cell for each call that may be live,
   -- and then the box of each port pair. What happened at them before is left open.

@@ -7,20 +7,20 @@ use Rattle.port_pool.specs.Boxes.{Taken, FitsTaken, holder}
 use Rattle.call_cell.specs.declared.outcome.Outcome.{Outcome}
 use Rattle.call_cell.specs.Cells as cells
 use Rattle.call_cell.specs.Cells.{Receipt, CellEntry, Deed, since_end}
-use Rattle.call_cell.specs.CellStanding.{last_moment}
+use Rattle.call_cell.specs.CellHistories.{cell_last_moment}
 use Rattle.call_cell.specs.Deeds.{deed}
 use Rattle.call_cell.specs.Good.{FittingCell}
-use Rattle.call_cell.specs.Standing.{sent_ok}
+use Rattle.call_cell.specs.LegHistories.{sent_ok}
 use Rattle.relay_core.specs.Entries.{Entry, Cell, Box, box_of, cell_history, box_history}
-use Rattle.relay_core.specs.Made.{told_relay}
-use Rattle.relay_core.specs.Standing.{told_entry}
-use Rattle.relay_core.specs.Turning.{IsAbove}
+use Rattle.relay_core.specs.Records.{logged_relay}
+use Rattle.relay_core.specs.PlaceHistories.{logged_entry}
+use Rattle.relay_core.specs.Turns.{IsAbove}
 use Rattle.media_lane.specs.declared.answers.Received.{Received}
 use Rattle.media_lane.specs.declared.answers.Received.TheVariants as answer
 use Rattle.media_lane.specs.Lanes.{packet_of, pair_of}
 use Rattle.media_lane.specs.Receipts.{IsReceiptOf}
-use Rattle.media_lane.specs.Relaying.{AreSent}
-use Rattle.media_lane.specs.Taking.{Tells}
+use Rattle.media_lane.specs.Relays.{AreSent}
+use Rattle.media_lane.specs.Takes.{TellsOfTake}
 
 -- a take of a half at the box of a pair, as the table records it
 abbrev pub take_entry : Config → (pair : ℕ) → Half → (number : ℕ) → Taken → Entry
@@ -35,18 +35,18 @@ pub record Took (config : Config) (l : List Entry) (pair : ℕ) (half : Half) (a
   pub taken : Taken
   pub fits : FitsTaken (holder (box_history l (box_of config pair) number)) taken
   pub list_is : new ≡ l ++ take_entry config pair half number taken ∷ []
-  pub tells : Tells answer pair number half taken
+  pub tells : TellsOfTake answer pair number half taken
 
 -- a relay as the table records it: by its packet and its outcome
-abbrev pub relay_entry : Receipt → (number moment : ℕ) → Outcome → Entry
-relay_entry p number moment outcome =
-    record { place = p.holder.cell; number = number; moment = moment; board = 0; event = Cell (cells.Relay (told_relay p outcome)) }
+abbrev pub recorded_relay : Receipt → (number moment : ℕ) → Outcome → Entry
+recorded_relay p number moment outcome =
+    record { place = p.holder.cell; number = number; moment = moment; board = 0; event = Cell (cells.Relay (logged_relay p outcome)) }
 
 -- the packet was relayed once, with this outcome
-pub record Relayed (l : List Entry) (p : Receipt) (outcome : Outcome) (new : List Entry) : Type 0 where
+pub record RelayedOnce (l : List Entry) (p : Receipt) (outcome : Outcome) (new : List Entry) : Type 0 where
   pub number : ℕ
   pub moment : ℕ
-  pub list_is : new ≡ l ++ relay_entry p number moment outcome ∷ []
+  pub list_is : new ≡ l ++ recorded_relay p number moment outcome ∷ []
 
 -- what a relay of the packet does after this history of its cell, where its send comes to this outcome
 abbrev pub deed_after : Config → List CellEntry → Receipt → Outcome → Deed
@@ -59,12 +59,12 @@ pub record RelaysBy (config : Config) (l : List Entry) (p : Receipt) (now : ℕ)
   -- the list has no later entry of the cell
   pub at_front : IsAbove l p.holder.cell number
   pub history : List CellEntry
-  pub recorded : map told_entry history ≡ cell_history l p.holder.cell number
+  pub recorded : map logged_entry history ≡ cell_history l p.holder.cell number
   pub fitting : FittingCell config history
   pub outcome_is : outcome ≡ (deed_after config history p outcome).outcome
   pub bytes_are : AreSent outcome (deed_after config history p outcome).sending bytes
   -- at the moment that was handed in, or at the cell's last one, where that is later
-  pub list_is : new ≡ l ++ relay_entry p number (max now (last_moment history)) outcome ∷ []
+  pub list_is : new ≡ l ++ recorded_relay p number (max now (cell_last_moment history)) outcome ∷ []
 
 -- a receipt with the pair whose box it was taken from is one of the list
 abbrev pub IsIn : Config → List Entry → ℕ × Receipt → Type 0
@@ -75,14 +75,14 @@ abbrev pub KeepsReceipts : Config → List Entry → List Entry → Type 0
 KeepsReceipts config l new = (r : ℕ × Receipt) → IsIn config l r → IsIn config new r
 
 -- they are of different takes
-abbrev pub AreApart : ℕ × Receipt → ℕ × Receipt → Type 0
-AreApart r s = r.0 ≡ s.0 → r.1.take ≡ s.1.take → ⊥
+abbrev pub AreOfTwoTakes : ℕ × Receipt → ℕ × Receipt → Type 0
+AreOfTwoTakes r s = r.0 ≡ s.0 → r.1.take ≡ s.1.take → ⊥
 
 -- but for those of this take
 abbrev pub KeepsOthers : Config → List Entry → ℕ × Receipt → List Entry → Type 0
-KeepsOthers config l one new = (r : ℕ × Receipt) → AreApart one r → IsIn config l r → IsIn config new r
+KeepsOthers config l one new = (r : ℕ × Receipt) → AreOfTwoTakes one r → IsIn config l r → IsIn config new r
 
 -- a receipt that is returned is of another take than all receipts of this list
 abbrev pub IsNew : Config → List Entry → Received → Type 0
-IsNew config l (answer.Got r) = (s : ℕ × Receipt) → IsIn config l s → AreApart (pair_of r, packet_of r) s
+IsNew config l (answer.Got r) = (s : ℕ × Receipt) → IsIn config l s → AreOfTwoTakes (pair_of r, packet_of r) s
 IsNew config l _ = Unit {0}

@@ -6,7 +6,7 @@ use Rattle.call_cell.specs.declared.outcome.Outcome.{Outcome}
 use Rattle.call_cell.specs.Cells.{CellEvent, Relay}
 use Rattle.relay_core.specs.Entries.{Event, Cell, Box, Entry}
 use Rattle.media_lane.specs.declared.answers.Totals.{Totals}
-use Rattle.media_lane.specs.Visits.{is_sent, is_refused, is_lost}
+use Rattle.media_lane.specs.Visits.{has_sent, is_refused, is_lost}
 
 abbrev pub is_datagram : Taken → Bool
 is_datagram (box.Datagram holder source bytes) = true
@@ -26,9 +26,9 @@ gave (Box b) = gives b
 gave _ = false
 
 -- a relay with such an outcome
-abbrev pub relayed : (Outcome → Bool) → Event → Bool
-relayed p (Cell c) = relays p c
-relayed p _ = false
+abbrev pub is_relayed : (Outcome → Bool) → Event → Bool
+is_relayed p (Cell c) = relays p c
+is_relayed p _ = false
 
 -- up to the end of a counter's type
 abbrev pub capped : ℕ → ℕ
@@ -42,6 +42,6 @@ counted p l = count_by (λ e. p e.event) l
 -- their outcome
 pub record HasTotals (l : List Entry) (totals : Totals) : Type 0 where
   pub taken : totals.taken ≡ capped (counted gave l)
-  pub sent : totals.sent ≡ capped (counted (relayed is_sent) l)
-  pub refused : totals.refused ≡ capped (counted (relayed is_refused) l)
-  pub lost : totals.lost ≡ capped (counted (relayed is_lost) l)
+  pub sent : totals.sent ≡ capped (counted (is_relayed has_sent) l)
+  pub refused : totals.refused ≡ capped (counted (is_relayed is_refused) l)
+  pub lost : totals.lost ≡ capped (counted (is_relayed is_lost) l)

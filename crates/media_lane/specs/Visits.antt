@@ -1,7 +1,7 @@
 -- What a sweep adds to the list of a hand: visits, each with one take and the relay of what it gave.
 use Rattle.std.specs.Prelude.{◌≡◌, ◌-◌, ◌+◌, ◌^◌, ◌%◌, ℕ, Bool, true, false, ◌&&◌, ◌==◌, nat_lt, min, List, [], ◌∷◌, ◌++◌, filter, length, Option, Some, None, if◌then◌else◌}
 use Rattle.relay_outside.specs.declared.settings.Config.{Config}
-use Rattle.relay_outside.specs.Told.{WhereInRange}
+use Rattle.relay_outside.specs.DeviceLogs.{WhereInRange}
 use Rattle.rtp_packet.specs.declared.head.Half.{Half}
 use Rattle.turn_table.specs.declared.machine.Entry as table
 use Rattle.turn_table.specs.Histories as table_lists
@@ -14,18 +14,18 @@ use Rattle.call_cell.specs.declared.outcome.Outcome.{Outcome}
 use Rattle.call_cell.specs.declared.outcome.Outcome.TheVariants as outcomes
 use Rattle.call_cell.specs.Cells as cells
 use Rattle.relay_core.specs.Entries.{box_of}
-use Rattle.relay_core.specs.Made.{Made}
-use Rattle.relay_core.specs.Turning.{IsOfLane}
+use Rattle.relay_core.specs.Records.{Made}
+use Rattle.relay_core.specs.Turns.{IsOfLane}
 use Rattle.media_lane.specs.declared.answers.Totals.{Totals}
-use Rattle.media_lane.specs.Taking.{take_made}
-use Rattle.media_lane.specs.Relaying.{relay_made}
+use Rattle.media_lane.specs.Takes.{take_made}
+use Rattle.media_lane.specs.Relays.{relay_made}
 
 abbrev pub Row : Type 0
 Row = table.Entry Made (Unit {0})
 
 -- takes and relays
 abbrev pub AreOfLane : List Row → Type 0
-AreOfLane rows = (row : Row) → table_lists.In row rows → IsOfLane row.event.event
+AreOfLane rows = (row : Row) → table_lists.IsMemberOf row rows → IsOfLane row.event.event
 
 -- a relay: its number at its cell, the moment that it was handed, its moment, and its outcome
 pub record Passing : Type 0 where
@@ -78,15 +78,15 @@ abbrev pub is_of : ℕ → Half → Visit → Bool
 is_of pair half v = (v.pair == pair) && is_half v.half half
 
 -- how often a half of a pair was visited
-abbrev pub times : ℕ → Half → List Visit → ℕ
-times pair half visits = length (filter (is_of pair half) visits)
+abbrev pub visit_times : ℕ → Half → List Visit → ℕ
+visit_times pair half visits = length (filter (is_of pair half) visits)
 
 -- the pair is one of the configuration, and one of this lane's: its number is the lane's modulo the number of lanes
 abbrev pub is_own : Config → ℕ → ℕ → ℕ → Bool
 is_own config index lanes pair = nat_lt pair (pair_count config) && (pair % lanes == index)
 
-abbrev pub one_if : Bool → ℕ
-one_if own = if own then 1 else 0
+abbrev pub one_where : Bool → ℕ
+one_where own = if own then 1 else 0
 
 -- What came of them.
 
@@ -104,9 +104,9 @@ ends_so p None = false
 abbrev pub ends_with : (Outcome → Bool) → Visit → Bool
 ends_with p v = ends_so p v.passing
 
-abbrev pub is_sent : Outcome → Bool
-is_sent (outcomes.Sent port to len) = true
-is_sent _ = false
+abbrev pub has_sent : Outcome → Bool
+has_sent (outcomes.Sent port to len) = true
+has_sent _ = false
 
 abbrev pub is_refused : Outcome → Bool
 is_refused (outcomes.Refused cause) = true
@@ -123,7 +123,7 @@ count p visits = min (length (filter p visits)) (2 ^ 64 - 1)
 -- the totals are the counts: of takes that gave a datagram, and of relays by their outcome
 pub record AreTotals (visits : List Visit) (totals : Totals) : Type 0 where
   pub taken : totals.taken ≡ count has_packet visits
-  pub sent : totals.sent ≡ count (ends_with is_sent) visits
+  pub sent : totals.sent ≡ count (ends_with has_sent) visits
   pub refused : totals.refused ≡ count (ends_with is_refused) visits
   pub lost : totals.lost ≡ count (ends_with is_lost) visits
 
@@ -134,6 +134,6 @@ one_more n = min (n + 1) (2 ^ 64 - 1)
 -- a datagram more, whose relay had this outcome
 pub record CountsRelay (outcome : Outcome) (old new : Totals) : Type 0 where
   pub taken : new.taken ≡ one_more old.taken
-  pub sent : new.sent ≡ (if is_sent outcome then one_more old.sent else old.sent)
+  pub sent : new.sent ≡ (if has_sent outcome then one_more old.sent else old.sent)
   pub refused : new.refused ≡ (if is_refused outcome then one_more old.refused else old.refused)
   pub lost : new.lost ≡ (if is_lost outcome then one_more old.lost else old.lost)

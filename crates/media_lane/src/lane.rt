@@ -76,7 +76,7 @@ where
 
 impl<I: InEnd, O: OutEnd> Lane<I, O> {
     ghost use Rattle.std.specs.Prelude.{[]};
-    ghost use Rattle.media_lane.specs.Lanes.{hand_of, config_of, index_of, lanes_of, sent_of};
+    ghost use Rattle.media_lane.specs.Lanes.{hand_of, lane_config, index_of, lanes_of, sent_last};
 
     /// The lane with this number, of this many lanes, on a hand that holds no turn. The hand's table began with as many places as
     /// the parts of the configuration, each of its kind.
@@ -85,9 +85,9 @@ impl<I: InEnd, O: OutEnd> Lane<I, O> {
         requires idle { HasNoTurn hand }
         requires begins { HasLaneStarts config.now (starts hand) }
         ensures hand { hand_of result ≡ hand }
-        ensures config { config_of result ≡ config.now }
+        ensures config { lane_config result ≡ config.now }
         ensures number { (index_of result ≡ index) × (lanes_of result ≡ lanes) }
-        ensures nothing_sent { sent_of result ≡ [] }
+        ensures nothing_sent { sent_last result ≡ [] }
     {
         Lane {
             own: LaneHand::new(hand, index, lanes, config),
@@ -97,7 +97,7 @@ impl<I: InEnd, O: OutEnd> Lane<I, O> {
 
     /// The bytes that the last relay sent: none before the first, and where the last one's outcome was not `Sent`.
     pub fn sent_bytes(&self) -> &[u8]
-        ensures { result.now ≡ sent_of self.now }
+        ensures { result.now ≡ sent_last self.now }
     {
         self.rooms.sent()
     }

@@ -7,14 +7,14 @@ ghost use Rattle.turn_table.specs.Steps.{entry};
 ghost use Rattle.port_pool.specs.Boxes.{Taken};
 ghost use Rattle.call_cell.specs.declared.outcome.Outcome.{Outcome};
 ghost use Rattle.call_cell.specs.Cells.{Receipt};
-ghost use Rattle.relay_core.specs.Made.{list_of};
-ghost use Rattle.relay_core.specs.Turning.{made_by};
-ghost use Rattle.relay_core.specs.Joining.{IsLane};
+ghost use Rattle.relay_core.specs.Records.{list_of};
+ghost use Rattle.relay_core.specs.Turns.{made_by};
+ghost use Rattle.relay_core.specs.Joins.{IsLaneRows};
 ghost use Rattle.board_turns.specs.Between.{board_of, IsBetween};
 ghost use Rattle.media_lane.specs.Receipts.{KeepsList};
-ghost use Rattle.media_lane.specs.Relaying.{relay_made};
+ghost use Rattle.media_lane.specs.Relays.{relay_made};
 ghost use Rattle.media_lane.specs.Starts.{PartsBeginLanes};
-ghost use Rattle.media_lane.specs.Taking.{take_made};
+ghost use Rattle.media_lane.specs.Takes.{take_made};
 ghost use Rattle.media_lane.specs.Visits.{Row, Visit, AreOfLane, all_rows};
 
 use relay_core::Relay;
@@ -37,9 +37,9 @@ pub fn lanes_take_and_relay()
 /// Theorem (no run-time code): the list of a lane's hand, which begins with nothing, is that of a lane after each of the lane's calls, by what
 /// these calls promise. So it is when the hand is joined to the main one.
 pub fn lists_of_lanes_stay()
-    ensures nothing { (config : Config) (rows : List Row) → rows ≡ [] → IsLane config rows }
-    ensures more { (config : Config) (old rows new : List Row) → IsLane config old → new ≡ old ++ rows → AreOfLane rows → KeepsList config (list_of old) (list_of new)
-        → IsLane config new }
+    ensures nothing { (config : Config) (rows : List Row) → rows ≡ [] → IsLaneRows config rows }
+    ensures more { (config : Config) (old rows new : List Row) → IsLaneRows config old → new ≡ old ++ rows → AreOfLane rows → KeepsList config (list_of old) (list_of new)
+        → IsLaneRows config new }
 {}
 
 /// Theorem (no run-time code): where the main hand itself goes into a lane, it comes out of each of the lane's calls as it is between the

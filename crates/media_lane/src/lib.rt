@@ -5,17 +5,17 @@
 //! `receive` and `relay` do the same by a hand that may wait, and try the place's mark until it is free.
 //!
 //! Module `receipt` has what a take gave, `answers` what the calls return, `lane` the lane and its hand, `rooms` where its packets stand, which many lanes
-//! of one thread share, `receiving` and `relaying` its two steps, `sweeping` a round over its pairs, which may wait for turns and relays each datagram where
-//! it was taken, `looping` sweep after sweep until the lane is told to end, `puts` the way to put each kind of turn, `laws` what callers know.
+//! of one thread share, `take` and `relay` its two steps, `sweep` a round over its pairs, which may wait for turns and relays each datagram where
+//! it was taken, `sweep_loop` sweep after sweep until the lane is told to end, `puts` the way to put each kind of turn, `laws` what callers know.
 //!
 //! `specs/Starts.antt` says what the places of a lane's table begin as, `specs/Lanes.antt` what contracts see in a lane, `specs/Rooms.antt` in its rooms,
-//! `specs/Receipts.antt` what a receipt of a hand's list is, `specs/Busy.antt` what a busy call does, `specs/Taking.antt` and
-//! `specs/Relaying.antt` what a take and a relay add to the list of its hand, `specs/Visits.antt` and `specs/Sweeping.antt` what a
-//! sweep adds, `specs/Covering.antt` how far it has come, `specs/Looping.antt` what sweep after sweep adds,
-//! `specs/Gated.antt` at whose cells a gate was passed.
+//! `specs/Receipts.antt` what a receipt of a hand's list is, `specs/Busy.antt` what a busy call does, `specs/Takes.antt` and
+//! `specs/Relays.antt` what a take and a relay add to the list of its hand, `specs/Visits.antt` and `specs/Sweeps.antt` what a
+//! sweep adds, `specs/Progress.antt` how far it has come, `specs/SweepLoops.antt` what sweep after sweep adds,
+//! `specs/Gates.antt` at whose cells a gate was passed.
 //!
 //! Where no lane has a thread of its own, the main hand relays media between two turns of the board, by a lane of all pairs:
-//! `main_sweep` makes a sweep and adds what came of it to the totals; `main_receiving` takes once at one port, `main_relaying` relays one
+//! `main_sweep` makes a sweep and adds what came of it to the totals; `main_take` takes once at one port, `main_relay` relays one
 //! packet. `specs/Totals.antt` says which counts over a list of entries the totals are, `specs/Steps.antt` what one take and one relay
 //! add to the list, and which receipts it keeps.
 #![tactic(auto)]
@@ -23,24 +23,24 @@
 mod answers;
 mod lane;
 mod laws;
-mod looping;
-mod main_receiving;
-mod main_relaying;
+mod main_relay;
 mod main_sweep;
+mod main_take;
 mod puts;
 mod receipt;
-mod receiving;
-mod relaying;
+mod relay;
 mod rooms;
-mod sweeping;
+mod sweep;
+mod sweep_loop;
+mod take;
 
 pub use answers::{Received, Relayed, Totals};
 pub use lane::{Lane, LaneHand};
 pub use laws::{lanes_take_and_relay, lists_of_lanes_stay, main_hand_relays, parts_begin_lanes};
-pub use looping::lane_loop;
-pub use main_receiving::receive_between;
-pub use main_relaying::relay_between;
+pub use main_relay::relay_between;
 pub use main_sweep::sweep_between;
+pub use main_take::receive_between;
 pub use receipt::Receipt;
 pub use rooms::Rooms;
-pub use sweeping::Media;
+pub use sweep::Media;
+pub use sweep_loop::lane_loop;

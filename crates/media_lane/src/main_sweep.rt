@@ -1,10 +1,10 @@
 //! The main hand sweeps, and holds no turn before and after.
 ghost use Rattle.std.specs.Prelude.{◌≡◌};
 ghost use Rattle.turn_table.specs.Hands.{IsSameHand};
-ghost use Rattle.relay_core.specs.Turning.{made_by};
+ghost use Rattle.relay_core.specs.Turns.{made_by};
 ghost use Rattle.media_lane.specs.declared.answers.Totals.{Totals};
-ghost use Rattle.media_lane.specs.Sweeping.{Sweeps};
-ghost use Rattle.media_lane.specs.Gated.{GainsGated};
+ghost use Rattle.media_lane.specs.Sweeps.{Sweeps};
+ghost use Rattle.media_lane.specs.Gates.{GainsGated};
 ghost use Rattle.board_turns.specs.Between.{board_of, IsBetween};
 ghost use Rattle.media_lane.specs.Totals.{HasTotals};
 

@@ -2,11 +2,11 @@
 //! them; but for the bytes of a packet that was relayed, which are picked before.
 ghost use Rattle.std.specs.Prelude.{◌≡◌, ◌+◌};
 ghost use Rattle.turn_table.specs.Hands.{IsHandOf, HasTurn, IsSameHand, EndsTurn, tries, place_of, front_of, state_of, taken_of};
-ghost use Rattle.call_cell.specs.Standing.{receipt_of};
+ghost use Rattle.call_cell.specs.LegHistories.{receipt_of};
 ghost use Rattle.relay_core.specs.Steps.{Relates};
 ghost use Rattle.media_lane.specs.Rooms.{front_in};
-ghost use Rattle.media_lane.specs.Taking.{box_take_made};
-ghost use Rattle.media_lane.specs.Relaying.{relay_by};
+ghost use Rattle.media_lane.specs.Takes.{box_take_made};
+ghost use Rattle.media_lane.specs.Relays.{relay_by};
 
 use crate::rooms::Rooms;
 use call_cell::{Incoming, Outcome};
@@ -28,7 +28,7 @@ pub(crate) fn put_take<I: InEnd, O: OutEnd, X: Says>(
 ) -> u64
     requires table { IsHandOf turns.now hand.old }
     requires turn { HasTurn hand.old turn }
-    requires step { Relates I.told I.faults O.told O.faults (taken_of turn) (box_take_made half given.now (front_in rooms.now)) (state_of turn) }
+    requires step { Relates I.log I.faults O.log O.faults (taken_of turn) (box_take_made half given.now (front_in rooms.now)) (state_of turn) }
     requires said { X.made ≡ box_take_made half given.now (front_in rooms.now) }
     ensures same { IsSameHand hand.old hand.new }
     ensures tried { tries hand.new ≡ tries hand.old }
@@ -64,7 +64,7 @@ pub(crate) fn put_relay<I: InEnd, O: OutEnd, A: Arrived, X: Says>(
 ) -> u64
     requires table { IsHandOf turns.now hand.old }
     requires turn { HasTurn hand.old turn }
-    requires step { Relates I.told I.faults O.told O.faults (taken_of turn) (relay_by (taken_of turn) (receipt_of take packet.now A.bytes) now outcome) (state_of turn) }
+    requires step { Relates I.log I.faults O.log O.faults (taken_of turn) (relay_by (taken_of turn) (receipt_of take packet.now A.bytes) now outcome) (state_of turn) }
     requires said { X.made ≡ relay_by (taken_of turn) (receipt_of take packet.now A.bytes) now outcome }
     ensures same { IsSameHand hand.old hand.new }
     ensures tried { tries hand.new ≡ tries hand.old }

@@ -1,8 +1,8 @@
 //! Where the packets of a lane stand, from the take to the send.
 ghost use Rattle.std.specs.Prelude.{◌≡◌, ◌<◌, ◌≤◌, length, take};
 
-use crate::receiving::take_from;
-use crate::relaying::bytes_left;
+use crate::relay::bytes_left;
+use crate::take::take_from;
 use call_cell::{Incoming, Outcome, PacketBuffer};
 use port_pool::{BoxTake, TakeBuffer};
 use relay_core::Part;
@@ -33,17 +33,17 @@ fn put_front(room: &mut PacketBuffer, bytes: &[u8])
 
 impl Rooms {
     ghost use Rattle.std.specs.Prelude.{[]};
-    ghost use Rattle.call_cell.specs.Standing.{receipt_of};
-    ghost use Rattle.relay_core.specs.Standing.{IsCellPart};
+    ghost use Rattle.call_cell.specs.LegHistories.{receipt_of};
+    ghost use Rattle.relay_core.specs.PlaceHistories.{IsCellPart};
     ghost use Rattle.relay_core.specs.Steps.{Relates};
-    ghost use Rattle.media_lane.specs.Starts.{IsPair};
-    ghost use Rattle.media_lane.specs.Rooms.{front_in, last_in, sent_in};
-    ghost use Rattle.media_lane.specs.Taking.{box_take_made};
-    ghost use Rattle.media_lane.specs.Relaying.{RelaysPart, bytes_sent};
+    ghost use Rattle.media_lane.specs.Starts.{IsPairPart};
+    ghost use Rattle.media_lane.specs.Rooms.{front_in, last_in, sent_room};
+    ghost use Rattle.media_lane.specs.Takes.{box_take_made};
+    ghost use Rattle.media_lane.specs.Relays.{RelaysPart, bytes_sent};
 
     /// Two rooms, before the first relay.
     pub fn new() -> Rooms
-        ensures { sent_in result ≡ [] }
+        ensures { sent_room result ≡ [] }
     {
         Rooms {
             rooms: [[0; 2_064]; 2],
@@ -54,7 +54,7 @@ impl Rooms {
 
     /// What the last relay sent.
     pub(crate) fn sent(&self) -> &[u8]
-        ensures { result.now ≡ sent_in self.now }
+        ensures { result.now ≡ sent_room self.now }
     {
         &self.rooms[1 - self.free][..self.sent]
     }
@@ -73,7 +73,7 @@ impl Rooms {
     pub(crate) fn put(&mut self, bytes: &[u8])
         requires { length bytes.now ≤ 2000 }
         ensures front { take (length bytes.now) (front_in self.new) ≡ bytes.now }
-        ensures kept { sent_in self.new ≡ sent_in self.old }
+        ensures kept { sent_room self.new ≡ sent_room self.old }
     {
         put_front(&mut self.rooms[self.free], bytes);
     }
@@ -84,9 +84,9 @@ impl Rooms {
         part: &mut Part<I, O>,
         half: Half,
     ) -> BoxTake
-        requires { IsPair part.old }
-        ensures step { Relates I.told I.faults O.told O.faults part.old (box_take_made half result (front_in self.new)) part.new }
-        ensures kept { sent_in self.new ≡ sent_in self.old }
+        requires { IsPairPart part.old }
+        ensures step { Relates I.log I.faults O.log O.faults part.old (box_take_made half result (front_in self.new)) part.new }
+        ensures kept { sent_room self.new ≡ sent_room self.old }
     {
         let room = &mut self.rooms[self.free];
         match room.first_chunk_mut() {
@@ -106,8 +106,8 @@ impl Rooms {
     ) -> Outcome
         requires cell { IsCellPart part.old }
         requires short { packet.now.len ≤ 2000 }
-        ensures step { RelaysPart O.told O.faults (receipt_of take packet.now (front_in self.old)) now part.old (last_in self.new) result part.new }
-        ensures sent { sent_in self.new ≡ bytes_sent result (last_in self.new) }
+        ensures step { RelaysPart O.log O.faults (receipt_of take packet.now (front_in self.old)) now part.old (last_in self.new) result part.new }
+        ensures sent { sent_room self.new ≡ bytes_sent result (last_in self.new) }
     {
         let room = &mut self.rooms[self.free];
         let outcome = match part {

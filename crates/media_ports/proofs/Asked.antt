@@ -6,11 +6,11 @@ use Rattle.relay_outside.specs.declared.address.Addr.{Addr}
 use Rattle.relay_outside.specs.declared.settings.Config.{Config}
 use Rattle.relay_outside.specs.declared.ports.PortCall.{PortCall}
 use Rattle.relay_outside.specs.declared.ports.PortCall.TheVariants.{Open, Close}
-use Rattle.relay_outside.specs.Told.{Gained}
+use Rattle.relay_outside.specs.DeviceLogs.{Gained}
 use Rattle.relay_outside.proofs.Telling.{gained_both, gained_none}
 use Rattle.port_pool.specs.declared.pairs.Lease.{Lease}
-use Rattle.media_ports.specs.Addresses.{port_at, addresses_of, pairs_of, HavePorts}
-use Rattle.media_ports.specs.Asked.{opening_answer, opening_answers, is_opening, opening_calls, pair_addresses, OpensWith, OpensNone, OpensThese, OpensAt}
+use Rattle.media_ports.specs.Addresses.{port_at, addresses_of, pairs_of_leases, HavePorts}
+use Rattle.media_ports.specs.Openings.{opening_answer, opening_answers, is_opening, opening_calls, pair_addresses, OpensWith, NoneOpened, OpensThese, OpensAt}
 use Rattle.media_ports.specs.Calls.{openings, ClosesUncalled}
 use Rattle.media_ports.proofs.Leased.{length-addresses_of}
 
@@ -23,17 +23,17 @@ opens_with_both some more xs ys these those =
     opening_answers-append xs ys ∙ ap (λ (bs : List Bool). bs ++ opening_answers ys) these ∙ ap (λ (bs : List Bool). some ++ bs) those
 
 -- openings, and then calls that open none
-pub opens_with_closed : (answers : List Bool) (xs ys : List PortCall) → OpensWith answers xs → OpensNone ys → OpensWith answers (xs ++ ys)
+pub opens_with_closed : (answers : List Bool) (xs ys : List PortCall) → OpensWith answers xs → NoneOpened ys → OpensWith answers (xs ++ ys)
 opens_with_closed answers xs ys these none = opens_with_both answers [] xs ys these none ∙ append-nil answers
 
 -- no call opens none
-pub gained_no_opening : (told : Option (List PortCall)) → Gained told told OpensNone
-gained_no_opening told = gained_none told OpensNone refl
+pub gained_no_opening : (log : Option (List PortCall)) → Gained log log NoneOpened
+gained_no_opening log = gained_none log NoneOpened refl
 
 -- neither the former calls nor the latter open any
-pub gained_no_openings : (first second third : Option (List PortCall)) → Gained first second OpensNone → Gained second third OpensNone → Gained first third OpensNone
+pub gained_no_openings : (first second third : Option (List PortCall)) → Gained first second NoneOpened → Gained second third NoneOpened → Gained first third NoneOpened
 gained_no_openings first second third before after =
-    gained_both first second third OpensNone OpensNone OpensNone (λ xs ys these those. opens_with_closed [] xs ys these those) before after
+    gained_both first second third NoneOpened NoneOpened NoneOpened (λ xs ys these those. opens_with_closed [] xs ys these those) before after
 
 -- the results of openings are those that they were given, where there is an address for each
 pub openings_answered : (ats : List Addr) (answers : List Bool) → length answers ≤ length ats → OpensWith answers (openings ats answers)
@@ -43,7 +43,7 @@ openings_answered (at ∷ ats) [] few = refl
 openings_answered (at ∷ ats) (done ∷ answers) few = ap (λ (bs : List Bool). done ∷ bs) (openings_answered ats answers (omega (arith, few)))
 
 -- closings open none
-pub uncalled_opens_none : (ats : List Addr) (calls : List PortCall) → AllZip ClosesUncalled ats calls → OpensNone calls
+pub uncalled_opens_none : (ats : List Addr) (calls : List PortCall) → AllZip ClosesUncalled ats calls → NoneOpened calls
 uncalled_opens_none [] [] closes = refl
 uncalled_opens_none [] (call ∷ calls) closes = absurd closes
 uncalled_opens_none (at ∷ ats) [] closes = absurd closes
@@ -61,13 +61,13 @@ opens_these_both some more xs ys these those =
     opening_calls-append xs ys ∙ ap (λ (calls : List PortCall). calls ++ opening_calls ys) these ∙ ap (λ (calls : List PortCall). some ++ calls) those
 
 -- calls without a result of an opening have no opening
-none_opened : (calls : List PortCall) → OpensNone calls → opening_calls calls ≡ []
+none_opened : (calls : List PortCall) → NoneOpened calls → opening_calls calls ≡ []
 none_opened [] none = refl
 none_opened (Open at done ∷ calls) none = absurd (let e = none in cc)
 none_opened (Close at taken sent ∷ calls) none = none_opened calls none
 
 -- openings, and then calls that open none
-opens_these_closed : (opens xs ys : List PortCall) → OpensThese opens xs → OpensNone ys → OpensThese opens (xs ++ ys)
+opens_these_closed : (opens xs ys : List PortCall) → OpensThese opens xs → NoneOpened ys → OpensThese opens (xs ++ ys)
 opens_these_closed opens xs ys these none = opens_these_both opens [] xs ys these (none_opened ys none) ∙ append-nil opens
 
 openings_kept : (ats : List Addr) (answers : List Bool) → opening_calls (openings ats answers) ≡ openings ats answers
@@ -95,7 +95,7 @@ pair_addresses_split config (suc count) (pair ∷ pairs) =
     ap (λ (ats : List Addr). pair_addresses config (pair ∷ []) ++ ats) (pair_addresses_split config count pairs)
 
 -- the ports of leases are those of their pairs
-leased_addresses : (config : Config) (leases : List Lease) → HavePorts config leases → addresses_of config.interface leases ≡ pair_addresses config (pairs_of leases)
+leased_addresses : (config : Config) (leases : List Lease) → HavePorts config leases → addresses_of config.interface leases ≡ pair_addresses config (pairs_of_leases leases)
 leased_addresses config [] have = refl
 leased_addresses config (lease ∷ leases) have =
     ap (λ (port : ℕ). port_at config.interface port ∷ port_at config.interface (port + 1) ∷ addresses_of config.interface leases) have.0
@@ -103,7 +103,7 @@ leased_addresses config (lease ∷ leases) have =
 
 -- openings of the ports of leases whose pairs are in front, and then calls that open none
 pub opens_front : (config : Config) (pairs : List ℕ) (count : ℕ) (leases : List Lease) (answers : List Bool) (closes calls : List PortCall) → HavePorts config leases →
-    pairs_of leases ≡ take count pairs → length answers ≤ 2 * length leases → calls ≡ openings (addresses_of config.interface leases) answers ++ closes → OpensNone closes →
+    pairs_of_leases leases ≡ take count pairs → length answers ≤ 2 * length leases → calls ≡ openings (addresses_of config.interface leases) answers ++ closes → NoneOpened closes →
     OpensAt config pairs answers calls
 opens_front config pairs count leases answers closes calls have front few opens none =
     let ats = addresses_of config.interface leases in
@@ -116,14 +116,14 @@ opens_front config pairs count leases answers closes calls have front few opens 
     }
 
 -- calls that open none
-pub opens_none_at : (config : Config) (pairs : List ℕ) (calls : List PortCall) → OpensNone calls → OpensAt config pairs [] calls
+pub opens_none_at : (config : Config) (pairs : List ℕ) (calls : List PortCall) → NoneOpened calls → OpensAt config pairs [] calls
 opens_none_at config pairs calls none = record { answered = none; in_order = none_opened calls none ∙ sym (openings_none (pair_addresses config pairs)) }
 
 -- the former calls open these ports, the latter open none
 pub gained_opens_alone : (config : Config) (pairs : List ℕ) (answers : List Bool) (first second third : Option (List PortCall)) → Gained first second (OpensAt config pairs answers) →
-    Gained second third OpensNone → Gained first third (OpensAt config pairs answers)
+    Gained second third NoneOpened → Gained first third (OpensAt config pairs answers)
 gained_opens_alone config pairs answers first second third before after =
-    gained_both first second third (OpensAt config pairs answers) OpensNone (OpensAt config pairs answers)
+    gained_both first second third (OpensAt config pairs answers) NoneOpened (OpensAt config pairs answers)
     (λ xs ys these none. record {
       answered = opens_with_closed answers xs ys these.answered none;
       in_order = opens_these_closed (openings (pair_addresses config pairs) answers) xs ys these.in_order none;

@@ -10,13 +10,13 @@ use Rattle.relay_outside.specs.declared.ports.PortCall.{PortCall}
 use Rattle.relay_outside.specs.declared.ports.PortCall.TheVariants.{Open, Close}
 use Rattle.relay_outside.specs.declared.settings.Config.{Config}
 use Rattle.relay_outside.specs.Ports.{joined, same_addr, taken_at, sent_at}
-use Rattle.relay_outside.specs.Told.{StartsEmpty}
+use Rattle.relay_outside.specs.DeviceLogs.{StartsEmpty}
 use Rattle.rtp_packet.specs.declared.head.Half.{Half}
 use Rattle.port_pool.specs.Ports.{pair_count}
 use Rattle.port_pool.specs.declared.pairs.Lease.{Lease}
-use Rattle.media_ports.specs.Addresses.{port_address, addresses_of, pairs_of, AreLeased}
+use Rattle.media_ports.specs.Addresses.{port_address, addresses_of, pairs_of_leases, AreLeased}
 use Rattle.media_ports.specs.Calls.{openings, OpensPairs, OpensUpTo, ClosesUncalled}
-use Rattle.media_ports.specs.Given.{Agrees, IsOfPair, GivesBackUncalled}
+use Rattle.media_ports.specs.ReturnedEnds.{SameWhereTold, IsOfPair, GivesBackUncalled}
 use Rattle.media_ports.proofs.UpTo.{in_first}
 use Rattle.media_ports.proofs.Held.{address_is, below}
 
@@ -28,7 +28,7 @@ joined_again (Some xs) None third = refl
 joined_again (Some xs) (Some ys) None = refl
 joined_again (Some xs) (Some ys) (Some zs) = ap Some (append_assoc xs ys zs)
 
-pub joined_to_nothing : {C : Type 0} (told : Option (List C)) → joined (Some []) told ≡ told
+pub joined_to_nothing : {C : Type 0} (log : Option (List C)) → joined (Some []) log ≡ log
 joined_to_nothing None = refl
 joined_to_nothing (Some calls) = refl
 
@@ -51,17 +51,17 @@ sent_append (Close other taken sent ∷ xs) ys at =
     first_joined (same_addr other at) sent (sent_at xs at) (sent_at ys at) (sent_at (xs ++ ys) at) (sent_append xs ys at)
 
 -- what agrees with one list and then with another agrees with both joined
-pub agrees_both : {C : Type 0} (told more shown also : Option (List C)) → Agrees told shown → Agrees more also → Agrees (joined told more) (joined shown also)
+pub agrees_both : {C : Type 0} (log more shown also : Option (List C)) → SameWhereTold log shown → SameWhereTold more also → SameWhereTold (joined log more) (joined shown also)
 agrees_both None more shown also these those = tt
 agrees_both (Some xs) None shown also these those = tt
 agrees_both (Some xs) (Some ys) shown also these those = ap (λ (o : Option (List _)). joined o also) these ∙ ap (joined (Some xs)) those
 
 -- Ends that were not called.
 
-empty_by : {C : Type 0} (b : Bool) (told : Option (List C)) → StartsEmpty told → Agrees (cond b (joined told (Some [])) (Some [])) (Some [])
+empty_by : {C : Type 0} (b : Bool) (log : Option (List C)) → StartsEmpty log → SameWhereTold (cond b (joined log (Some [])) (Some [])) (Some [])
 empty_by true None empty = tt
 empty_by true (Some calls) empty = ap Some (sym empty ∙ sym (append-nil calls))
-empty_by false told empty = refl
+empty_by false log empty = refl
 
 -- no call
 pub uncalled_none : (config : Config) → GivesBackUncalled config []
@@ -71,9 +71,9 @@ uncalled_none config = record { of_pairs = All-nil (IsOfPair config); takes = λ
 pub uncalled_both : (config : Config) (xs ys : List PortCall) → GivesBackUncalled config xs → GivesBackUncalled config ys → GivesBackUncalled config (xs ++ ys)
 uncalled_both config xs ys these those = record {
   of_pairs = All-append (IsOfPair config) xs ys these.of_pairs those.of_pairs;
-  takes = λ at. subst (λ (told : Option (List InCall)). Agrees told (Some [])) (sym (taken_append xs ys at))
+  takes = λ at. subst (λ (log : Option (List InCall)). SameWhereTold log (Some [])) (sym (taken_append xs ys at))
       (agrees_both (taken_at xs at) (taken_at ys at) (Some []) (Some []) (these.takes at) (those.takes at));
-  sends = λ at. subst (λ (told : Option (List OutCall)). Agrees told (Some [])) (sym (sent_append xs ys at))
+  sends = λ at. subst (λ (log : Option (List OutCall)). SameWhereTold log (Some [])) (sym (sent_append xs ys at))
       (agrees_both (sent_at xs at) (sent_at ys at) (Some []) (Some []) (these.sends at) (those.sends at));
 }
 
@@ -89,7 +89,7 @@ AreOfPairs config ats = (at : Addr) → In at ats → IsPorts config at
 pub leased_of_pairs : (config : Config) (leases : List Lease) → AreLeased config leases → AreOfPairs config (addresses_of config.interface leases)
 leased_of_pairs config leases leased at among =
     let found = address_is config leases at leased.ports among in
-    (found.0, found.1, below (pair_count config) (pairs_of leases) found.0 leased.differ found.3, found.2)
+    (found.0, found.1, below (pair_count config) (pairs_of_leases leases) found.0 leased.differ found.3, found.2)
 
 one_opened : (config : Config) (at : Addr) (done : Bool) → IsPorts config at → GivesBackUncalled config (Open at done ∷ [])
 one_opened config at done is = record {

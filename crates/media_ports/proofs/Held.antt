@@ -5,17 +5,17 @@ use Rattle.relay_outside.specs.declared.address.Addr.{Addr}
 use Rattle.relay_outside.specs.declared.settings.Config.{Config}
 use Rattle.relay_outside.specs.declared.ports.PortCall.{PortCall}
 use Rattle.relay_outside.specs.Ports.{IsOpen}
-use Rattle.relay_outside.specs.Told.{Gained}
+use Rattle.relay_outside.specs.DeviceLogs.{Gained}
 use Rattle.rtp_packet.specs.declared.head.Half.{Half}
 use Rattle.rtp_packet.specs.declared.head.Half.TheVariants.{Rtp, Rtcp}
 use Rattle.histories.specs.Words.{In, here, there, has}
 use Rattle.port_pool.specs.declared.pairs.Lease.{Lease}
 use Rattle.port_pool.specs.Ports.{pair_count, pair_port, half_port}
 use Rattle.port_pool.specs.Pools.{AreFree}
-use Rattle.media_ports.specs.Addresses.{port_at, port_address, ports_of, addresses_of, ArePorts, pairs_of, HavePorts, AreLeased}
+use Rattle.media_ports.specs.Addresses.{port_at, port_address, ports_of, addresses_of, ArePorts, pairs_of_leases, HavePorts, AreLeased}
 use Rattle.media_ports.specs.Calls.{OpensPairs, Closes, ClosesPair, OpensUpTo, NoneOpen, AllOpen, SameOpen, LeavesOpen}
-use Rattle.media_ports.specs.Ends.{EndsTold}
-use Rattle.media_ports.specs.Held.{OpensHeld, TellsHeld, AreOthers, HasBoth, HasWithout}
+use Rattle.media_ports.specs.Ends.{EndLogs}
+use Rattle.media_ports.specs.OpenPorts.{OpensHeld, LogsHeld, AreOthers, HasBoth, HasWithout}
 use Rattle.media_ports.proofs.Telling.{told_after}
 use Rattle.media_ports.proofs.Opened.{none_at_first}
 use Rattle.media_ports.proofs.Closed.{OpensAll, open_among, opens_each, still_open, leaves_open, none_from, not_open}
@@ -35,7 +35,7 @@ lease_fits config lease most within is = let fits = pair_fits config lease.pair 
 
 -- the port is one of a leased pair
 abbrev IsOfPair : Config → List Lease → ℕ → Type 0
-IsOfPair config leases port = (pair : ℕ) × (has (pairs_of leases) pair ≡ true) × ((port ≡ pair_port config pair) ⊎ (port ≡ pair_port config pair + 1))
+IsOfPair config leases port = (pair : ℕ) × (has (pairs_of_leases leases) pair ≡ true) × ((port ≡ pair_port config pair) ⊎ (port ≡ pair_port config pair + 1))
 
 -- a port among those of leases is one of a leased pair
 port_among : (config : Config) (leases : List Lease) (port : ℕ) → HavePorts config leases → has (ports_of leases) port ≡ true → IsOfPair config leases port
@@ -45,9 +45,9 @@ port_among config (lease ∷ leases) port have among =
   where
     by : (rtp rtcp : Bool) → eqb lease.rtp_port port ≡ rtp → eqb (lease.rtp_port + 1) port ≡ rtcp → cond rtp true (cond rtcp true (has (ports_of leases) port)) ≡ true →
         (has (ports_of leases) port ≡ true → IsOfPair config leases port) → IsOfPair config (lease ∷ leases) port
-    by true rtcp is also h more = (lease.pair, has_first (pairs_of leases) lease.pair lease.pair refl, inl (sym (eqb-true lease.rtp_port port is) ∙ have.0))
-    by false true is also h more = (lease.pair, has_first (pairs_of leases) lease.pair lease.pair refl, inr (sym (eqb-true (lease.rtp_port + 1) port also) ∙ ap (λ n. n + 1) have.0))
-    by false false is also h more = let rest = more h in (rest.0, has_later (lease.pair == rest.0) (has (pairs_of leases) rest.0) rest.1, rest.2)
+    by true rtcp is also h more = (lease.pair, has_first (pairs_of_leases leases) lease.pair lease.pair refl, inl (sym (eqb-true lease.rtp_port port is) ∙ have.0))
+    by false true is also h more = (lease.pair, has_first (pairs_of_leases leases) lease.pair lease.pair refl, inr (sym (eqb-true (lease.rtp_port + 1) port also) ∙ ap (λ n. n + 1) have.0))
+    by false false is also h more = let rest = more h in (rest.0, has_later (lease.pair == rest.0) (has (pairs_of_leases leases) rest.0) rest.1, rest.2)
 
 -- where a number does not stand
 absent : (b : Bool) → (b ≡ true → ⊥) → b ≡ false
@@ -73,7 +73,7 @@ leased_ports config (lease ∷ leases) most leased =
     λ port is. absent (has (ports_of leases) port) (λ among.
     let found = port_among config leases port leased.ports.1 among in
     let same = same_pair config lease.pair found.0 port is found.2 in
-    twice (has (pairs_of leases) lease.pair) (ap (has (pairs_of leases)) same ∙ found.1) leased.differ.1) in (
+    twice (has (pairs_of_leases leases) lease.pair) (ap (has (pairs_of_leases leases)) same ∙ found.1) leased.differ.1) in (
       omega (arith, fits),
       rtp_once (lease.rtp_port + 1 == lease.rtp_port) refl (free_of lease.rtp_port (inl leased.ports.0)),
       (fits, free_of (lease.rtp_port + 1) (inr (ap (λ n. n + 1) leased.ports.0)), leased_ports config leases most (record { differ = leased.differ.2; ports = leased.ports.1 })),
@@ -90,21 +90,21 @@ half_of config pair Rtp = inl refl
 half_of config pair Rtcp = inr refl
 
 -- the address of a pair stands among those of leases where the pair is leased
-pub pair_among : (config : Config) (leases : List Lease) (pair : ℕ) (half : Half) → HavePorts config leases → In (port_address config pair half) (addresses_of config.interface leases) → has (pairs_of leases) pair ≡ true
+pub pair_among : (config : Config) (leases : List Lease) (pair : ℕ) (half : Half) → HavePorts config leases → In (port_address config pair half) (addresses_of config.interface leases) → has (pairs_of_leases leases) pair ≡ true
 pair_among config leases pair half have among =
     let found = port_among config leases (half_port config pair half) have (among_ports config.interface (ports_of leases) (half_port config pair half) among) in
-    ap (has (pairs_of leases)) (same_pair config pair found.0 (half_port config pair half) (half_of config pair half) found.2) ∙ found.1
+    ap (has (pairs_of_leases leases)) (same_pair config pair found.0 (half_port config pair half) (half_of config pair half) found.2) ∙ found.1
 
 first_half : (config : Config) (lease : Lease) (leases : List Lease) (half : Half) → lease.rtp_port ≡ pair_port config lease.pair → In (port_address config lease.pair half) (addresses_of config.interface (lease ∷ leases))
 first_half config lease leases Rtp is = here (ap (port_at config.interface) (sym is))
 first_half config lease leases Rtcp is = there (here (ap (λ n. port_at config.interface (n + 1)) (sym is)))
 
-pub address_among : (config : Config) (leases : List Lease) (pair : ℕ) (half : Half) → HavePorts config leases → has (pairs_of leases) pair ≡ true → In (port_address config pair half) (addresses_of config.interface leases)
+pub address_among : (config : Config) (leases : List Lease) (pair : ℕ) (half : Half) → HavePorts config leases → has (pairs_of_leases leases) pair ≡ true → In (port_address config pair half) (addresses_of config.interface leases)
 address_among config [] pair half have h = absurd (let f = h in cc)
 address_among config (lease ∷ leases) pair half have h = by (lease.pair == pair) refl h (λ more. address_among config leases pair half have.1 more)
   where
-    by : (b : Bool) → eqb lease.pair pair ≡ b → cond b true (has (pairs_of leases) pair) ≡ true →
-        (has (pairs_of leases) pair ≡ true → In (port_address config pair half) (addresses_of config.interface leases)) → In (port_address config pair half) (addresses_of config.interface (lease ∷ leases))
+    by : (b : Bool) → eqb lease.pair pair ≡ b → cond b true (has (pairs_of_leases leases) pair) ≡ true →
+        (has (pairs_of_leases leases) pair ≡ true → In (port_address config pair half) (addresses_of config.interface leases)) → In (port_address config pair half) (addresses_of config.interface (lease ∷ leases))
     by true is h more = subst (λ (p : ℕ). In (port_address config p half) (addresses_of config.interface (lease ∷ leases))) (eqb-true lease.pair pair is) (first_half config lease leases half have.0)
     by false is h more = there (there (more h))
 
@@ -124,23 +124,23 @@ below count (q ∷ pairs) p free h = by (q == p) refl h (λ more. below count pa
 
 -- each address of leases is that of a leased pair's half
 pub address_is : (config : Config) (leases : List Lease) (at : Addr) → HavePorts config leases → In at (addresses_of config.interface leases) →
-    (pair : ℕ) × (half : Half) × (at ≡ port_address config pair half) × (has (pairs_of leases) pair ≡ true)
+    (pair : ℕ) × (half : Half) × (at ≡ port_address config pair half) × (has (pairs_of_leases leases) pair ≡ true)
 address_is config [] at have among = elim among [ ]
 address_is config (lease ∷ leases) at have (here same) =
-    (lease.pair, Rtp, same ∙ ap (port_at config.interface) have.0, has_first (pairs_of leases) lease.pair lease.pair refl)
+    (lease.pair, Rtp, same ∙ ap (port_at config.interface) have.0, has_first (pairs_of_leases leases) lease.pair lease.pair refl)
 address_is config (lease ∷ leases) at have (there (here same)) =
-    (lease.pair, Rtcp, same ∙ ap (λ n. port_at config.interface (n + 1)) have.0, has_first (pairs_of leases) lease.pair lease.pair refl)
+    (lease.pair, Rtcp, same ∙ ap (λ n. port_at config.interface (n + 1)) have.0, has_first (pairs_of_leases leases) lease.pair lease.pair refl)
 address_is config (lease ∷ leases) at have (there (there more)) =
     let found = address_is config leases at have.1 more in
-    (found.0, found.1, found.2, has_later (lease.pair == found.0) (has (pairs_of leases) found.0) found.3)
+    (found.0, found.1, found.2, has_later (lease.pair == found.0) (has (pairs_of_leases leases) found.0) found.3)
 
 -- the ports of pairs that are not held are closed
 pub others_closed : (config : Config) (calls : List PortCall) (pairs : List ℕ) (leases : List Lease) → OpensHeld config calls pairs → AreLeased config leases →
-    AreOthers pairs (pairs_of leases) → NoneOpen (addresses_of config.interface leases) calls
+    AreOthers pairs (pairs_of_leases leases) → NoneOpen (addresses_of config.interface leases) calls
 others_closed config calls pairs leases held leased others =
     none_from (addresses_of config.interface leases) calls (λ at among o.
     let found = address_is config leases at leased.ports among in
-    let within = below (pair_count config) (pairs_of leases) found.0 leased.differ found.3 in
+    let within = below (pair_count config) (pairs_of_leases leases) found.0 leased.differ found.3 in
     twice (has pairs found.0) ((held found.0 found.1 within).0 (subst (IsOpen calls) found.2 o)) (others found.0 found.3))
 
 -- those of a pair that is held are open
@@ -165,15 +165,15 @@ or_right false b h = h
 
 -- after openings
 pub held_opened : (config : Config) (calls more : List PortCall) (pairs now : List ℕ) (leases : List Lease) → OpensHeld config calls pairs → AreLeased config leases →
-    OpensAll (addresses_of config.interface leases) more → HasBoth pairs (pairs_of leases) now → OpensHeld config (calls ++ more) now
+    OpensAll (addresses_of config.interface leases) more → HasBoth pairs (pairs_of_leases leases) now → OpensHeld config (calls ++ more) now
 held_opened config calls more pairs now leases held leased opens both pair half within =
     let ats = addresses_of config.interface leases in
     let at = port_address config pair half in (
       λ o. both pair ∙ (elim (open_among ats (replicate (length ats) true) calls at (subst (λ (these : List PortCall). IsOpen (calls ++ these) at) opens o)) [
-        | inl was ↦ or_right (has (pairs_of leases) pair) (has pairs pair) ((held pair half within).0 was)
-        | inr among ↦ or_left (has (pairs_of leases) pair) (has pairs pair) (pair_among config leases pair half leased.ports among)
+        | inl was ↦ or_right (has (pairs_of_leases leases) pair) (has pairs pair) ((held pair half within).0 was)
+        | inr among ↦ or_left (has (pairs_of_leases leases) pair) (has pairs pair) (pair_among config leases pair half leased.ports among)
       ]),
-      λ h. subst (λ (these : List PortCall). IsOpen (calls ++ these) at) (sym opens) (elim (either (has (pairs_of leases) pair) (has pairs pair) (sym (both pair) ∙ h)) [
+      λ h. subst (λ (these : List PortCall). IsOpen (calls ++ these) at) (sym opens) (elim (either (has (pairs_of_leases leases) pair) (has pairs pair) (sym (both pair) ∙ h)) [
         | inl new ↦ opens_each ats calls at (address_among config leases pair half leased.ports new)
         | inr old ↦ still_open ats (replicate (length ats) true) calls at ((held pair half within).1 old)
       ]),
@@ -210,21 +210,21 @@ held_closed config before now pairs left lease held is leaves without pair half 
 
 -- The same of what is told.
 
-pub told_opened : (config : Config) (old new : Option (List PortCall)) (pairs now : List ℕ) (leases : List Lease) → TellsHeld config old pairs → AreLeased config leases →
-    Gained old new (OpensPairs config.interface leases) → HasBoth pairs (pairs_of leases) now → TellsHeld config new now
+pub told_opened : (config : Config) (old new : Option (List PortCall)) (pairs now : List ℕ) (leases : List Lease) → LogsHeld config old pairs → AreLeased config leases →
+    Gained old new (OpensPairs config.interface leases) → HasBoth pairs (pairs_of_leases leases) now → LogsHeld config new now
 told_opened config old new pairs now leases held leased opens both =
     told_after old new (OpensPairs config.interface leases) (λ calls. OpensHeld config calls pairs) (λ calls. OpensHeld config calls now)
     (λ calls more h these. held_opened config calls more pairs now leases h leased (all_from_pairs config.interface leases more these) both) held opens
 
-pub told_undone : (config : Config) (old new : Option (List PortCall)) (pairs : List ℕ) (leases : List Lease) (opened : ℕ) → TellsHeld config old pairs → AreLeased config leases →
-    AreOthers pairs (pairs_of leases) → Gained old new (OpensUpTo (addresses_of config.interface leases) opened) → TellsHeld config new pairs
+pub told_undone : (config : Config) (old new : Option (List PortCall)) (pairs : List ℕ) (leases : List Lease) (opened : ℕ) → LogsHeld config old pairs → AreLeased config leases →
+    AreOthers pairs (pairs_of_leases leases) → Gained old new (OpensUpTo (addresses_of config.interface leases) opened) → LogsHeld config new pairs
 told_undone config old new pairs leases opened held leased others undoes =
     let ats = addresses_of config.interface leases in
     told_after old new (OpensUpTo ats opened) (λ calls. OpensHeld config calls pairs) (λ calls. OpensHeld config calls pairs)
     (λ calls more h these. held_same config calls (calls ++ more) pairs h (same_open ats opened calls more (others_closed config calls pairs leases h leased others) these)) held undoes
 
-pub told_closed : (config : Config) (old new : Option (List PortCall)) (pairs now : List ℕ) (lease : Lease) (ends : EndsTold) → TellsHeld config old pairs →
-    lease.rtp_port ≡ pair_port config lease.pair → Gained old new (ClosesPair config.interface lease ends) → HasWithout pairs lease.pair now → TellsHeld config new now
+pub told_closed : (config : Config) (old new : Option (List PortCall)) (pairs now : List ℕ) (lease : Lease) (ends : EndLogs) → LogsHeld config old pairs →
+    lease.rtp_port ≡ pair_port config lease.pair → Gained old new (ClosesPair config.interface lease ends) → HasWithout pairs lease.pair now → LogsHeld config new now
 told_closed config old new pairs now lease ends held is closes without =
     let ats = addresses_of config.interface (lease ∷ []) in
     told_after old new (ClosesPair config.interface lease ends) (λ calls. OpensHeld config calls pairs) (λ calls. OpensHeld config calls now)

@@ -12,15 +12,15 @@ use Rattle.relay_outside.specs.declared.ports.OutCall.{OutCall}
 use Rattle.relay_outside.specs.declared.ports.PortCall.{PortCall}
 use Rattle.relay_outside.specs.declared.ports.PortCall.TheVariants.{Open}
 use Rattle.relay_outside.specs.Ports.{IsOpen}
-use Rattle.relay_outside.specs.Told.{EndTold, Gained, WhereTold}
+use Rattle.relay_outside.specs.DeviceLogs.{EndLog, Gained, WhereLogged}
 use Rattle.relay_outside.proofs.Telling.{gained_both}
 use Rattle.histories.specs.Words.{In, here, there}
 use Rattle.port_pool.specs.declared.pairs.Lease.{Lease}
 use Rattle.media_ports.specs.Addresses.{port_at, ports_of, addresses_of, ArePorts}
 use Rattle.media_ports.specs.Calls.{openings, OpensPairs, OpensHalf, OpensUpTo, ClosesUncalled, NoneOpen, AllOpen, SameOpen}
-use Rattle.media_ports.specs.declared.opening.HalfOpened.{HalfOpened}
+use Rattle.media_ports.specs.declared.opened_ports.HalfOpened.{HalfOpened}
 use Rattle.media_ports.specs.declared.ends.PairEnds.{PairEnds}
-use Rattle.media_ports.specs.Ends.{EndsList, with_ends, half_count, IsOpened, AreOpened, AreOfLease}
+use Rattle.media_ports.specs.Ends.{EndsList, with_ends, half_count, IsPairOpened, ArePairsOpened, AreOfLease}
 use Rattle.media_ports.proofs.Telling.{told_after}
 use Rattle.media_ports.proofs.Opened.{open_anew, open_before}
 use Rattle.media_ports.proofs.Closed.{zip-append, OpensAll, closes_uncalled, opens_each, still_open, open_since, open_beside, not_open}
@@ -44,8 +44,8 @@ all_from [] calls each = tt
 all_from (a ∷ ats) calls each = (each a (here refl), all_from ats calls (λ at more. each at (there more)))
 
 -- all ports of the leases are open then
-pub told_all_open : (interface : Ip) (leases : List Lease) (old new : Option (List PortCall)) (Q : List PortCall → Type 0) → WhereTold old Q → Gained old new (OpensPairs interface leases) →
-    WhereTold new (AllOpen (addresses_of interface leases))
+pub told_all_open : (interface : Ip) (leases : List Lease) (old new : Option (List PortCall)) (Q : List PortCall → Type 0) → WhereLogged old Q → Gained old new (OpensPairs interface leases) →
+    WhereLogged new (AllOpen (addresses_of interface leases))
 told_all_open interface leases old new Q held opens =
     told_after old new (OpensPairs interface leases) Q (AllOpen (addresses_of interface leases))
     (λ before more h these.
@@ -93,12 +93,12 @@ fails_next interface leases i k lease xs ys is few these those =
     let many : length front ≡ 2 * i = length-map (ports_of (take i leases)) (port_at interface) ∙ length-ports_of (take i leases) ∙ ap (λ n. 2 * n) (length-take-le i leases (omega (arith, within))) in
     let all : addresses_of interface leases ≡ front ++ rtp ∷ rtcp ∷ rest =
     ap (addresses_of interface) (sym (take-append-drop i leases) ∙ ap (λ (ls : List Lease). take i leases ++ ls) (drop_next leases i lease is)) ∙ addresses_of-append interface (take i leases) (lease ∷ drop (i + 1) leases) in
-    let told : replicate (2 * i + k) true ++ false ∷ [] ≡ replicate (length front) true ++ answers =
+    let shown : replicate (2 * i + k) true ++ false ∷ [] ≡ replicate (length front) true ++ answers =
     ap (λ (bs : List Bool). bs ++ false ∷ []) (sym (replicate-append-replicate (2 * i) k true)) ∙ append_assoc (replicate (2 * i) true) (replicate k true) (false ∷ []) ∙ ap (λ n. replicate n true ++ answers) (sym many) in
     ap (λ (calls : List PortCall). calls ++ ys) these
     ∙ ap (λ (calls : List PortCall). openings front (replicate (length front) true) ++ calls) (those ∙ sym (short rtp rtcp rest k few))
     ∙ sym (openings-append front (rtp ∷ rtcp ∷ rest) answers)
-    ∙ ap (λ (bs : List Bool). openings (front ++ rtp ∷ rtcp ∷ rest) bs) (sym told)
+    ∙ ap (λ (bs : List Bool). openings (front ++ rtp ∷ rtcp ∷ rest) bs) (sym shown)
     ∙ ap (λ (ats : List Addr). openings ats (replicate (2 * i + k) true ++ false ∷ [])) (sym all)
 
 shifted : (calls more : List PortCall) (call : PortCall) (ats : List Addr) → AllOpen ats ((calls ++ call ∷ []) ++ more) → AllOpen ats (calls ++ call ∷ more)
@@ -180,7 +180,7 @@ gained_undone ats n m opened old mid new same is opens closes =
     let all = gained_both old mid new (OpensHalf ats n) (AllZip ClosesUncalled (take n ats)) (OpensUpTo ats n) (λ xs ys these those. undone ats n xs ys these those) opens closed in
     subst (λ (k : ℕ). Gained old new (OpensUpTo ats k)) (sym (is ∙ same)) all
 
-pub told_open_upto : (ats : List Addr) (n : ℕ) (old new : Option (List PortCall)) (Q : List PortCall → Type 0) → WhereTold old Q → Gained old new (OpensHalf ats n) → WhereTold new (AllOpen (take n ats))
+pub told_open_upto : (ats : List Addr) (n : ℕ) (old new : Option (List PortCall)) (Q : List PortCall → Type 0) → WhereLogged old Q → Gained old new (OpensHalf ats n) → WhereLogged new (AllOpen (take n ats))
 told_open_upto ats n old new Q held opens =
     told_after old new (OpensHalf ats n) Q (AllOpen (take n ats))
     (λ before more h is. subst (λ (calls : List PortCall). AllOpen (take n ats) (before ++ calls)) (sym is) (all_open_upto ats n before)) held opens
@@ -191,17 +191,17 @@ half_few (Some ends) = omega arith
 
 -- The ends of one pair more.
 
-pub opened_pushed : {I O : Type 0} (taken : I → EndTold InCall) (sent : O → EndTold OutCall) (interface : Ip) (leases : List Lease) (i : ℕ) (lease : Lease) (old new : EndsList I O)
-    (ends : PairEnds I O) → slice_get leases i ≡ Some lease → new ≡ with_ends old ends → AreOpened taken sent interface (take i leases) old.list →
-    IsOpened taken sent interface lease ends → AreOpened taken sent interface (take (i + 1) leases) new.list
+pub opened_pushed : {I O : Type 0} (taken : I → EndLog InCall) (sent : O → EndLog OutCall) (interface : Ip) (leases : List Lease) (i : ℕ) (lease : Lease) (old new : EndsList I O)
+    (ends : PairEnds I O) → slice_get leases i ≡ Some lease → new ≡ with_ends old ends → ArePairsOpened taken sent interface (take i leases) old.list →
+    IsPairOpened taken sent interface lease ends → ArePairsOpened taken sent interface (take (i + 1) leases) new.list
 opened_pushed {I} {O} taken sent interface leases i lease old new ends at is those this =
-    subst (λ (opened : EndsList I O). AreOpened taken sent interface (take (i + 1) leases) opened.list) (sym is)
-    (subst (λ (ls : List Lease). AreOpened taken sent interface ls (old.list ++ ends ∷ [])) (sym (take_next leases i lease at))
-    (zip-append (IsOpened taken sent interface) (take i leases) (lease ∷ []) old.list (ends ∷ []) those (this, tt)))
+    subst (λ (opened : EndsList I O). ArePairsOpened taken sent interface (take (i + 1) leases) opened.list) (sym is)
+    (subst (λ (ls : List Lease). ArePairsOpened taken sent interface ls (old.list ++ ends ∷ [])) (sym (take_next leases i lease at))
+    (zip-append (IsPairOpened taken sent interface) (take i leases) (lease ∷ []) old.list (ends ∷ []) those (this, tt)))
 
 -- the ends that an opening made are those of the lease's ports
-pub opened_of : {I O : Type 0} (taken : I → EndTold InCall) (sent : O → EndTold OutCall) (interface : Ip) (lease : Lease) (ends : PairEnds I O) →
-    IsOpened taken sent interface lease ends → AreOfLease taken sent interface lease ends
+pub opened_of : {I O : Type 0} (taken : I → EndLog InCall) (sent : O → EndLog OutCall) (interface : Ip) (lease : Lease) (ends : PairEnds I O) →
+    IsPairOpened taken sent interface lease ends → AreOfLease taken sent interface lease ends
 opened_of taken sent interface lease ends is = (
   record { rtp_at = is.rtp_in.at_is; rtcp_at = is.rtcp_in.at_is },
   record { rtp_at = is.rtp_out.at_is; rtcp_at = is.rtcp_out.at_is },

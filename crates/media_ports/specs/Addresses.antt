@@ -21,8 +21,8 @@ abbrev pub ArePorts : List ℕ → Type 0
 ArePorts [] = Unit {0}
 ArePorts (port ∷ ports) = (port < 2 ^ 16) × (has ports port ≡ false) × ArePorts ports
 
-abbrev pub pairs_of : List Lease → List ℕ
-pairs_of leases = map (λ (lease : Lease). lease.pair) leases
+abbrev pub pairs_of_leases : List Lease → List ℕ
+pairs_of_leases leases = map (λ (lease : Lease). lease.pair) leases
 
 -- each lease has the even port of its pair
 abbrev pub HavePorts : Config → List Lease → Type 0
@@ -31,5 +31,5 @@ HavePorts config (lease ∷ leases) = (lease.rtp_port ≡ pair_port config lease
 
 -- the leases are of different pairs of the configuration
 pub record AreLeased (config : Config) (leases : List Lease) : Type 0 where
-  pub differ : AreFree (pair_count config) (pairs_of leases)
+  pub differ : AreFree (pair_count config) (pairs_of_leases leases)
   pub ports : HavePorts config leases

@@ -5,12 +5,12 @@ use Rattle.relay_outside.specs.declared.address.Addr.{Addr}
 use Rattle.relay_outside.specs.declared.address.Ip.{Ip}
 use Rattle.relay_outside.specs.declared.ports.PortCall.{PortCall}
 use Rattle.relay_outside.specs.declared.ports.PortCall.TheVariants.{Open, Close}
-use Rattle.relay_outside.specs.Told.{StartsEmpty, WhereTold}
+use Rattle.relay_outside.specs.DeviceLogs.{StartsEmpty, WhereLogged}
 use Rattle.relay_outside.specs.Ports.{IsOpen}
 use Rattle.histories.specs.Words.{In}
 use Rattle.port_pool.specs.declared.pairs.Lease.{Lease}
 use Rattle.media_ports.specs.Addresses.{port_at, addresses_of}
-use Rattle.media_ports.specs.Ends.{EndsTold}
+use Rattle.media_ports.specs.Ends.{EndLogs}
 
 -- openings of these addresses in order, with these results: as many as there are results
 abbrev pub openings : List Addr → List Bool → List PortCall
@@ -44,7 +44,7 @@ pub record OpensUpTo (ats : List Addr) (opened : ℕ) (calls : List PortCall) : 
   pub closed : AllZip ClosesUncalled (take opened ats) closes
 
 -- the ports of a leased pair are closed, that for RTP first, with what their ends tell
-abbrev pub ClosesPair : Ip → Lease → EndsTold → List PortCall → Type 0
+abbrev pub ClosesPair : Ip → Lease → EndLogs → List PortCall → Type 0
 ClosesPair interface lease ends calls = calls
     ≡ Close (port_at interface lease.rtp_port) ends.rtp_in ends.rtp_out
     ∷ Close (port_at interface (lease.rtp_port + 1)) ends.rtcp_in ends.rtcp_out ∷ []
@@ -60,8 +60,8 @@ AllOpen [] calls = Unit {0}
 AllOpen (at ∷ ats) calls = IsOpen calls at × AllOpen ats calls
 
 -- what holds of two lists, where both are told
-abbrev pub WhereBothTold : {C : Type 0} → Option (List C) → Option (List C) → (List C → List C → Type 0) → Type 0
-WhereBothTold {C} old new P = WhereTold new (λ (now : List C). WhereTold old (λ (before : List C). P before now))
+abbrev pub WhereBothLogged : {C : Type 0} → Option (List C) → Option (List C) → (List C → List C → Type 0) → Type 0
+WhereBothLogged {C} old new P = WhereLogged new (λ (now : List C). WhereLogged old (λ (before : List C). P before now))
 
 -- the same addresses are open
 abbrev pub SameOpen : List PortCall → List PortCall → Type 0

@@ -9,12 +9,12 @@ pub record KeyBytes : Type 0 where
   pub room : ℕ
 
 -- one more, at the end
-abbrev pub with_key : KeyBytes → List ℕ → KeyBytes
-with_key drawn key = record { list = drawn.list ++ key ∷ []; room = drawn.room }
+abbrev pub with_drawn_key : KeyBytes → List ℕ → KeyBytes
+with_drawn_key drawn key = record { list = drawn.list ++ key ∷ []; room = drawn.room }
 
 -- each of these keys is drawn, in order
-abbrev pub DrawsAll : List (List ℕ) → List KeyCall → Type 0
-DrawsAll keys calls = calls ≡ map Drawn keys
+abbrev pub AreDrawn : List (List ℕ) → List KeyCall → Type 0
+AreDrawn keys calls = calls ≡ map Drawn keys
 
 -- these keys are drawn, and the next draw fails
 abbrev pub DrawsUpTo : List (List ℕ) → List KeyCall → Type 0

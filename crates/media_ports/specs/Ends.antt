@@ -4,11 +4,11 @@ use Rattle.std.specs.List.{AllZip}
 use Rattle.relay_outside.specs.declared.address.Ip.{Ip}
 use Rattle.relay_outside.specs.declared.ports.InCall.{InCall}
 use Rattle.relay_outside.specs.declared.ports.OutCall.{OutCall}
-use Rattle.relay_outside.specs.Told.{EndTold, IsOpenedFor}
+use Rattle.relay_outside.specs.DeviceLogs.{EndLog, IsOpenedFor}
 use Rattle.port_pool.specs.declared.pairs.Lease.{Lease}
 use Rattle.port_pool.specs.Ports.{port_at, AreOfPair}
 use Rattle.media_ports.specs.declared.ends.PairEnds.{PairEnds}
-use Rattle.media_ports.specs.declared.opening.HalfOpened.{HalfOpened}
+use Rattle.media_ports.specs.declared.opened_ports.HalfOpened.{HalfOpened}
 
 -- the ends of each pair, and for how many pairs there is room in all
 pub record EndsList (I O : Type 0) : Type 0 where
@@ -20,14 +20,14 @@ abbrev pub with_ends : {I O : Type 0} → EndsList I O → PairEnds I O → Ends
 with_ends opened ends = record { list = opened.list ++ ends ∷ []; room = opened.room }
 
 -- what the ends of a pair tell
-pub record EndsTold : Type 0 where
+pub record EndLogs : Type 0 where
   pub rtp_in : Option (List InCall)
   pub rtp_out : Option (List OutCall)
   pub rtcp_in : Option (List InCall)
   pub rtcp_out : Option (List OutCall)
 
-module _ {I O : Type 0} (taken : I → EndTold InCall) (sent : O → EndTold OutCall) where
-  abbrev pub ends_told : PairEnds I O → EndsTold
+module _ {I O : Type 0} (taken : I → EndLog InCall) (sent : O → EndLog OutCall) where
+  abbrev pub ends_told : PairEnds I O → EndLogs
   ends_told ends = record {
     rtp_in = (taken ends.rtp_in).calls;
     rtp_out = (sent ends.rtp_out).calls;
@@ -36,15 +36,15 @@ module _ {I O : Type 0} (taken : I → EndTold InCall) (sent : O → EndTold Out
   }
 
   -- the ends of the pair were opened for the ports of the lease, each for its own, and not called since
-  pub record IsOpened (interface : Ip) (lease : Lease) (ends : PairEnds I O) : Type 0 where
+  pub record IsPairOpened (interface : Ip) (lease : Lease) (ends : PairEnds I O) : Type 0 where
     pub rtp_in : IsOpenedFor (port_at interface lease.rtp_port) (taken ends.rtp_in)
     pub rtp_out : IsOpenedFor (port_at interface lease.rtp_port) (sent ends.rtp_out)
     pub rtcp_in : IsOpenedFor (port_at interface (lease.rtp_port + 1)) (taken ends.rtcp_in)
     pub rtcp_out : IsOpenedFor (port_at interface (lease.rtp_port + 1)) (sent ends.rtcp_out)
 
   -- the same of the pairs of these leases, in order
-  abbrev pub AreOpened : Ip → List Lease → List (PairEnds I O) → Type 0
-  AreOpened interface leases pairs = AllZip (IsOpened interface) leases pairs
+  abbrev pub ArePairsOpened : Ip → List Lease → List (PairEnds I O) → Type 0
+  ArePairsOpened interface leases pairs = AllZip (IsPairOpened interface) leases pairs
 
   -- the ends of the port for RTP of the lease, where there are any, were opened for it, and not called since
   abbrev pub IsHalfOpened : Ip → Lease → Option (HalfOpened I O) → Type 0

@@ -1,7 +1,7 @@
 pub mod Addresses
-pub mod Asked
+pub mod Openings
 pub mod Calls
 pub mod Draws
 pub mod Ends
-pub mod Given
-pub mod Held
+pub mod ReturnedEnds
+pub mod OpenPorts

@@ -1,14 +1,14 @@
 ghost use Rattle.std.specs.Prelude.{◌≡◌, ◌<◌, ◌^◌, ◌+◌, ℕ, true, [], ◌∷◌, Some, Option, List};
 ghost use Rattle.relay_outside.specs.declared.settings.Config.{Config};
 ghost use Rattle.relay_outside.specs.declared.ports.PortCall.{PortCall};
-ghost use Rattle.relay_outside.specs.Told.{Gained, WhereTold};
+ghost use Rattle.relay_outside.specs.DeviceLogs.{Gained, WhereLogged};
 ghost use Rattle.histories.specs.Words.{has};
 ghost use Rattle.port_pool.specs.Ports.{pair_count, pair_port};
 ghost use Rattle.port_pool.specs.declared.pairs.Lease.{Lease};
-ghost use Rattle.media_ports.specs.Addresses.{ports_of, addresses_of, ArePorts, pairs_of, AreLeased};
+ghost use Rattle.media_ports.specs.Addresses.{ports_of, addresses_of, ArePorts, pairs_of_leases, AreLeased};
 ghost use Rattle.media_ports.specs.Calls.{OpensPairs, OpensUpTo, ClosesPair, NoneOpen, AllOpen};
-ghost use Rattle.media_ports.specs.Ends.{EndsTold};
-ghost use Rattle.media_ports.specs.Held.{TellsHeld, AreOthers, HasBoth, HasWithout};
+ghost use Rattle.media_ports.specs.Ends.{EndLogs};
+ghost use Rattle.media_ports.specs.OpenPorts.{LogsHeld, AreOthers, HasBoth, HasWithout};
 
 /// Theorem (no run-time code): the ports of leases of different pairs are ports of 16 bits, and no two leases have one.
 pub fn leases_have_ports()
@@ -17,31 +17,31 @@ pub fn leases_have_ports()
 
 /// Theorem (no run-time code): where just the ports of the held pairs are open, those of leases of other pairs are closed.
 pub fn other_pairs_are_closed()
-    ensures { (config : Config) (told : Option (List PortCall)) (pairs : List ℕ) (leases : List Lease) → TellsHeld config told pairs → AreLeased config leases →
-        AreOthers pairs (pairs_of leases) → WhereTold told (NoneOpen (addresses_of config.interface leases)) }
+    ensures { (config : Config) (log : Option (List PortCall)) (pairs : List ℕ) (leases : List Lease) → LogsHeld config log pairs → AreLeased config leases →
+        AreOthers pairs (pairs_of_leases leases) → WhereLogged log (NoneOpen (addresses_of config.interface leases)) }
 {}
 
 /// Theorem (no run-time code): where just the ports of the held pairs are open, both ports of a lease of one of them are.
 pub fn held_pairs_are_open()
-    ensures { (config : Config) (told : Option (List PortCall)) (pairs : List ℕ) (lease : Lease) → TellsHeld config told pairs → lease.pair < pair_count config →
-        lease.rtp_port ≡ pair_port config lease.pair → has pairs lease.pair ≡ true → WhereTold told (AllOpen (addresses_of config.interface (lease ∷ []))) }
+    ensures { (config : Config) (log : Option (List PortCall)) (pairs : List ℕ) (lease : Lease) → LogsHeld config log pairs → lease.pair < pair_count config →
+        lease.rtp_port ≡ pair_port config lease.pair → has pairs lease.pair ≡ true → WhereLogged log (AllOpen (addresses_of config.interface (lease ∷ []))) }
 {}
 
 /// Theorem (no run-time code): just the ports of the held pairs are open, also after more pairs were opened.
 pub fn opened_pairs_are_held()
-    ensures { (config : Config) (old new : Option (List PortCall)) (pairs now : List ℕ) (leases : List Lease) → TellsHeld config old pairs → AreLeased config leases →
-        Gained old new (OpensPairs config.interface leases) → HasBoth pairs (pairs_of leases) now → TellsHeld config new now }
+    ensures { (config : Config) (old new : Option (List PortCall)) (pairs now : List ℕ) (leases : List Lease) → LogsHeld config old pairs → AreLeased config leases →
+        Gained old new (OpensPairs config.interface leases) → HasBoth pairs (pairs_of_leases leases) now → LogsHeld config new now }
 {}
 
 /// Theorem (no run-time code): just the ports of the held pairs are open, also after the opening of others failed and was undone.
 pub fn undone_pairs_are_not_held()
-    ensures { (config : Config) (old new : Option (List PortCall)) (pairs : List ℕ) (leases : List Lease) (opened : ℕ) → TellsHeld config old pairs → AreLeased config leases →
-        AreOthers pairs (pairs_of leases) → Gained old new (OpensUpTo (addresses_of config.interface leases) opened) → TellsHeld config new pairs }
+    ensures { (config : Config) (old new : Option (List PortCall)) (pairs : List ℕ) (leases : List Lease) (opened : ℕ) → LogsHeld config old pairs → AreLeased config leases →
+        AreOthers pairs (pairs_of_leases leases) → Gained old new (OpensUpTo (addresses_of config.interface leases) opened) → LogsHeld config new pairs }
 {}
 
 /// Theorem (no run-time code): just the ports of the held pairs are open, also after those of one were closed.
 pub fn closed_pairs_are_not_held()
-    ensures { (config : Config) (old new : Option (List PortCall)) (pairs now : List ℕ) (lease : Lease) (ends : EndsTold) → TellsHeld config old pairs →
+    ensures { (config : Config) (old new : Option (List PortCall)) (pairs now : List ℕ) (lease : Lease) (ends : EndLogs) → LogsHeld config old pairs →
         lease.rtp_port ≡ pair_port config lease.pair → Gained old new (ClosesPair config.interface lease ends) →
-        HasWithout pairs lease.pair now → TellsHeld config new now }
+        HasWithout pairs lease.pair now → LogsHeld config new now }
 {}

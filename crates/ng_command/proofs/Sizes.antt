@@ -5,10 +5,10 @@ use Rattle.std.proofs.lemmas.List.{length-append}
 use Rattle.ng_bencode.specs.Tree.{Tree, Int, Bytes, Items, Dict, Trees, no_items, item, Entries, no_entries, entry}
 use Rattle.ng_bencode.specs.Lookup.{value_at, is_same_key}
 use Rattle.ng_bencode.specs.Spells.{string, spelling, entry_spellings}
-use Rattle.ng_command.specs.Values.{text_of, text_at}
-use Rattle.ng_command.specs.Said.{Said, Ping, Offer, Answer, Delete, Query, Listing, text_in, meaning}
+use Rattle.ng_command.specs.Values.{string_of, text_at}
+use Rattle.ng_command.specs.Meanings.{Said, Ping, Offer, Answer, Delete, Query, Listing, text_in, meaning}
 use Rattle.ng_command.specs.Faults.{fault_of}
-use Rattle.ng_command.specs.Reading.{kind_named, or_fault, told_by, told}
+use Rattle.ng_command.specs.Bodies.{kind_named, or_fault, said_of_kind, said_or_fault}
 use Rattle.ng_command.specs.declared.kind.Kind.{Kind}
 use Rattle.ng_command.specs.declared.kind.Kind.TheVariants as kinds
 use Rattle.ng_command.specs.declared.fault.CommandFault.{CommandFault}
@@ -22,7 +22,7 @@ sdp_in (Delete call_id from_tag fatal) = []
 sdp_in (Query call_id) = []
 sdp_in (Listing limit) = []
 
-text_short : (tree : Tree) (text : List ℕ) → text_of (Some tree) ≡ Some text → length text ≤ length (spelling tree)
+text_short : (tree : Tree) (text : List ℕ) → string_of (Some tree) ≡ Some text → length text ≤ length (spelling tree)
 text_short (Int z) text e = absurd (cc)
 text_short (Bytes bytes) text e =
     let same : bytes ≡ text = cc in
@@ -39,7 +39,7 @@ entry_length name tree rest =
 pub text_within : (pairs : Entries) (key text : List ℕ) → text_at pairs key ≡ Some text → length text ≤ length (entry_spellings pairs)
 text_within no_entries key text e = absurd (cc)
 text_within (entry name tree rest) key text e =
-    elim (is_same_key name key) as (λ (b : Bool). text_of (if b then Some tree else value_at rest key) ≡ Some text → length text ≤ length (entry_spellings (entry name tree rest))) [
+    elim (is_same_key name key) as (λ (b : Bool). string_of (if b then Some tree else value_at rest key) ≡ Some text → length text ≤ length (entry_spellings (entry name tree rest))) [
       | true ↦ λ h. omega (arith, text_short tree text h, entry_length name tree rest)
       | false ↦ λ h. omega (arith, text_within rest key text h, entry_length name tree rest)
     ] e
@@ -60,14 +60,14 @@ meant kinds.Query pairs = omega arith
 meant kinds.List pairs = omega arith
 
 -- the description that a dictionary tells is no longer than its pairs
-pub told_within : (pairs : Entries) (says : Said) → told pairs ≡ Ok says → length (sdp_in says) ≤ length (entry_spellings pairs)
+pub told_within : (pairs : Entries) (says : Said) → said_or_fault pairs ≡ Ok says → length (sdp_in says) ≤ length (entry_spellings pairs)
 told_within pairs says e = go (kind_named (text_at pairs (codes "command"))) e
   where
     on : (kind : Kind) (fault : Option CommandFault) → or_fault fault (meaning kind pairs) ≡ Ok says → length (sdp_in says) ≤ length (entry_spellings pairs)
     on kind (Some fault) h = absurd (cc)
     on kind None h = let same : meaning kind pairs ≡ says = cc in subst (λ (s : Said). length (sdp_in s) ≤ length (entry_spellings pairs)) same (meant kind pairs)
 
-    go : (named : Result Kind CommandFault) → told_by named pairs ≡ Ok says → length (sdp_in says) ≤ length (entry_spellings pairs)
+    go : (named : Result Kind CommandFault) → said_of_kind named pairs ≡ Ok says → length (sdp_in says) ≤ length (entry_spellings pairs)
     go (Err fault) h = absurd (cc)
     go (Ok kind) h = on kind (fault_of kind pairs) h
 
@@ -87,7 +87,7 @@ abbrev mutual
   PairsAreShort n no_entries = ⊤
   PairsAreShort n (entry key t rest) = TreeIsShort n t × PairsAreShort n rest
 
-text_at_most : (n : ℕ) (tree : Tree) (text : List ℕ) → TreeIsShort n tree → text_of (Some tree) ≡ Some text → length text ≤ n
+text_at_most : (n : ℕ) (tree : Tree) (text : List ℕ) → TreeIsShort n tree → string_of (Some tree) ≡ Some text → length text ≤ n
 text_at_most n (Int z) text h e = absurd (cc)
 text_at_most n (Bytes bytes) text h e =
     let same : bytes ≡ text = cc in
@@ -98,7 +98,7 @@ text_at_most n (Dict pairs) text h e = absurd (cc)
 found_at_most : (n : ℕ) (pairs : Entries) (key text : List ℕ) → PairsAreShort n pairs → text_at pairs key ≡ Some text → length text ≤ n
 found_at_most n no_entries key text h e = absurd (cc)
 found_at_most n (entry name tree rest) key text h e =
-    elim (is_same_key name key) as (λ (b : Bool). text_of (if b then Some tree else value_at rest key) ≡ Some text → length text ≤ n) [
+    elim (is_same_key name key) as (λ (b : Bool). string_of (if b then Some tree else value_at rest key) ≡ Some text → length text ≤ n) [
       | true ↦ λ k. text_at_most n tree text h.0 k
       | false ↦ λ k. found_at_most n rest key text h.1 k
     ] e
@@ -119,13 +119,13 @@ meant_at_most n kinds.Query pairs h = omega arith
 meant_at_most n kinds.List pairs h = omega arith
 
 -- nor than the longest byte string of the dictionary
-pub told_at_most : (n : ℕ) (pairs : Entries) (says : Said) → PairsAreShort n pairs → told pairs ≡ Ok says → length (sdp_in says) ≤ n
+pub told_at_most : (n : ℕ) (pairs : Entries) (says : Said) → PairsAreShort n pairs → said_or_fault pairs ≡ Ok says → length (sdp_in says) ≤ n
 told_at_most n pairs says h e = go (kind_named (text_at pairs (codes "command"))) e
   where
     on : (kind : Kind) (fault : Option CommandFault) → or_fault fault (meaning kind pairs) ≡ Ok says → length (sdp_in says) ≤ n
     on kind (Some fault) k = absurd (cc)
     on kind None k = let same : meaning kind pairs ≡ says = cc in subst (λ (s : Said). length (sdp_in s) ≤ n) same (meant_at_most n kind pairs h)
 
-    go : (named : Result Kind CommandFault) → told_by named pairs ≡ Ok says → length (sdp_in says) ≤ n
+    go : (named : Result Kind CommandFault) → said_of_kind named pairs ≡ Ok says → length (sdp_in says) ≤ n
     go (Err fault) k = absurd (cc)
     go (Ok kind) k = on kind (fault_of kind pairs) k

@@ -22,8 +22,8 @@ commands =
     (codes "ping", kinds.Ping) ∷ (codes "offer", kinds.Offer) ∷ (codes "answer", kinds.Answer)
     ∷ (codes "delete", kinds.Delete) ∷ (codes "query", kinds.Query) ∷ (codes "list", kinds.List) ∷ []
 
-abbrev pub kind_of : List ℕ → Option Kind
-kind_of name = option_map (λ command. command.1) (find (λ command. bytes_eq name command.0) commands)
+abbrev pub command_kind : List ℕ → Option Kind
+command_kind name = option_map (λ command. command.1) (find (λ command. bytes_eq name command.0) commands)
 
 -- the flags of a command
 abbrev pub has_flag : Entries → List ℕ → Bool
@@ -48,12 +48,12 @@ signals_source pairs = has_flag pairs (codes "SIP source address") && not (has_f
 abbrev pub address_in : List ℕ → List ℕ → Option Ip
 address_in family address = if bytes_eq family (codes "IP4") then option_map ips.V4 (ipv4_bytes address) else None
 
-abbrev pub address_of : Option Tree → Option Ip
-address_of (Some (Items (item (Bytes family) (item (Bytes address) no_items)))) = address_in family address
-address_of other = None
+abbrev pub ip_of_tree : Option Tree → Option Ip
+ip_of_tree (Some (Items (item (Bytes family) (item (Bytes address) no_items)))) = address_in family address
+ip_of_tree other = None
 
 abbrev pub source_of : Entries → Option Ip
-source_of pairs = if signals_source pairs then address_of (value_at pairs (codes "received from")) else None
+source_of pairs = if signals_source pairs then ip_of_tree (value_at pairs (codes "received from")) else None
 
 -- the four protocols of a section that is relayed
 abbrev pub protocols : List (List ℕ × Proto)
@@ -67,9 +67,9 @@ protocol_in None = None
 protocol_in (Some name) = protocol_of name
 
 -- SRTP keyed by DTLS (RFC 5764 section 8)
-abbrev pub is_dtls : Option (List ℕ) → Bool
-is_dtls None = false
-is_dtls (Some name) = starts_with nat_eq name (codes "UDP/TLS/")
+abbrev pub asks_dtls : Option (List ℕ) → Bool
+asks_dtls None = false
+asks_dtls (Some name) = starts_with nat_eq name (codes "UDP/TLS/")
 
 -- how many calls `list` names: 32 where nothing says so, and 200 at most
 abbrev pub limit_of : Option Tree → Option ℕ

@@ -3,7 +3,7 @@ use Rattle.std.specs.Prelude.{List, [], ◌∷◌, Bool, true, false, not, ◌&&
 use Rattle.ng_bencode.specs.Tree.{Entries}
 use Rattle.ng_bencode.specs.Lookup.{value_at}
 use Rattle.ng_command.specs.Values.{text_at, is_name, is_wordless, is_other_than, has_key}
-use Rattle.ng_command.specs.Effects.{signals_source, address_of, protocol_in, is_dtls, limit_of}
+use Rattle.ng_command.specs.Effects.{signals_source, ip_of_tree, protocol_in, asks_dtls, limit_of}
 use Rattle.ng_command.specs.declared.kind.Kind.{Kind}
 use Rattle.ng_command.specs.declared.kind.Kind.TheVariants as kinds
 use Rattle.ng_command.specs.declared.fault.KeyName.{KeyName}
@@ -53,21 +53,21 @@ is_list kinds.Query = false
 is_list kinds.List = true
 
 -- the commands that carry a description
-abbrev pub is_media : Kind → Bool
-is_media kind = is_offer kind || is_answer kind
+abbrev pub has_description : Kind → Bool
+has_description kind = is_offer kind || is_answer kind
 
 -- the command uses the key, and what stands there is missing or of the wrong form
 abbrev pub is_wrong : Kind → Entries → KeyName → Bool
-is_wrong kind pairs CallId = (is_media kind || is_delete kind || is_query kind) && not (is_name (text_at pairs (codes "call-id")))
-is_wrong kind pairs FromTag = (is_media kind || (is_delete kind && is_some (value_at pairs (codes "from-tag")))) && not (is_name (text_at pairs (codes "from-tag")))
+is_wrong kind pairs CallId = (has_description kind || is_delete kind || is_query kind) && not (is_name (text_at pairs (codes "call-id")))
+is_wrong kind pairs FromTag = (has_description kind || (is_delete kind && is_some (value_at pairs (codes "from-tag")))) && not (is_name (text_at pairs (codes "from-tag")))
 is_wrong kind pairs ToTag = is_answer kind && not (is_name (text_at pairs (codes "to-tag")))
-is_wrong kind pairs Sdp = is_media kind && is_none (text_at pairs (codes "sdp"))
-is_wrong kind pairs Flags = (is_media kind || is_delete kind) && is_wordless (value_at pairs (codes "flags"))
-is_wrong kind pairs Replace = is_media kind && is_wordless (value_at pairs (codes "replace"))
+is_wrong kind pairs Sdp = has_description kind && is_none (text_at pairs (codes "sdp"))
+is_wrong kind pairs Flags = (has_description kind || is_delete kind) && is_wordless (value_at pairs (codes "flags"))
+is_wrong kind pairs Replace = has_description kind && is_wordless (value_at pairs (codes "replace"))
 is_wrong kind pairs TransportProtocol =
     is_offer kind && is_some (value_at pairs (codes "transport protocol"))
-    && not (is_some (protocol_in (text_at pairs (codes "transport protocol"))) || is_dtls (text_at pairs (codes "transport protocol")))
-is_wrong kind pairs ReceivedFrom = is_media kind && signals_source pairs && is_none (address_of (value_at pairs (codes "received from")))
+    && not (is_some (protocol_in (text_at pairs (codes "transport protocol"))) || asks_dtls (text_at pairs (codes "transport protocol")))
+is_wrong kind pairs ReceivedFrom = has_description kind && signals_source pairs && is_none (ip_of_tree (value_at pairs (codes "received from")))
 is_wrong kind pairs Limit = is_list kind && is_none (limit_of (value_at pairs (codes "limit")))
 is_wrong kind pairs Ice = false
 is_wrong kind pairs Dtls = false
@@ -77,11 +77,11 @@ is_wrong kind pairs Tls = false
 
 -- the command uses the key, and what stands there asks for what this proxy does not do
 abbrev pub is_unsupported : Kind → Entries → KeyName → Bool
-is_unsupported kind pairs Ice = is_media kind && is_other_than (codes "remove" ∷ []) (value_at pairs (codes "ICE"))
-is_unsupported kind pairs Dtls = is_media kind && is_other_than (codes "off" ∷ codes "no" ∷ codes "disable" ∷ []) (value_at pairs (codes "DTLS"))
-is_unsupported kind pairs TransportProtocol = is_offer kind && is_dtls (text_at pairs (codes "transport protocol"))
-is_unsupported kind pairs RecordCall = is_media kind && is_other_than (codes "no" ∷ codes "off" ∷ []) (value_at pairs (codes "record call"))
-is_unsupported kind pairs Codec = is_media kind && has_key (codes "transcode") (value_at pairs (codes "codec"))
+is_unsupported kind pairs Ice = has_description kind && is_other_than (codes "remove" ∷ []) (value_at pairs (codes "ICE"))
+is_unsupported kind pairs Dtls = has_description kind && is_other_than (codes "off" ∷ codes "no" ∷ codes "disable" ∷ []) (value_at pairs (codes "DTLS"))
+is_unsupported kind pairs TransportProtocol = is_offer kind && asks_dtls (text_at pairs (codes "transport protocol"))
+is_unsupported kind pairs RecordCall = has_description kind && is_other_than (codes "no" ∷ codes "off" ∷ []) (value_at pairs (codes "record call"))
+is_unsupported kind pairs Codec = has_description kind && has_key (codes "transcode") (value_at pairs (codes "codec"))
 is_unsupported kind pairs CallId = false
 is_unsupported kind pairs FromTag = false
 is_unsupported kind pairs ToTag = false

@@ -1,5 +1,5 @@
 pub mod Values
 pub mod Effects
 pub mod Faults
-pub mod Said
-pub mod Reading
+pub mod Meanings
+pub mod Bodies

@@ -6,15 +6,15 @@ use Rattle.ng_bencode.specs.Tree.{Tree, Int, Bytes, Items, Dict, Trees, no_items
 use Rattle.ng_bencode.specs.Lookup.{value_at, is_same_key}
 
 -- a byte string
-abbrev pub text_of : Option Tree → Option (List ℕ)
-text_of None = None
-text_of (Some (Int z)) = None
-text_of (Some (Bytes text)) = Some text
-text_of (Some (Items items)) = None
-text_of (Some (Dict pairs)) = None
+abbrev pub string_of : Option Tree → Option (List ℕ)
+string_of None = None
+string_of (Some (Int z)) = None
+string_of (Some (Bytes text)) = Some text
+string_of (Some (Items items)) = None
+string_of (Some (Dict pairs)) = None
 
 abbrev pub text_at : Entries → List ℕ → Option (List ℕ)
-text_at pairs key = text_of (value_at pairs key)
+text_at pairs key = string_of (value_at pairs key)
 
 -- a call-id or a tag has 1 to 255 bytes
 abbrev pub is_name : Option (List ℕ) → Bool

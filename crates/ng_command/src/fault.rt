@@ -1,5 +1,5 @@
 ghost use Rattle.std.specs.Prelude.{◌≡◌};
-ghost use Rattle.ng_command.specs.Reading.{fault_of_bad};
+ghost use Rattle.ng_command.specs.Bodies.{fault_of_bad};
 ghost use Rattle.ng_command.specs.declared.fault.CommandFault.TheVariants.{OutOfMemory as out_of_memory};
 
 use ng_bencode::Bad;

@@ -1,6 +1,6 @@
 ghost use Rattle.std.specs.Prelude.{◌≡◌};
-ghost use Rattle.ng_command.specs.Effects.{kind_of};
-ghost use Rattle.ng_command.specs.Faults.{is_offer, is_answer, is_delete, is_query, is_list, is_media};
+ghost use Rattle.ng_command.specs.Effects.{command_kind};
+ghost use Rattle.ng_command.specs.Faults.{is_offer, is_answer, is_delete, is_query, is_list, has_description};
 
 /// The six commands.
 #[derive(Clone, Copy)]
@@ -15,7 +15,7 @@ pub(crate) enum Kind {
 
 /// The command of this name.
 pub(crate) fn kind_of(name: &[u8]) -> Option<Kind>
-    ensures { result ≡ kind_of name.now }
+    ensures { result ≡ command_kind name.now }
 {
     if name == b"ping".as_slice() {
         Some(Kind::Ping)
@@ -67,7 +67,7 @@ impl Kind {
 
     /// Whether the command carries a description.
     pub(crate) fn is_media(self) -> bool
-        ensures { result ≡ is_media self }
+        ensures { result ≡ has_description self }
     {
         self.is_offer() || self.is_answer()
     }

@@ -4,8 +4,8 @@ ghost use Rattle.std.specs.Option.{option_copied};
 ghost use Rattle.ng_bencode.specs.Row.{list_in};
 ghost use Rattle.ng_bencode.specs.Tree.{tree_of, trees_of, pairs_of, Items, Int};
 ghost use Rattle.ng_bencode.specs.Lookup.{value_at};
-ghost use Rattle.ng_command.specs.Effects.{has_flag, flags_of, replaces, signals_source, address_in, address_of, source_of, protocol_of, protocol_in, is_dtls, limit_of};
-ghost use Rattle.ng_command.specs.Said.{options_of};
+ghost use Rattle.ng_command.specs.Effects.{has_flag, flags_of, replaces, signals_source, address_in, ip_of_tree, source_of, protocol_of, protocol_in, asks_dtls, limit_of};
+ghost use Rattle.ng_command.specs.Meanings.{options_of};
 
 use crate::command::Options;
 use crate::values::{has_word, text_of};
@@ -44,7 +44,7 @@ pub(crate) fn signals_source(pairs: &Pairs) -> bool
 
 /// The address of `received from`: a list of `IP4` and an IPv4 address.
 pub(crate) fn received_from(pairs: &Pairs) -> Option<Ip>
-    ensures { result ≡ address_of (value_at (pairs_of (list_in pairs.now)) (codes "received from")) }
+    ensures { result ≡ ip_of_tree (value_at (pairs_of (list_in pairs.now)) (codes "received from")) }
 {
     let Some(value) = lookup(pairs, b"received from") else {
         return None;
@@ -57,7 +57,7 @@ pub(crate) fn received_from(pairs: &Pairs) -> Option<Ip>
 
 /// The address of a list of two byte strings, `IP4` and an IPv4 address.
 fn address_in_list(values: &Values) -> Option<Ip>
-    ensures { result ≡ address_of (Some (Items (trees_of (list_in values.now)))) }
+    ensures { result ≡ ip_of_tree (Some (Items (trees_of (list_in values.now)))) }
 {
     let items = values.as_slice();
     if items.len() != 2 {
@@ -124,7 +124,7 @@ pub(crate) fn protocol_in(name: Option<&[u8]>) -> Option<Proto>
 
 /// Whether the protocol is SRTP keyed by DTLS (RFC 5764 section 8).
 pub(crate) fn is_dtls(name: Option<&[u8]>) -> bool
-    ensures { result ≡ is_dtls (option_copied name.entry) }
+    ensures { result ≡ asks_dtls (option_copied name.entry) }
 {
     match name {
         Some(name) => name.starts_with(b"UDP/TLS/"),

@@ -4,7 +4,7 @@ ghost use Rattle.std.specs.Option.{option_copied};
 ghost use Rattle.ng_bencode.specs.Row.{list_in};
 ghost use Rattle.ng_bencode.specs.Tree.{tree_of, trees_of, pairs_of, item, no_items};
 ghost use Rattle.ng_bencode.specs.Lookup.{value_at};
-ghost use Rattle.ng_command.specs.Values.{text_of, text_at, is_name, texts_in, words_of, is_wordless, has_word, has_key};
+ghost use Rattle.ng_command.specs.Values.{string_of, text_at, is_name, texts_in, words_of, is_wordless, has_word, has_key};
 
 use ng_bencode::{Pairs, Value, Values, lookup, same_key};
 
@@ -13,7 +13,7 @@ const MAX_NAME: usize = 255;
 
 /// The bytes of a byte string.
 pub(crate) fn text_of(value: &Value) -> Option<&[u8]>
-    ensures { option_copied result ≡ text_of (Some (tree_of value.now)) }
+    ensures { option_copied result ≡ string_of (Some (tree_of value.now)) }
 {
     match value.as_bytes() {
         Some(text) => Some(text.as_slice()),

@@ -6,7 +6,7 @@ use Rattle.std.specs.Char.{digit_char}
 use Rattle.std.specs.Str.{is_utf8}
 use Rattle.json.proofs.Printed.Utf8.{are_ascii, IsUtf8-are_ascii}
 use Rattle.ng_json.specs.Strings.{is_marked, value_of_digit, byte_of_digits, hex_text, bytes_in_hex, bytes_of_string, string_of_bytes}
-use Rattle.ng_json.specs.Written.{AreBytes}
+use Rattle.ng_json.specs.JsonText.{AreBytes}
 use Rattle.ng_json.proofs.Texts.{plain_string, marked_string}
 
 value_back : (n : ℕ) → n < 16 → value_of_digit (digit_char n) ≡ Some n

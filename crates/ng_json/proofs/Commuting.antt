@@ -8,7 +8,7 @@ use Rattle.std.specs.Ordering.{nat_cmp, ordering_reverse, is_eq}
 use Rattle.std.specs.declared.cmp.Ordering.{Ordering}
 use Rattle.std.specs.declared.cmp.Ordering.TheVariants.{Less, Equal, Greater}
 use Rattle.ng_bencode.specs.Tree.{Tree, Entries, no_entries, entry}
-use Rattle.ng_json.specs.Twins.{with_pair}
+use Rattle.ng_json.specs.Twins.{with_pair_in_order}
 
 -- ---- the byte order
 
@@ -40,19 +40,19 @@ greater_at a b l less equal = ap (order b) (sym (same_key a l equal)) ∙ turned
 -- ---- two pairs
 
 abbrev pub both : List ℕ → Tree → List ℕ → Tree → Entries → Option Entries
-both a t b u es = option_and_then (λ more. with_pair a t more) (with_pair b u es)
+both a t b u es = option_and_then (λ more. with_pair_in_order a t more) (with_pair_in_order b u es)
 
 past : (l : List ℕ) (v : Tree) (k : List ℕ) (t : Tree) → order k l ≡ Greater → (r : Option Entries)
-    → option_and_then (λ more. with_pair k t more) (option_map (entry l v) r) ≡ option_map (entry l v) (option_and_then (λ more. with_pair k t more) r)
+    → option_and_then (λ more. with_pair_in_order k t more) (option_map (entry l v) r) ≡ option_map (entry l v) (option_and_then (λ more. with_pair_in_order k t more) r)
 past l v k t far None = refl
 past l v k t far (Some es) = rw far refl
 
 ahead : (l : List ℕ) (v : Tree) (k : List ℕ) (t : Tree) → order k l ≡ Less → (r : Option Entries)
-    → option_and_then (λ more. with_pair k t more) (option_map (entry l v) r) ≡ option_map (entry k t) (option_map (entry l v) r)
+    → option_and_then (λ more. with_pair_in_order k t more) (option_map (entry l v) r) ≡ option_map (entry k t) (option_map (entry l v) r)
 ahead l v k t less None = refl
 ahead l v k t less (Some es) = rw less refl
 
-stuck : (l : List ℕ) (v : Tree) (k : List ℕ) (t : Tree) → order k l ≡ Equal → (r : Option Entries) → option_and_then (λ more. with_pair k t more) (option_map (entry l v) r) ≡ None
+stuck : (l : List ℕ) (v : Tree) (k : List ℕ) (t : Tree) → order k l ≡ Equal → (r : Option Entries) → option_and_then (λ more. with_pair_in_order k t more) (option_map (entry l v) r) ≡ None
 stuck l v k t equal None = refl
 stuck l v k t equal (Some es) = rw equal refl
 
@@ -65,14 +65,14 @@ module _ (a b : List ℕ) (t u : Tree) (less : order a b ≡ Less) where
       front : order a l ≡ Less → (ob : Ordering) → order b l ≡ ob → both a t b u (entry l v rest) ≡ both b u a t (entry l v rest)
       front ea Less eb = rw (ea, eb, turned a b less) (rw less refl)
       front ea Equal eb = rw (ea, eb, turned a b less) refl
-      front ea Greater eb = rw (ea, eb, turned a b less) (ahead l v a t ea (with_pair b u rest))
+      front ea Greater eb = rw (ea, eb, turned a b less) (ahead l v a t ea (with_pair_in_order b u rest))
 
       by : both a t b u rest ≡ both b u a t rest → (oa : Ordering) → order a l ≡ oa → both a t b u (entry l v rest) ≡ both b u a t (entry l v rest)
       by more Less ea = front ea (order b l) refl
-      by more Equal ea = rw (ea, greater_at a b l less ea) (stuck l v a t ea (with_pair b u rest))
+      by more Equal ea = rw (ea, greater_at a b l less ea) (stuck l v a t ea (with_pair_in_order b u rest))
       by more Greater ea =
           let eb = greater_still a b l less ea in
-          rw (ea, eb) (past l v a t ea (with_pair b u rest) ∙ ap (option_map (entry l v)) more ∙ sym (past l v b u eb (with_pair a t rest)))
+          rw (ea, eb) (past l v a t ea (with_pair_in_order b u rest) ∙ ap (option_map (entry l v)) more ∙ sym (past l v b u eb (with_pair_in_order a t rest)))
 
 never_twice : (a : List ℕ) (t u : Tree) (es : Entries) → both a t a u es ≡ None
 never_twice a t u no_entries = rw (itself a) refl
@@ -81,7 +81,7 @@ never_twice a t u (entry l v rest) = by (never_twice a t u rest) (order a l) ref
     by : both a t a u rest ≡ None → (o : Ordering) → order a l ≡ o → both a t a u (entry l v rest) ≡ None
     by more Less e = rw e (rw (itself a) refl)
     by more Equal e = rw e refl
-    by more Greater e = rw e (past l v a t e (with_pair a u rest) ∙ ap (option_map (entry l v)) more)
+    by more Greater e = rw e (past l v a t e (with_pair_in_order a u rest) ∙ ap (option_map (entry l v)) more)
 
 pub commuting : (a b : List ℕ) (t u : Tree) (es : Entries) → both a t b u es ≡ both b u a t es
 commuting a b t u es = by (order a b) refl

@@ -10,8 +10,8 @@ use Rattle.std.specs.declared.cmp.Ordering.TheVariants.{Less, Equal, Greater}
 use Rattle.serde_json.specs.Data as json
 use Rattle.ng_bencode.specs.Tree.{Tree, Int, Bytes, Items, Dict, Trees, no_items, item, Entries, no_entries, entry}
 use Rattle.ng_json.specs.Strings.{string_of_bytes}
-use Rattle.ng_json.specs.Written.{data_of, items_data, members_data, with_member}
-use Rattle.ng_json.specs.Order.{Member, items_of, members_of, AreInByteOrder, IsWrittenAs, ItemsAreWrittenAs, PairsAreWrittenAs, IsInByteOrder}
+use Rattle.ng_json.specs.JsonText.{data_of, items_data, members_data, with_member}
+use Rattle.ng_json.specs.Order.{Member, json_items, members_of, AreInByteOrder, IsWrittenAs, ItemsAreWrittenAs, PairsAreWrittenAs, IsInByteOrder}
 use Rattle.ng_json.proofs.Ordered.{put, put_all, sorted, Sorts, all_sorted, none_sorted}
 use Rattle.ng_json.proofs.Texts.{written}
 
@@ -47,7 +47,7 @@ abbrev members_list : Entries → List Member
 members_list no_entries = []
 members_list (entry key tree rest) = (string_of_bytes key, data_of tree) ∷ members_list rest
 
-items_so : (items : Trees) → items_data items ≡ items_of (items_list items)
+items_so : (items : Trees) → items_data items ≡ json_items (items_list items)
 items_so no_items = refl
 items_so (item tree rest) = ap (json.item (data_of tree)) (items_so rest)
 

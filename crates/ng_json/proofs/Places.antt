@@ -13,8 +13,8 @@ use Rattle.ng_bencode.specs.Tree.{Tree, Entries, entry, tree_of, trees_of, pairs
 use Rattle.ng_bencode.specs.declared.value.Value.{Value}
 use Rattle.ng_json.specs.Members.{members_in}
 use Rattle.ng_json.specs.Strings.{string_of_bytes}
-use Rattle.ng_json.specs.Twins.{with_pair}
-use Rattle.ng_json.specs.Written.{data_of, items_data, members_data, with_member}
+use Rattle.ng_json.specs.Twins.{with_pair_in_order}
+use Rattle.ng_json.specs.JsonText.{data_of, items_data, members_data, with_member}
 
 abbrev pub Member : Type 0
 Member = Room ℕ × Bor Value
@@ -120,25 +120,25 @@ twice front p (Some es) = ap Some (sym (before_pairs-append front p es))
 
 -- the pair goes after the first i
 abbrev pub PairGoesPast : List ℕ → List Pair → ℕ → Type 0
-PairGoesPast key all i = (tree : Tree) → with_pair key tree (pairs_of all) ≡ option_map (before_pairs (take i all)) (with_pair key tree (pairs_of (drop i all)))
+PairGoesPast key all i = (tree : Tree) → with_pair_in_order key tree (pairs_of all) ≡ option_map (before_pairs (take i all)) (with_pair_in_order key tree (pairs_of (drop i all)))
 
 module _ (key : List ℕ) (all : List Pair) (i : ℕ) (p : Pair) (low : i < length all) (is : p ≡ get_or all i p) (past : PairGoesPast key all i) where
   here : drop i all ≡ p ∷ drop (i + 1) all
   here = drop_more all i p low ∙ ap (λ x. x ∷ drop (i + 1) all) (sym is)
 
-  there : (tree : Tree) → with_pair key tree (pairs_of all) ≡ option_map (before_pairs (take i all)) (with_pair key tree (pairs_of (p ∷ drop (i + 1) all)))
-  there tree = past tree ∙ ap (λ back. option_map (before_pairs (take i all)) (with_pair key tree (pairs_of back))) here
+  there : (tree : Tree) → with_pair_in_order key tree (pairs_of all) ≡ option_map (before_pairs (take i all)) (with_pair_in_order key tree (pairs_of (p ∷ drop (i + 1) all)))
+  there tree = past tree ∙ ap (λ back. option_map (before_pairs (take i all)) (with_pair_in_order key tree (pairs_of back))) here
 
   pub pair_goes_on : slice_cmp nat_cmp key p.0.list ≡ Greater → PairGoesPast key all (i + 1)
   pair_goes_on greater tree =
       let front : take (i + 1) all ≡ take i all ++ p ∷ [] = rw add-one (take-suc all i p low) ∙ ap (λ x. take i all ++ x ∷ []) (sym is) in
-      there tree ∙ rw greater (twice (take i all) p (with_pair key tree (pairs_of (drop (i + 1) all))) ∙ ap (λ f. option_map (before_pairs f) (with_pair key tree (pairs_of (drop (i + 1) all)))) (sym front))
+      there tree ∙ rw greater (twice (take i all) p (with_pair_in_order key tree (pairs_of (drop (i + 1) all))) ∙ ap (λ f. option_map (before_pairs f) (with_pair_in_order key tree (pairs_of (drop (i + 1) all)))) (sym front))
 
-  pub pair_is_there : slice_cmp nat_cmp key p.0.list ≡ Equal → (tree : Tree) → with_pair key tree (pairs_of all) ≡ None
+  pub pair_is_there : slice_cmp nat_cmp key p.0.list ≡ Equal → (tree : Tree) → with_pair_in_order key tree (pairs_of all) ≡ None
   pair_is_there equal tree = there tree ∙ rw equal refl
 
   pub pair_goes_before : slice_cmp nat_cmp key p.0.list ≡ Less
-      → (name : Room ℕ) (value : Value) → name.list ≡ key → with_pair key (tree_of value) (pairs_of all) ≡ Some (pairs_of (insert all i (name, value)))
+      → (name : Room ℕ) (value : Value) → name.list ≡ key → with_pair_in_order key (tree_of value) (pairs_of all) ≡ Some (pairs_of (insert all i (name, value)))
   pair_goes_before less name value named =
       there (tree_of value) ∙ rw less (ap Some (sym (
       pairs_of-append (take i all) ((name, value) ∷ drop i all)
@@ -146,10 +146,10 @@ module _ (key : List ℕ) (all : List Pair) (i : ℕ) (p : Pair) (low : i < leng
       ∙ ap (λ back. before_pairs (take i all) (entry key (tree_of value) (pairs_of back))) here)))
 
 pub pair_goes_last : (key : List ℕ) (all : List Pair) (i : ℕ) → length all ≡ i → PairGoesPast key all i
-    → (name : Room ℕ) (value : Value) → name.list ≡ key → with_pair key (tree_of value) (pairs_of all) ≡ Some (pairs_of (insert all i (name, value)))
+    → (name : Room ℕ) (value : Value) → name.list ≡ key → with_pair_in_order key (tree_of value) (pairs_of all) ≡ Some (pairs_of (insert all i (name, value)))
 pair_goes_last key all i end past name value named =
     let none : drop i all ≡ [] = drop_all i all (omega arith) in
-    past (tree_of value) ∙ ap (λ back. option_map (before_pairs (take i all)) (with_pair key (tree_of value) (pairs_of back))) none
+    past (tree_of value) ∙ ap (λ back. option_map (before_pairs (take i all)) (with_pair_in_order key (tree_of value) (pairs_of back))) none
     ∙ ap Some (sym (
     pairs_of-append (take i all) ((name, value) ∷ drop i all)
     ∙ ap (λ k. before_pairs (take i all) (entry k (tree_of value) (pairs_of (drop i all)))) named

@@ -25,8 +25,8 @@ use Rattle.serde_json.proofs.Numbers.{number_of-decimal, number_of-negative}
 use Rattle.serde_json.proofs.Texts.{print-outline}
 use Rattle.ng_bencode.specs.Tree.{Tree, Int, Bytes, Items, Dict, Trees, no_items, item, Entries, no_entries, entry, depth, items_depth, entries_depth}
 use Rattle.ng_json.specs.Strings.{bytes_of_string, string_of_bytes}
-use Rattle.ng_json.specs.Twins.{tree_in, trees_in, pairs_in, with_pair, Says}
-use Rattle.ng_json.specs.Written.{data_of, items_data, members_data, with_member, json_text, IsSorted, ItemsAreSorted, PairsAreSorted}
+use Rattle.ng_json.specs.Twins.{tree_in, trees_in, pairs_in, with_pair_in_order, SaysInJson}
+use Rattle.ng_json.specs.JsonText.{data_of, items_data, members_data, with_member, json_text, IsSorted, ItemsAreSorted, PairsAreSorted}
 use Rattle.ng_json.proofs.Back.{string_back, string_is_utf8}
 use Rattle.ng_json.proofs.Commuting.{order}
 use Rattle.ng_json.proofs.Gathering.{just, chain, member_put, with_pairs, Ascend, gathered}
@@ -60,8 +60,8 @@ mutual
   pairs_back (entry k t rest) ms found h =
       pairs_back rest (with_member (string_of_bytes k) (data_of t) ms) found h.3
       ∙ ap (option_and_then (λ more. with_pairs rest more)) (member_put (string_of_bytes k) (data_of t) t (tree_back t h.1) ms found)
-      ∙ chain (λ more. with_pairs rest more) (λ more. with_pair (bytes_of_string (string_of_bytes k)) t more) (pairs_in ms found)
-      ∙ ap (λ key. option_and_then (λ more. option_and_then (λ m. with_pairs rest m) (with_pair key t more)) (pairs_in ms found)) (string_back k h.0)
+      ∙ chain (λ more. with_pairs rest more) (λ more. with_pair_in_order (bytes_of_string (string_of_bytes k)) t more) (pairs_in ms found)
+      ∙ ap (λ key. option_and_then (λ more. option_and_then (λ m. with_pairs rest m) (with_pair_in_order key t more)) (pairs_in ms found)) (string_back k h.0)
 
 -- ---- its depth
 
@@ -240,16 +240,16 @@ mutual
 
 text_read : (d : json.Data) → IsWritten d → json.depth d ≤ 127 → read (compact_text d) ≡ Some d
 text_read d w shallow =
-    let told : tokens (compact_text d) ≡ json_tokens (outline d) = ap tokens (sym (print-outline d)) ∙ tokens-print (json_tokens (outline d)) (printable d w) in
+    let shown : tokens (compact_text d) ≡ json_tokens (outline d) = ap tokens (sym (print-outline d)) ∙ tokens-print (json_tokens (outline d)) (printable d w) in
     let parsed : tree.value max_depth (tokens (compact_text d)) ≡ Some (outline d, []) =
-    ap (tree.value max_depth) (told ∙ sym (append-nil (json_tokens (outline d)))) ∙ value-json_tokens (outline d) max_depth [] (omega (arith, outline_depth d, shallow)) in
+    ap (tree.value max_depth) (shown ∙ sym (append-nil (json_tokens (outline d)))) ∙ value-json_tokens (outline d) max_depth [] (omega (arith, outline_depth d, shallow)) in
     rw parsed (outline_read d w)
 
-pub says_back : (t : Tree) → IsSorted t → depth t ≤ 16 → Says (json_text t) t
+pub says_back : (t : Tree) → IsSorted t → depth t ≤ 16 → SaysInJson (json_text t) t
 says_back t sorted shallow =
     let w = is_written t sorted in
     let deep = same_depth t in
-    subst (λ text. Says text t) (written t) (record {
+    subst (λ text. SaysInJson text t) (written t) (record {
       value = data_of t;
       is_json = record { utf8 = text_utf8 (data_of t) w; is = text_read (data_of t) w (omega (arith, deep, shallow)) };
       is_twin = twin_some (data_of t) t (omega (arith, deep, shallow)) (tree_back t sorted);

@@ -11,7 +11,7 @@ use Rattle.json.proofs.Printed.Strings.{escape_byte_plain}
 use Rattle.json.proofs.Printed.Utf8.{are_ascii, IsUtf8-are_ascii}
 use Rattle.ng_bencode.specs.Tree.{Bytes, Dict, no_entries, entry}
 use Rattle.ng_json.specs.Strings.{is_marked, string_of_bytes}
-use Rattle.ng_json.specs.Written.{json_text}
+use Rattle.ng_json.specs.JsonText.{json_text}
 
 -- a printing ASCII byte that has no escape
 abbrev pub is_simple : ℕ → Bool

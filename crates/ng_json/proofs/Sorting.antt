@@ -6,7 +6,7 @@ use Rattle.std.specs.declared.cmp.Ordering.TheVariants.{Less, Equal, Greater}
 use Rattle.serde_json.specs.Data as json
 use Rattle.ng_bencode.specs.Tree.{Entries, no_entries, entry}
 use Rattle.ng_json.specs.Strings.{bytes_of_string, string_of_bytes}
-use Rattle.ng_json.specs.Written.{data_of, members_data, with_member, IsBelow, AreBytes, PairsAreSorted}
+use Rattle.ng_json.specs.JsonText.{data_of, members_data, with_member, IsBelow, AreBytes, PairsAreSorted}
 use Rattle.ng_json.proofs.Back.{string_back}
 use Rattle.ng_json.proofs.Commuting.{order, turned, turned_back, same_key, itself, chained, greater_still, greater_at}
 

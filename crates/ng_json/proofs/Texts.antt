@@ -8,7 +8,7 @@ use Rattle.json.specs.Print.{escape_letter, escape_byte, escape, quoted}
 use Rattle.json.proofs.Printed.Strings.{escape_byte_plain}
 use Rattle.serde_json.specs.Written.{compact_text}
 use Rattle.ng_bencode.specs.Tree.{Tree}
-use Rattle.ng_json.specs.Written.{data_of, json_text}
+use Rattle.ng_json.specs.JsonText.{data_of, json_text}
 use Rattle.ng_json.specs.Strings.{is_marked, hex_text, byte_of_digits, bytes_in_hex, string_of_bytes}
 
 -- ---- escapes

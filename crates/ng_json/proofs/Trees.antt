@@ -13,7 +13,7 @@ use Rattle.serde_json.specs.declared.value.Value.{Value as Json}
 use Rattle.ng_bencode.specs.Tree.{Tree, Int, Items, Dict, Trees, no_items, item, Entries, no_entries, entry, depth, items_depth, entries_depth, items_of, tree_of, trees_of}
 use Rattle.ng_bencode.specs.declared.value.Value.{Value}
 use Rattle.ng_json.specs.Strings.{bytes_of_string}
-use Rattle.ng_json.specs.Twins.{tree_in, trees_in, pairs_in, with_pair, twin, IsJson, Says, HasNoTwin}
+use Rattle.ng_json.specs.Twins.{tree_in, trees_in, pairs_in, with_pair_in_order, twin, IsJson, SaysInJson, HasNoTwin}
 use Rattle.ng_json.specs.declared.errors.JsonFault.{JsonFault}
 use Rattle.ng_json.specs.declared.errors.JsonFault.TheVariants.{NoTwin}
 
@@ -54,12 +54,12 @@ items_end all xs i found end read =
 
 -- ---- a key that is there
 
-stuck_at : (key : List ℕ) (ms : json.Members) (found : Entries) (r : Option Tree) → ((tree : Tree) → with_pair key tree found ≡ None)
-    → option_and_then (λ tree. option_and_then (λ more. pairs_in ms more) (with_pair key tree found)) r ≡ None
+stuck_at : (key : List ℕ) (ms : json.Members) (found : Entries) (r : Option Tree) → ((tree : Tree) → with_pair_in_order key tree found ≡ None)
+    → option_and_then (λ tree. option_and_then (λ more. pairs_in ms more) (with_pair_in_order key tree found)) r ≡ None
 stuck_at key ms found None there = refl
 stuck_at key ms found (Some tree) there = rw (there tree) refl
 
-pub stuck_pair : (text : List ℕ) (d : json.Data) (ms : json.Members) (found : Entries) → ((tree : Tree) → with_pair (bytes_of_string text) tree found ≡ None) → pairs_in (json.member text d ms) found ≡ None
+pub stuck_pair : (text : List ℕ) (d : json.Data) (ms : json.Members) (found : Entries) → ((tree : Tree) → with_pair_in_order (bytes_of_string text) tree found ≡ None) → pairs_in (json.member text d ms) found ≡ None
 stuck_pair text d ms found there = stuck_at (bytes_of_string text) ms found (tree_in d) there
 
 -- ---- the whole
@@ -77,7 +77,7 @@ unfolding twin
 twin_none d none = unless_deep (nat_le (json.depth d) 16) d refl none
 
 pub says_so : (body : List ℕ) (d : json.Data) (r : Result Value JsonFault) → IsJson body d → IfOk r (λ value. json.depth d ≤ 16) → IfOk r (λ value. tree_in d ≡ Some (tree_of value))
-    → IfOk r (λ value. Says body (tree_of value))
+    → IfOk r (λ value. SaysInJson body (tree_of value))
 says_so body d (Ok value) is deep has = record { value = d; is_json = is; is_twin = twin_some d (tree_of value) deep has }
 says_so body d (Err fault) is deep has = tt
 
@@ -88,9 +88,9 @@ says_none body d (Err fault) is none = λ e. record { value = d; is_json = is; i
 
 -- ---- how deep it is
 
-with_shallow : (key : List ℕ) (t : Tree) (es : Entries) → IfSome (with_pair key t es) (λ more. entries_depth more ≡ max (depth t) (entries_depth es))
+with_shallow : (key : List ℕ) (t : Tree) (es : Entries) → IfSome (with_pair_in_order key t es) (λ more. entries_depth more ≡ max (depth t) (entries_depth es))
 with_shallow key t no_entries = refl
-with_shallow key t (entry other u rest) = by (with_pair key t rest) (with_shallow key t rest) (slice_cmp nat_cmp key other)
+with_shallow key t (entry other u rest) = by (with_pair_in_order key t rest) (with_shallow key t rest) (slice_cmp nat_cmp key other)
   where
     by : (r : Option Entries) → IfSome r (λ more. entries_depth more ≡ max (depth t) (entries_depth rest)) → (at : Ordering)
         → IfSome (match_ordering at (Some (entry key t (entry other u rest))) None (option_map (entry other u) r)) (λ more. entries_depth more ≡ max (depth t) (entries_depth (entry other u rest)))
@@ -125,9 +125,9 @@ put_shallow ms found t m h (Some more) k all = IfSome_then (pairs_in ms more) (a
 
 pair_shallow : (r : Option Tree) (text : List ℕ) (ms : json.Members) (found : Entries) (m : ℕ) → IfSome r (λ t. depth t ≤ m)
     → ((more : Entries) → IfSome (pairs_in ms more) (λ es. entries_depth es ≤ max (json.members_depth ms) (entries_depth more)))
-    → IfSome (option_and_then (λ t. option_and_then (λ more. pairs_in ms more) (with_pair (bytes_of_string text) t found)) r) (λ es. entries_depth es ≤ max (max m (json.members_depth ms)) (entries_depth found))
+    → IfSome (option_and_then (λ t. option_and_then (λ more. pairs_in ms more) (with_pair_in_order (bytes_of_string text) t found)) r) (λ es. entries_depth es ≤ max (max m (json.members_depth ms)) (entries_depth found))
 pair_shallow None text ms found m h all = tt
-pair_shallow (Some t) text ms found m h all = put_shallow ms found t m h (with_pair (bytes_of_string text) t found) (with_shallow (bytes_of_string text) t found) all
+pair_shallow (Some t) text ms found m h all = put_shallow ms found t m h (with_pair_in_order (bytes_of_string text) t found) (with_shallow (bytes_of_string text) t found) all
 
 mutual
   twin_shallow : (d : json.Data) → IfSome (tree_in d) (λ t. depth t ≤ json.depth d)

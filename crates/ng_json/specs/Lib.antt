@@ -1,5 +1,5 @@
 pub mod Strings
 pub mod Twins
-pub mod Written
+pub mod JsonText
 pub mod Members
 pub mod Order

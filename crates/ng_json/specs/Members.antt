@@ -5,7 +5,7 @@ use Rattle.serde_json.specs.Data as json
 use Rattle.ng_bencode.specs.Room.{Room}
 use Rattle.ng_bencode.specs.Tree.{tree_of}
 use Rattle.ng_bencode.specs.declared.value.Value.{Value}
-use Rattle.ng_json.specs.Written.{data_of}
+use Rattle.ng_json.specs.JsonText.{data_of}
 
 abbrev pub members_in : List (Room ℕ × Bor Value) → json.Members
 members_in [] = json.no_members

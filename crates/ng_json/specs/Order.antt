@@ -8,15 +8,15 @@ use Rattle.serde_json.specs.Find.{of_integer}
 use Rattle.serde_json.specs.Written.{compact_text}
 use Rattle.ng_bencode.specs.Tree.{Tree, Int, Bytes, Items, Dict, Trees, no_items, item, Entries, no_entries, entry}
 use Rattle.ng_json.specs.Strings.{string_of_bytes}
-use Rattle.ng_json.specs.Written.{json_text}
+use Rattle.ng_json.specs.JsonText.{json_text}
 
 -- a key and its value
 abbrev pub Member : Type 0
 Member = List ℕ × json.Data
 
-abbrev pub items_of : List json.Data → json.Items
-items_of [] = json.no_items
-items_of (d ∷ ds) = json.item d (items_of ds)
+abbrev pub json_items : List json.Data → json.Items
+json_items [] = json.no_items
+json_items (d ∷ ds) = json.item d (json_items ds)
 
 abbrev pub members_of : List Member → json.Members
 members_of [] = json.no_members
@@ -34,7 +34,7 @@ abbrev mutual
   pub IsWrittenAs : Tree → json.Data → Type 0
   IsWrittenAs (Int z) d = d ≡ json.number (of_integer z)
   IsWrittenAs (Bytes bytes) d = d ≡ json.string (string_of_bytes bytes)
-  IsWrittenAs (Items items) d = (ds : List json.Data) × ItemsAreWrittenAs items ds × (d ≡ json.array (items_of ds))
+  IsWrittenAs (Items items) d = (ds : List json.Data) × ItemsAreWrittenAs items ds × (d ≡ json.array (json_items ds))
   IsWrittenAs (Dict pairs) d = (ms sorted : List Member) × PairsAreWrittenAs pairs ms × AreInByteOrder ms sorted × (d ≡ json.object (members_of sorted))
 
   pub ItemsAreWrittenAs : Trees → List json.Data → Type 0

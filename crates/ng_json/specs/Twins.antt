@@ -9,12 +9,12 @@ use Rattle.ng_bencode.specs.Tree.{Tree, Int, Bytes, Items, Dict, Trees, no_items
 use Rattle.ng_json.specs.Strings.{bytes_of_string}
 
 -- the pairs with one more, at its place in the byte order of their keys; none, where its key is there
-abbrev pub with_pair : List ℕ → Tree → Entries → Option Entries
-with_pair key tree no_entries = Some (entry key tree no_entries)
-with_pair key tree (entry other of_other rest) = match_ordering (slice_cmp nat_cmp key other)
+abbrev pub with_pair_in_order : List ℕ → Tree → Entries → Option Entries
+with_pair_in_order key tree no_entries = Some (entry key tree no_entries)
+with_pair_in_order key tree (entry other of_other rest) = match_ordering (slice_cmp nat_cmp key other)
     (Some (entry key tree (entry other of_other rest)))
     None
-    (option_map (entry other of_other) (with_pair key tree rest))
+    (option_map (entry other of_other) (with_pair_in_order key tree rest))
 
 -- An integer that fits an i64 is that integer, a string the bytes that it stands for, an array a list, and an object the dictionary
 -- of its members in the byte order of their keys; two keys that stand for the same bytes, and everything else, have no twin
@@ -35,7 +35,7 @@ abbrev mutual
   pub pairs_in : json.Members → Entries → Option Entries
   pairs_in json.no_members found = Some found
   pairs_in (json.member text d ms) found =
-      option_and_then (λ tree. option_and_then (λ more. pairs_in ms more) (with_pair (bytes_of_string text) tree found)) (tree_in d)
+      option_and_then (λ tree. option_and_then (λ more. pairs_in ms more) (with_pair_in_order (bytes_of_string text) tree found)) (tree_in d)
 
 -- the twin of a value in which at most 16 arrays and objects stand in one another
 unfoldable pub twin : json.Data → Option Tree
@@ -47,7 +47,7 @@ pub record IsJson (text : List ℕ) (d : json.Data) : Type 0 where
   pub is : read text ≡ Some d
 
 -- the text is JSON, and says what this bencoded value says
-pub record Says (text : List ℕ) (tree : Tree) : Type 0 where
+pub record SaysInJson (text : List ℕ) (tree : Tree) : Type 0 where
   pub value : json.Data
   pub is_json : IsJson text value
   pub is_twin : twin value ≡ Some tree

@@ -7,7 +7,7 @@ ghost use Rattle.ng_bencode.specs.Room.{Room};
 ghost use Rattle.ng_bencode.specs.Row.{list_in};
 ghost use Rattle.ng_bencode.specs.Tree.{Tree, depth as tree_depth, tree_of, trees_of, pairs_of, no_entries};
 ghost use Rattle.ng_bencode.specs.declared.value.Value.{Value as SpecValue};
-ghost use Rattle.ng_json.specs.Twins.{IsJson, Says, HasNoTwin, tree_in, trees_in, pairs_in, with_pair};
+ghost use Rattle.ng_json.specs.Twins.{IsJson, SaysInJson, HasNoTwin, tree_in, trees_in, pairs_in, with_pair_in_order};
 
 use crate::errors::JsonFault;
 use crate::strings::bytes_of_string;
@@ -26,7 +26,7 @@ const MAX_DEPTH: usize = 16;
 ///
 /// `NotJson` where the bytes are not the JSON text of one value, `NoTwin` where no bencoded value says the same.
 pub fn read(alloc: Global, body: &[u8]) -> Result<Value, JsonFault>
-    ensures value { IfOk result (λ value. Says body.now (tree_of value)) }
+    ensures value { IfOk result (λ value. SaysInJson body.now (tree_of value)) }
     ensures shallow { IfOk result (λ value. tree_depth (tree_of value) ≤ 16) }
     ensures not_json { IfErr result (λ fault. fault ≡ JsonFault.NotJson → (d : Data) → IsJson body.now d → ⊥) }
     ensures no_twin { IfErr result (λ fault. fault ≡ JsonFault.NoTwin → HasNoTwin body.now) }
@@ -117,9 +117,9 @@ fn pairs_in(alloc: Global, members: &Map<String, Json>, room: usize) -> Result<P
 fn place_of(pairs: &[(Text, Value)], key: &[u8]) -> Option<usize>
     ensures within { IfSome result (λ at. at ≤ length pairs.now) }
     ensures place { MatchOption result
-        ((tree : Tree) → with_pair key.now tree (pairs_of pairs.now) ≡ None)
+        ((tree : Tree) → with_pair_in_order key.now tree (pairs_of pairs.now) ≡ None)
         (λ at. (name : Room ℕ) (value : SpecValue) → name.list ≡ key.now →
-        with_pair key.now (tree_of value) (pairs_of pairs.now) ≡ Some (pairs_of (insert pairs.now at (name, value)))) }
+        with_pair_in_order key.now (tree_of value) (pairs_of pairs.now) ≡ Some (pairs_of (insert pairs.now at (name, value)))) }
 {
     for i in 0..pairs.len() {
         match key.cmp(pairs[i].0.as_slice()) {

@@ -10,7 +10,7 @@ ghost use Rattle.ng_bencode.specs.Room.{Room};
 ghost use Rattle.ng_bencode.specs.Row.{list_in};
 ghost use Rattle.ng_bencode.specs.Tree.{tree_of, trees_of, pairs_of, depth};
 ghost use Rattle.ng_bencode.specs.declared.value.Value.{Value as SpecValue};
-ghost use Rattle.ng_json.specs.Written.{data_of, items_data, members_data, with_member, json_text};
+ghost use Rattle.ng_json.specs.JsonText.{data_of, items_data, members_data, with_member, json_text};
 ghost use Rattle.ng_json.specs.Members.{members_in};
 ghost use Rattle.ng_json.specs.Strings.{string_of_bytes};
 

@@ -1,6 +1,6 @@
 //! JSON, the other notation of the ng control protocol: a JSON text is read as the bencoded value that says the same, its twin, and a
 //! bencoded value is written as JSON. `specs/Strings.antt` says which bytes a JSON string stands for, `specs/Twins.antt` what the
-//! twin of a text is, `specs/Written.antt` the text of a value, and `specs/Order.antt` what stands where in it.
+//! twin of a text is, `specs/JsonText.antt` the text of a value, and `specs/Order.antt` what stands where in it.
 #![tactic(auto)]
 
 mod decode;

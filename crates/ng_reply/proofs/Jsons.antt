@@ -8,7 +8,7 @@ use Rattle.ng_bencode.specs.Tree.{Dict, no_entries}
 use Rattle.ng_command.specs.declared.fault.KeyName.{KeyName}
 use Rattle.ng_command.specs.declared.fault.KeyName.TheVariants as key
 use Rattle.ng_json.specs.Strings.{is_marked, string_of_bytes}
-use Rattle.ng_json.specs.Written.{json_text}
+use Rattle.ng_json.specs.JsonText.{json_text}
 use Rattle.ng_json.proofs.Simple.{are_simple, simple_escape, simple_string, simple_append, simple_decimal, two_texts}
 use Rattle.ng_reply.specs.Replies.{text_entry, sdp_reply, error_reply, json_error_datagram}
 use Rattle.ng_reply.specs.Texts.{key_text, part_text, head_text, tail_text, code_text}

@@ -2,7 +2,7 @@
 use Rattle.std.specs.Prelude.{ℕ, List, ◌∷◌, ◌++◌, codes}
 use Rattle.ng_bencode.specs.Tree.{Tree, Bytes, Dict, Entries, no_entries, entry}
 use Rattle.ng_bencode.specs.Spells.{spelling}
-use Rattle.ng_json.specs.Written.{json_text}
+use Rattle.ng_json.specs.JsonText.{json_text}
 use Rattle.ng_reply.specs.Texts.{code_text}
 use Rattle.ng_reply.specs.declared.code.ErrorCode.{ErrorCode}
 

@@ -1,6 +1,6 @@
 //! Replies in JSON that are written without taking memory.
 ghost use Rattle.std.specs.Prelude.{◌≡◌, ◌+◌, ◌*◌, ◌<◌, ◌≤◌, ◌^◌, ◌++◌, length, take};
-ghost use Rattle.ng_json.specs.Written.{json_text};
+ghost use Rattle.ng_json.specs.JsonText.{json_text};
 ghost use Rattle.ng_reply.specs.Replies.{sdp_reply, json_error_datagram};
 
 use crate::code::ErrorCode;

@@ -7,33 +7,33 @@ use Rattle.relay_outside.specs.declared.settings.Config.{Config}
 use Rattle.turn_table.specs.declared.hands.Turns.{Turns}
 use Rattle.turn_table.specs.declared.hands.Hand.{Hand}
 use Rattle.ng_bencode.specs.Tree.{Entries}
-use Rattle.ng_command.specs.Said as said
+use Rattle.ng_command.specs.Meanings as said
 use Rattle.ng_command.specs.declared.command.Command.{Command}
 use Rattle.ng_reply.specs.declared.code.ErrorCode.{ErrorCode}
 use Rattle.sdes_lines.specs.declared.crypto_line.CryptoLine.{CryptoLine}
 use Rattle.call_board.specs.declared.board.Board.{Board}
 use Rattle.call_board.specs.Acts as act
 use Rattle.call_board.specs.Acts.{Call, BoardEntry}
-use Rattle.call_board.specs.Asked.{Reads, command_in}
-use Rattle.call_board.specs.Boards.{Shows}
+use Rattle.call_board.specs.Requests.{ReadsBody, command_in}
+use Rattle.call_board.specs.Boards.{BoardMatches}
 use Rattle.call_board.specs.Calls.{live}
-use Rattle.call_board.specs.Fits.{Hears}
+use Rattle.call_board.specs.Fits.{ReadsRequest}
 use Rattle.call_board.specs.Replies.{Fault, Pong, Listed, reply_datagram}
-use Rattle.call_board.specs.Views.{View, CallView, call_view, view_of, at_moment}
+use Rattle.call_board.specs.Views.{View, CallView, call_view, view_of, view_at_moment}
 use Rattle.call_board.proofs.Done.{with_reply, failed_due, ping_due, listed_due}
 use Rattle.relay_core.specs.declared.part.Part.{Part}
 use Rattle.relay_core.specs.Entries.{board_history}
-use Rattle.relay_core.specs.Made.{Made}
-use Rattle.relay_core.specs.Turning.{made_by}
+use Rattle.relay_core.specs.Records.{Made}
+use Rattle.relay_core.specs.Turns.{made_by}
 use Rattle.board_turns.specs.declared.board_turn.BoardEntryId.{BoardEntryId}
-use Rattle.board_turns.specs.Acting.{InTurn}
+use Rattle.board_turns.specs.Acts.{InTurn}
 use Rattle.control_messages.specs.declared.request.Request.{Request}
 use Rattle.control_messages.specs.Bodies.{said_by, description_in}
 use Rattle.board_turns.specs.declared.device_answers.DeviceAnswers.TheVariants.{Nothing}
 use Rattle.board_turns.specs.declared.command_outcome.CommandOutcome.{CommandOutcome}
 use Rattle.board_turns.specs.Controls.{unanswered}
-use Rattle.board_turns.specs.Carrying.{hearing_as, hearing_by, Carries}
-use Rattle.board_turns.specs.Telling.{IsAnew, IsAsking, Tells}
+use Rattle.board_turns.specs.Commands.{record_as, record_by, ExecutesCommand}
+use Rattle.board_turns.specs.PlainReplies.{IsAnew, IsAsking, Tells}
 use Rattle.board_turns.proofs.Asking.{asks_so, asks_faulty}
 use Rattle.board_turns.proofs.Tellings.{tells_carries}
 
@@ -52,7 +52,7 @@ not_long : (long : Bool) (pairs : Option Entries) (says : said.Said) → command
 not_long true pairs says is = absurd cc
 not_long false pairs says is = refl
 
-pub is_asking : (request : Request) (pairs : Option Entries) (says : said.Said) → (request.too_long ≡ false → Reads request.body.now pairs) → command_in request.too_long pairs ≡ Ok says
+pub is_asking : (request : Request) (pairs : Option Entries) (says : said.Said) → (request.too_long ≡ false → ReadsBody request.body.now pairs) → command_in request.too_long pairs ≡ Ok says
     → IsAsking request pairs says
 is_asking request pairs says reads is =
     let short = not_long request.too_long pairs says is in
@@ -89,46 +89,46 @@ call_ids h (c ∷ calls) = ap (λ (ids : List (List ℕ)). c.id ∷ ids) (call_i
 module _ {M I O T : Type 0} {g : _} where
   -- the reply to a datagram that is too long, or whose dictionary or keys are faulty, is its error
   pub faulty_carries : (config : Config) (turns : Turns M (Part I O) Made T) (hand : Hand M (Part I O) Made T g) (entry_id : BoardEntryId) (request : Request) (pairs : Option Entries)
-      (chosen : List (Option CryptoLine)) (code : ErrorCode) (done : CommandOutcome) (board : Board) (told : Option (List PortCall))
-      → InTurn config turns hand entry_id board told → IsAnew (board_history (made_by hand) entry_id.number) entry_id.moment request
-      → (request.too_long ≡ false → Reads request.body.now pairs) → command_in request.too_long pairs ≡ Err code
+      (chosen : List (Option CryptoLine)) (code : ErrorCode) (done : CommandOutcome) (board : Board) (log : Option (List PortCall))
+      → InTurn config turns hand entry_id board log → IsAnew (board_history (made_by hand) entry_id.number) entry_id.moment request
+      → (request.too_long ≡ false → ReadsBody request.body.now pairs) → command_in request.too_long pairs ≡ Err code
       → Tells chosen (reply_datagram config request.cookie.now request.body.now (Fault code)) done
-      → Carries config hand hand entry_id (hearing_by request pairs done) done.reply board told
-  faulty_carries config turns hand entry_id request pairs chosen code done board told turn anew reads is tells =
+      → ExecutesCommand config hand hand entry_id (record_by request pairs done) done.reply board log
+  faulty_carries config turns hand entry_id request pairs chosen code done board log turn anew reads is tells =
       let h = board_history (made_by hand) entry_id.number in
-      let c = unanswered (hearing_as request pairs chosen Nothing) in
+      let c = unanswered (record_as request pairs chosen Nothing) in
       let is_asked = asks_faulty config request.too_long pairs code is in
-      tells_carries config turns hand entry_id request pairs chosen (with_reply config c (Fault code) (act.Failed code)) done board told turn anew reads
+      tells_carries config turns hand entry_id request pairs chosen (with_reply config c (Fault code) (act.Failed code)) done board log turn anew reads
       (failed_due config h entry_id.moment c code (record { nothing_kept = anew.not_kept; not_out_of_memory = refl; is_asked = is_asked })) refl refl
-      (λ heard. subst (λ r. Hears h c r) (sym is_asked) tt) tells
+      (λ heard. subst (λ r. ReadsRequest h c r) (sym is_asked) tt) tells
 
   -- the reply to a ping
   pub ping_carries : (config : Config) (turns : Turns M (Part I O) Made T) (hand : Hand M (Part I O) Made T g) (entry_id : BoardEntryId) (request : Request) (pairs : Option Entries)
-      (chosen : List (Option CryptoLine)) (done : CommandOutcome) (board : Board) (told : Option (List PortCall))
-      → InTurn config turns hand entry_id board told → IsAnew (board_history (made_by hand) entry_id.number) entry_id.moment request
-      → (request.too_long ≡ false → Reads request.body.now pairs) → command_in request.too_long pairs ≡ Ok said.Ping
+      (chosen : List (Option CryptoLine)) (done : CommandOutcome) (board : Board) (log : Option (List PortCall))
+      → InTurn config turns hand entry_id board log → IsAnew (board_history (made_by hand) entry_id.number) entry_id.moment request
+      → (request.too_long ≡ false → ReadsBody request.body.now pairs) → command_in request.too_long pairs ≡ Ok said.Ping
       → Tells chosen (reply_datagram config request.cookie.now request.body.now Pong) done
-      → Carries config hand hand entry_id (hearing_by request pairs done) done.reply board told
-  ping_carries config turns hand entry_id request pairs chosen done board told turn anew reads is tells =
+      → ExecutesCommand config hand hand entry_id (record_by request pairs done) done.reply board log
+  ping_carries config turns hand entry_id request pairs chosen done board log turn anew reads is tells =
       let h = board_history (made_by hand) entry_id.number in
-      let c = unanswered (hearing_as request pairs chosen Nothing) in
-      tells_carries config turns hand entry_id request pairs chosen (with_reply config c Pong act.Told) done board told turn anew reads
+      let c = unanswered (record_as request pairs chosen Nothing) in
+      tells_carries config turns hand entry_id request pairs chosen (with_reply config c Pong act.Told) done board log turn anew reads
       (ping_due config h entry_id.moment c (record { nothing_kept = anew.not_kept; not_out_of_memory = refl; is_asked = asks_so config request.too_long pairs said.Ping is refl })) refl refl
       (λ heard. absurd (let k : false ≡ true = heard in cc)) tells
 
   -- the reply to a list
   pub list_carries : (config : Config) (turns : Turns M (Part I O) Made T) (hand : Hand M (Part I O) Made T g) (entry_id : BoardEntryId) (request : Request) (pairs : Option Entries)
-      (limit : ℕ) (done : CommandOutcome) (board : Board) (told : Option (List PortCall))
-      → InTurn config turns hand entry_id board told → IsAnew (board_history (made_by hand) entry_id.number) entry_id.moment request
-      → (request.too_long ≡ false → Reads request.body.now pairs) → command_in request.too_long pairs ≡ Ok (said.Listing limit)
-      → ((config : Config) (v : View) → Shows config board v → Tells [] (reply_datagram config request.cookie.now request.body.now (Listed (take limit (map (λ (c : CallView). c.of.id) v.calls)))) done)
-      → Carries config hand hand entry_id (hearing_by request pairs done) done.reply board told
-  list_carries config turns hand entry_id request pairs limit done board told turn anew reads is tells =
+      (limit : ℕ) (done : CommandOutcome) (board : Board) (log : Option (List PortCall))
+      → InTurn config turns hand entry_id board log → IsAnew (board_history (made_by hand) entry_id.number) entry_id.moment request
+      → (request.too_long ≡ false → ReadsBody request.body.now pairs) → command_in request.too_long pairs ≡ Ok (said.Listing limit)
+      → ((config : Config) (v : View) → BoardMatches config board v → Tells [] (reply_datagram config request.cookie.now request.body.now (Listed (take limit (map (λ (c : CallView). c.of.id) v.calls)))) done)
+      → ExecutesCommand config hand hand entry_id (record_by request pairs done) done.reply board log
+  list_carries config turns hand entry_id request pairs limit done board log turn anew reads is tells =
       let h = board_history (made_by hand) entry_id.number in
-      let c = unanswered (hearing_as request pairs [] Nothing) in
+      let c = unanswered (record_as request pairs [] Nothing) in
       let ids : List (List ℕ) = take limit (map (λ (call : Call). call.id) (live h)) in
-      tells_carries config turns hand entry_id request pairs [] (with_reply config c (Listed ids) act.Told) done board told turn anew reads
+      tells_carries config turns hand entry_id request pairs [] (with_reply config c (Listed ids) act.Told) done board log turn anew reads
       (listed_due config h entry_id.moment c limit (record { nothing_kept = anew.not_kept; not_out_of_memory = refl; is_asked = asks_so config request.too_long pairs (said.Listing limit) is refl })) refl refl
       (λ heard. absurd (let k : false ≡ true = heard in cc))
       (subst (λ (names : List (List ℕ)). Tells [] (reply_datagram config request.cookie.now request.body.now (Listed (take limit names))) done) (call_ids h (live h))
-      (tells config (at_moment (view_of config h) entry_id.moment) turn.shows))
+      (tells config (view_at_moment (view_of config h) entry_id.moment) turn.shows))

@@ -3,7 +3,7 @@ use Rattle.std.proofs.Common.{◌≡◌, ◌≤◌, ◌∙◌, refl, sym, ap, su
 use Rattle.std.proofs.lemmas.List.{take_at}
 use Rattle.std.specs.Prelude.{Result, Ok, Err, nat_lt}
 use Rattle.ng_frame.specs.Frame.{frame, IsFrame}
-use Rattle.relay_outside.specs.Told.{Gains, Gained, HasCause, Rose, is_done}
+use Rattle.relay_outside.specs.DeviceLogs.{Gains, Gained, HasCause, Rose, is_done}
 use Rattle.relay_outside.specs.declared.address.Addr.{Addr}
 use Rattle.relay_outside.specs.declared.answers.Failed.{Failed}
 use Rattle.relay_outside.specs.declared.answers.Taken.{Taken}
@@ -20,15 +20,15 @@ use Rattle.relay_outside.proofs.Telling.{gained_none, gained_one, gained_both}
 use Rattle.turn_table.specs.declared.hands.Hand.{Hand}
 use Rattle.call_board.specs.Acts.{BoardEntry}
 use Rattle.relay_core.specs.declared.part.Part.{Part}
-use Rattle.relay_core.specs.Made.{Made}
-use Rattle.relay_core.specs.Turning.{made_by}
+use Rattle.relay_core.specs.Records.{Made}
+use Rattle.relay_core.specs.Turns.{made_by}
 use Rattle.board_turns.specs.Between.{board_of}
 use Rattle.control_messages.specs.declared.request.Request.{Request}
-use Rattle.board_turns.specs.Controls.{Hearing, control_of, moment_at}
-use Rattle.ng_server.specs.declared.taking.ControlTurn.{ControlTurn}
-use Rattle.ng_server.specs.declared.taking.ControlTurn.TheVariants as turn
-use Rattle.ng_server.specs.Turning.{Answers, IsRequest}
-use Rattle.ng_server.specs.Taking.{is_answered, turn_after, is_too_long, EndsAs, TakesDatagram, TakesNone, Exchanged, DidReply, DidFollow, DidTurn, Responded, Turned}
+use Rattle.board_turns.specs.Controls.{RequestRecord, control_of, moment_at}
+use Rattle.ng_server.specs.declared.control_turn.ControlTurn.{ControlTurn}
+use Rattle.ng_server.specs.declared.control_turn.ControlTurn.TheVariants as turn
+use Rattle.ng_server.specs.Datagrams.{AnswersInTurn, IsRequest}
+use Rattle.ng_server.specs.ControlTurns.{is_answered, turn_after, is_too_long, EndsAs, TakesDatagram, TakesNoDatagram, Exchanged, DidReply, DidFollow, DidTurn, Responded, Turned}
 
 -- a datagram with a frame is a request
 pub is_request : (datagram : List ℕ) (request : Request) → IsFrame datagram request.cookie.now request.body.now → frame datagram ≡ Some (request.cookie.now, request.body.now)
@@ -43,7 +43,7 @@ after_is_answered : (answer : ControlTurn) (done : Bool) → answer ≡ turn_aft
 after_is_answered answer true e = ap is_answered e
 after_is_answered answer false e = ap is_answered e
 
-exchanged_so : (config : Config) (h : List BoardEntry) (now : ℕ) (from : Addr) (request : Request) (too_long : Bool) (answer : ControlTurn) (x : Hearing) (done : Bool)
+exchanged_so : (config : Config) (h : List BoardEntry) (now : ℕ) (from : Addr) (request : Request) (too_long : Bool) (answer : ControlTurn) (x : RequestRecord) (done : Bool)
     → x.source ≡ request.source → x.cookie ≡ request.cookie.now → x.body ≡ request.body.now → x.too_long ≡ request.too_long
     → request.source ≡ from → request.too_long ≡ too_long → answer ≡ turn_after done
     → Exchanged config h now from (request.cookie.now, request.body.now) too_long answer x (call.Send request.source (control_of config h (moment_at h now) x).reply done ∷ [])
@@ -73,7 +73,7 @@ module _ {M I O T : Type 0} {g : _} where
   pub responded : (config : Config) (old new : Hand M (Part I O) Made T g) (now : ℕ) (from : Addr) (datagram : List ℕ) (request : Request) (answer : ControlTurn)
       (sent : Result (Unit {0}) Failed) (ports ports_now keys keys_now : ℕ) (opened opened_now : Option (List PortCall)) (drew drew_now : Option (List KeyCall)) (before after : Option (List LinkCall))
       → frame datagram ≡ Some (request.cookie.now, request.body.now) → request.source ≡ from → request.too_long ≡ is_too_long datagram → answer ≡ turn_after (is_done sent)
-      → Answers config old new request now sent ports ports_now keys keys_now opened opened_now drew drew_now before after → Responded config old new now from datagram answer ports ports_now keys keys_now opened opened_now drew drew_now before after
+      → AnswersInTurn config old new request now sent ports ports_now keys keys_now opened opened_now drew drew_now before after → Responded config old new now from datagram answer ports ports_now keys keys_now opened opened_now drew drew_now before after
   responded config old new now from datagram request answer sent ports ports_now keys keys_now opened opened_now drew drew_now before after framed source_is length_is answer_is a =
       let h = board_of (made_by old) in
       let x = a.hearing in
@@ -144,7 +144,7 @@ module _ {M I O T : Type 0} {g : _} where
 
   -- no datagram was taken
   pub took_none : (config : Config) (hand : Hand M (Part I O) Made T g) (now : ℕ) (answer : ControlTurn) (ports ports_now keys keys_now : ℕ) (opened : Option (List PortCall)) (drew : Option (List KeyCall))
-      (before after : Option (List LinkCall)) → TakesNone answer before after → Turned config hand hand now answer ports ports_now keys keys_now opened opened drew drew before after
+      (before after : Option (List LinkCall)) → TakesNoDatagram answer before after → Turned config hand hand now answer ports ports_now keys keys_now opened opened drew drew before after
   took_none config hand now answer ports ports_now keys keys_now opened drew before after takes =
       turned_alone config hand now answer ports ports_now keys keys_now opened drew before after takes.gave (ends_unanswered takes.gave answer takes.ends)
       (ends_followed config (board_of (made_by hand)) now takes.gave answer takes.ends) takes.gains
@@ -157,7 +157,7 @@ takes_datagram room result buf from len before after room_is e gains =
 
 -- a take that gave none
 pub takes_none : (room : ℕ) (result without : Result Taken Failed) (buf : List ℕ) (answer : ControlTurn) (before after : Option (List LinkCall)) → room ≡ 16385 → result ≡ without
-    → EndsAs (link_given without buf) answer → Gains before after (call.Take room (link_given result buf)) → TakesNone answer before after
+    → EndsAs (link_given without buf) answer → Gains before after (call.Take room (link_given result buf)) → TakesNoDatagram answer before after
 takes_none room result without buf answer before after room_is e ends gains = record {
   gave = link_given without buf;
   ends = ends;

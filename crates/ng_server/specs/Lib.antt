@@ -1,6 +1,6 @@
-pub mod Sending
-pub mod Dealing
-pub mod Turning
-pub mod Taking
+pub mod SentReplies
+pub mod Requests
+pub mod Datagrams
+pub mod ControlTurns
 pub mod Servers
 pub mod Errors

@@ -1,29 +1,29 @@
 ghost use Rattle.std.specs.Prelude.{◌≡◌, ◌≤◌, ◌≢◌, List, [], map, length, take, IfOk, IfErr};
-ghost use Rattle.relay_outside.specs.Told.{Gained, Rose, is_done};
+ghost use Rattle.relay_outside.specs.DeviceLogs.{Gained, Rose, is_done};
 ghost use Rattle.relay_outside.specs.declared.settings.Config.{Config};
 ghost use Rattle.turn_table.specs.Hands.{IsSameHand, IsHandOf, HasNoTurn, parts, starts, entries};
 ghost use Rattle.call_board.specs.Calls.{live};
 ghost use Rattle.relay_core.specs.Entries.{Entry};
 ghost use Rattle.relay_core.specs.Legal.{Orderly, Legal};
 ghost use Rattle.relay_core.specs.Safe.{BoardSafe, Safe};
-ghost use Rattle.relay_core.specs.Made.{told};
-ghost use Rattle.relay_core.specs.Turning.{made_by};
-ghost use Rattle.relay_core.specs.Beginning.{AreParts};
-ghost use Rattle.relay_core.specs.Joining.{IsSound, AreStanding};
-ghost use Rattle.relay_core.specs.Timed.{AreTimed};
-ghost use Rattle.relay_core.specs.Told.{InOrder, InsAreTold, OutsAreTold};
-ghost use Rattle.media_ports.specs.Asked.{OpensNone};
-ghost use Rattle.media_ports.specs.Held.{TellsHeld};
+ghost use Rattle.relay_core.specs.Records.{as_logged};
+ghost use Rattle.relay_core.specs.Turns.{made_by};
+ghost use Rattle.relay_core.specs.FirstPlaces.{AreParts};
+ghost use Rattle.relay_core.specs.Joins.{IsSound, AreStanding};
+ghost use Rattle.relay_core.specs.RowMoments.{AreTimed};
+ghost use Rattle.relay_core.specs.EndLogs.{InOrder, InsAreTold, OutsAreTold};
+ghost use Rattle.media_ports.specs.Openings.{NoneOpened};
+ghost use Rattle.media_ports.specs.OpenPorts.{LogsHeld};
 ghost use Rattle.board_turns.specs.Between.{IsBetween, MakesTurn};
-ghost use Rattle.board_turns.specs.Stopping.{stop_entry};
-ghost use Rattle.board_turns.specs.Ticking.{Ticks};
-ghost use Rattle.ng_server.specs.Taking.{TakesDatagram, TakesNone, Turned, turn_after};
+ghost use Rattle.board_turns.specs.Stops.{stop_entry};
+ghost use Rattle.board_turns.specs.Ticks.{Ticks};
+ghost use Rattle.ng_server.specs.ControlTurns.{TakesDatagram, TakesNoDatagram, Turned, turn_after};
 ghost use Rattle.ng_server.specs.Servers.{OpensJust, history_of};
-ghost use Rattle.board_turns.specs.Ties.{Ties};
+ghost use Rattle.board_turns.specs.Ties.{PortsFollowRows};
 
+use crate::control_turn::ControlTurn;
+use crate::datagram::{Arrived, answer_datagram};
 use crate::desk::{DATAGRAM_ROOM, Desk};
-use crate::taking::ControlTurn;
-use crate::turn::{Arrived, answer_datagram};
 use board_turns::{Between, stop_turn, tick_turn};
 use control_messages::Request;
 use ng_frame::split;
@@ -69,8 +69,8 @@ fn take_datagram<N: ControlLink>(
 ) -> Result<(Addr, usize), ControlTurn>
     requires { length room.old ≡ DATAGRAM_ROOM }
     ensures within { IfOk result (λ taken. taken.1 ≤ length room.new) }
-    ensures taken { IfOk result (λ taken. TakesDatagram taken.0 (take taken.1 room.new) (N.told link.old) (N.told link.new)) }
-    ensures none { IfErr result (λ turn. TakesNone turn (N.told link.old) (N.told link.new)) }
+    ensures taken { IfOk result (λ taken. TakesDatagram taken.0 (take taken.1 room.new) (N.log link.old) (N.log link.new)) }
+    ensures none { IfErr result (λ turn. TakesNoDatagram turn (N.log link.old) (N.log link.new)) }
     ensures read_fault { IfErr result (λ turn. turn ≡ ControlTurn.ReadFault → Rose (N.faults link.old) (N.faults link.new)) }
     ensures later { N.faults link.old ≤ N.faults link.new }
 {
@@ -138,15 +138,15 @@ impl<P: PortMaker> Server<P> {
         now: u64,
     ) -> ControlTurn
         requires between { IsBetween self.now.config self.now.turns hand.old }
-        requires open { OpensJust self.now.config (history_of hand.old) (P.told ports.old) }
+        requires open { OpensJust self.now.config (history_of hand.old) (P.log ports.old) }
         ensures same { IsSameHand hand.old hand.new }
         ensures between { IsBetween self.now.config self.now.turns hand.new }
         ensures safe { BoardSafe self.now.config (made_by hand.new) }
-        ensures open { OpensJust self.now.config (history_of hand.new) (P.told ports.new) }
-        ensures turned { Turned self.now.config hand.old hand.new now result (P.faults ports.old) (P.faults ports.new) (K.faults keys.old) (K.faults keys.new) (P.told ports.old) (P.told ports.new) (K.told keys.old) (K.told keys.new) (N.told link.old) (N.told link.new) }
+        ensures open { OpensJust self.now.config (history_of hand.new) (P.log ports.new) }
+        ensures turned { Turned self.now.config hand.old hand.new now result (P.faults ports.old) (P.faults ports.new) (K.faults keys.old) (K.faults keys.new) (P.log ports.old) (P.log ports.new) (K.log keys.old) (K.log keys.new) (N.log link.old) (N.log link.new) }
         ensures read_fault { result ≡ ControlTurn.ReadFault → Rose (N.faults link.old) (N.faults link.new) }
         ensures reply_fault { result ≡ ControlTurn.ReplyFault → Rose (N.faults link.old) (N.faults link.new) }
-        ensures ties { Ties self.now.config (P.told ports.old) (P.told ports.new) (entries hand.old) (entries hand.new) }
+        ensures ties { PortsFollowRows self.now.config (P.log ports.old) (P.log ports.new) (entries hand.old) (entries hand.new) }
         ensures later { (N.faults link.old ≤ N.faults link.new) × (P.faults ports.old ≤ P.faults ports.new) × (K.faults keys.old ≤ K.faults keys.new) }
     {
         let (from, len) = match take_datagram(link, desk.datagram.as_mut_slice()) {
@@ -189,14 +189,14 @@ impl<P: PortMaker> Server<P> {
         ports: &mut P,
     ) -> usize
         requires between { IsBetween self.now.config self.now.turns hand.old }
-        requires open { OpensJust self.now.config (history_of hand.old) (P.told ports.old) }
+        requires open { OpensJust self.now.config (history_of hand.old) (P.log ports.old) }
         ensures same { IsSameHand hand.old hand.new }
         ensures between { IsBetween self.now.config self.now.turns hand.new }
         ensures makes { MakesTurn self.now.config hand.old hand.new (stop_entry (history_of hand.old)) }
         ensures count { result ≡ length (live (history_of hand.old)) }
-        ensures shut { TellsHeld self.now.config (P.told ports.new) [] }
-        ensures closes { Gained (P.told ports.old) (P.told ports.new) OpensNone }
-        ensures ties { Ties self.now.config (P.told ports.old) (P.told ports.new) (entries hand.old) (entries hand.new) }
+        ensures shut { LogsHeld self.now.config (P.log ports.new) [] }
+        ensures closes { Gained (P.log ports.old) (P.log ports.new) NoneOpened }
+        ensures ties { PortsFollowRows self.now.config (P.log ports.old) (P.log ports.new) (entries hand.old) (entries hand.new) }
         ensures later { P.faults ports.old ≤ P.faults ports.new }
     {
         let mut at = Between {
@@ -224,14 +224,14 @@ impl<P: PortMaker> Server<P> {
         now: u64,
     ) -> usize
         requires between { IsBetween self.now.config self.now.turns hand.old }
-        requires open { OpensJust self.now.config (history_of hand.old) (P.told ports.old) }
+        requires open { OpensJust self.now.config (history_of hand.old) (P.log ports.old) }
         ensures same { IsSameHand hand.old hand.new }
         ensures between { IsBetween self.now.config self.now.turns hand.new }
         ensures safe { BoardSafe self.now.config (made_by hand.new) }
-        ensures open { OpensJust self.now.config (history_of hand.new) (P.told ports.new) }
+        ensures open { OpensJust self.now.config (history_of hand.new) (P.log ports.new) }
         ensures ticks { Ticks self.now.config hand.old hand.new now result }
-        ensures closes { Gained (P.told ports.old) (P.told ports.new) OpensNone }
-        ensures ties { Ties self.now.config (P.told ports.old) (P.told ports.new) (entries hand.old) (entries hand.new) }
+        ensures closes { Gained (P.log ports.old) (P.log ports.new) NoneOpened }
+        ensures ties { PortsFollowRows self.now.config (P.log ports.old) (P.log ports.new) (entries hand.old) (entries hand.new) }
         ensures later { P.faults ports.old ≤ P.faults ports.new }
     {
         let mut at = Between {
@@ -256,7 +256,7 @@ impl<P: PortMaker> Server<P> {
         requires sound { IsSound self.config (entries hand) }
         ensures length { length result.items ≡ length (starts hand) }
         ensures states { AreStanding self.config result.items (made_by hand) }
-        ensures legal { (l : List Entry) × (map told l ≡ made_by hand) × Legal self.config l × Safe self.config l × OutsAreTold (entries hand) l }
+        ensures legal { (l : List Entry) × (map as_logged l ≡ made_by hand) × Legal self.config l × Safe self.config l × OutsAreTold (entries hand) l }
         ensures ins { InOrder (made_by hand) → InsAreTold self.config (entries hand) }
         ensures timed { AreTimed (entries hand) }
     {

@@ -7,10 +7,10 @@ use Rattle.port_pool.specs.declared.holder.Side.{Side}
 use Rattle.offer_answer.specs.Rounds.{Round}
 use Rattle.offer_answer.specs.Sides.{MadeOffer, is_begun, has_answer, is_settled, first_tag, answering_tag, last_offer, maker}
 use Rattle.offer_answer.specs.Sections.{most_sections, no_section, section_count, section_in, sections_of, is_active, is_active_in, has_pairs, is_committed, committed_count}
-use Rattle.offer_answer.specs.Profiles.{profile_offered, profile_in_force, written}
+use Rattle.offer_answer.specs.Profiles.{profile_offered, profile_in_force, written_profile}
 use Rattle.offer_answer.specs.Keys.{chosen_in, leg_key, key_in_force, offered_lines}
 use Rattle.offer_answer.specs.Texts.{standing_port}
-use Rattle.offer_answer.specs.Plan.{OfferHeard}
+use Rattle.offer_answer.specs.Plan.{OfferRead}
 use Rattle.offer_answer.specs.LastOffers.{MadeFor, LastFor, OfferKept}
 use Rattle.offer_answer.specs.Dialogs.{LegFor, SectionFor, DialogFor, leg_at}
 use Rattle.offer_answer.specs.declared.leg.Leg.{Leg}
@@ -37,7 +37,7 @@ pub record AlikeSections (config : Config) (rounds others : List Round) (section
 pub record AlikeMade (offer other : MadeOffer) (section : ℕ) : Type 0 where
   pub section_is : section_in offer.ask.sdp section ≡ section_in other.ask.sdp section
   pub line_is : chosen_in offer.ask.chosen section ≡ chosen_in other.ask.chosen section
-  pub written_is : written offer.before offer.ask section ≡ written other.before other.ask section
+  pub written_is : written_profile offer.before offer.ask section ≡ written_profile other.before other.ask section
   pub lines_are : offered_lines offer.before offer.ask offer.keys section ≡ offered_lines other.before other.ask other.keys section
 
 -- the same is kept of two offers
@@ -47,7 +47,7 @@ pub record AlikeOffers (offer other : MadeOffer) : Type 0 where
   pub options_are : offer.ask.options ≡ other.ask.options
   pub count_is : section_count offer.ask.sdp ≡ section_count other.ask.sdp
   pub few : section_count other.ask.sdp ≤ most_sections
-  pub heard : OfferHeard other.ask
+  pub heard : OfferRead other.ask
   pub sections_are : (section : ℕ) → section < most_sections → AlikeMade offer other section
 
 abbrev pub AlikeLast : Option MadeOffer → Option MadeOffer → Type 0

@@ -16,11 +16,11 @@ use Rattle.port_pool.specs.Signals.{NewKey, side_eq, suite_eq, other_side}
 use Rattle.offer_answer.specs.Rounds.{Round, Offered, Answered, OfferAsk, AnswerAsk}
 use Rattle.offer_answer.specs.Sides.{MadeOffer, last_offer, is_settled, answering_tag, offerer, maker, offered_sdp}
 use Rattle.offer_answer.specs.Sections.{most_sections, section_count, section_in, is_active_in, leases, has_pairs, is_committed, leg_of}
-use Rattle.offer_answer.specs.Profiles.{is_srtp, is_srtp_leg, profile_offered, profile_in_force, profile_over, written}
+use Rattle.offer_answer.specs.Profiles.{is_srtp, is_srtp_leg, profile_offered, profile_in_force, profile_over, written_profile}
 use Rattle.offer_answer.specs.Keys.{chosen_in, chosen_by, is_for, leg_keys, key_among, leg_key, committed_line, committed_key, key_in_force, line_with, lines_of_keys, no_lines, offered_lines}
 use Rattle.offer_answer.specs.Signals.{is_rejected_by}
 use Rattle.offer_answer.specs.Texts.{standing_port}
-use Rattle.offer_answer.specs.Plan.{OfferHeard}
+use Rattle.offer_answer.specs.Plan.{OfferRead}
 use Rattle.offer_answer.specs.LastOffers.{OfferKept}
 use Rattle.offer_answer.specs.Dialogs.{DialogFor}
 use Rattle.offer_answer.specs.declared.last_offer.LastOffer.{LastOffer}
@@ -30,7 +30,7 @@ use Rattle.offer_answer.proofs.Alike.{AlikeLegs, AlikeSections, AlikeMade, Alike
 
 -- the offer of the round has no more sections than are kept, and its crypto lines are the chosen ones
 abbrev pub MayKeep : Round → Type 0
-MayKeep (Offered ask legs keys) = (section_count ask.sdp ≤ most_sections) × OfferHeard ask
+MayKeep (Offered ask legs keys) = (section_count ask.sdp ≤ most_sections) × OfferRead ask
 MayKeep (Answered ask) = Unit {0}
 
 -- What an offer asks.
@@ -46,7 +46,7 @@ in_force_alike config rounds others section side s = elim (cases_lt section most
   | inr past ↦ s.no_more section side past ∙ sym (s.none_more section side past)
 ]
 
-pub written_next : (config : Config) (rounds others : List Round) (ask : OfferAsk) (section : ℕ) → Alike config rounds others → written rounds ask section ≡ written others ask section
+pub written_next : (config : Config) (rounds others : List Round) (ask : OfferAsk) (section : ℕ) → Alike config rounds others → written_profile rounds ask section ≡ written_profile others ask section
 written_next config rounds others ask section s =
     ap (λ (side : Side). profile_over (profile_in_force rounds section (other_side side)) ask section) (offerer_alike rounds others ask s.answering_tag_is)
     ∙ ap (λ (p : Option Proto). profile_over p ask section) (in_force_alike config rounds others section (other_side (offerer others ask)) s)
@@ -71,7 +71,7 @@ among_alike config rounds others keys section side suite s =
 -- the lines that one side would be offered
 abbrev lines_for : List Round → OfferAsk → List NewKey → ℕ → Side → List (Option CryptoLine)
 lines_for rounds ask keys section side =
-    if is_active_in ask.sdp section && is_srtp (written rounds ask section)
+    if is_active_in ask.sdp section && is_srtp (written_profile rounds ask section)
     then lines_of_keys (key_in_force rounds section side) (filter (is_for section side) keys ++ leg_keys rounds section side)
     else no_lines
 
@@ -81,7 +81,7 @@ lines_next config rounds others ask keys section s below =
     ap (λ (side : Side). lines_for rounds ask keys section (other_side side)) (offerer_alike rounds others ask s.answering_tag_is)
     ∙ ap (λ (p : Proto). if is_active_in ask.sdp section && is_srtp p then lines_of_keys (key_in_force rounds section side) (filter (is_for section side) keys ++ leg_keys rounds section side) else no_lines)
     (written_next config rounds others ask section s)
-    ∙ ap (λ (ls : List (Option CryptoLine)). if is_active_in ask.sdp section && is_srtp (written others ask section) then ls else no_lines)
+    ∙ ap (λ (ls : List (Option CryptoLine)). if is_active_in ask.sdp section && is_srtp (written_profile others ask section) then ls else no_lines)
     (lines_alike (key_in_force rounds section side) (key_in_force others section side) (filter (is_for section side) keys ++ leg_keys rounds section side)
     (filter (is_for section side) keys ++ leg_keys others section side) leg.key_in_force_is
     (among_alike config rounds others keys section side Tag80 leg) (among_alike config rounds others keys section side Tag32 leg))
@@ -195,7 +195,7 @@ none_after_offer rounds ask legs keys section side none = go (is_committed (Offe
     go false = refl
 
 alike_after_offer : (config : Config) (rounds others : List Round) (ask : OfferAsk) (legs : List Holder) (keys : List NewKey) → Alike config rounds others →
-    section_count ask.sdp ≤ most_sections → OfferHeard ask → Alike config (Offered ask legs keys ∷ rounds) (Offered ask legs keys ∷ others)
+    section_count ask.sdp ≤ most_sections → OfferRead ask → Alike config (Offered ask legs keys ∷ rounds) (Offered ask legs keys ∷ others)
 alike_after_offer config rounds others ask legs keys s few heard = record {
   begun_is = refl;
   first_tag_is = ap (λ (o : Option (List ℕ)). or_else o (Some ask.from_tag)) s.first_tag_is;

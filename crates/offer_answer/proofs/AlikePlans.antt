@@ -12,8 +12,8 @@ use Rattle.sdp_text.specs.Lines.{lines_of}
 use Rattle.sdp_text.specs.declared.proto.Proto.{Proto}
 use Rattle.sdp_text.specs.declared.section.Section.{Section}
 use Rattle.sdp_edit.specs.declared.edits.SectionEdit.{SectionEdit}
-use Rattle.sdp_edit.specs.Choosing.{IsOffered, IsFirstOf, section_lines}
-use Rattle.sdp_edit.specs.Editing.{edited}
+use Rattle.sdp_edit.specs.ChosenLines.{IsOffered, IsFirstOf, section_lines}
+use Rattle.sdp_edit.specs.EditedText.{edited}
 use Rattle.ng_command.specs.declared.command.Options.{Options}
 use Rattle.ng_reply.specs.declared.code.ErrorCode.{ErrorCode}
 use Rattle.ng_reply.specs.declared.code.ErrorCode.TheVariants.{E8, E10, E11, E12}
@@ -26,13 +26,13 @@ use Rattle.port_pool.specs.Signals.{NewKey, side_eq, other_side}
 use Rattle.offer_answer.specs.Rounds.{Round, OfferAsk, AnswerAsk, NewLeg, KeyPlace}
 use Rattle.offer_answer.specs.Sides.{MadeOffer, is_begun, is_settled, is_tag_of, is_some_sides, last_offer, offerer, maker}
 use Rattle.offer_answer.specs.Sections.{most_sections, section_count, section_in, all_sections, active_sections, is_active_in, has_pairs, is_committed, committed_count}
-use Rattle.offer_answer.specs.Profiles.{is_srtp, written}
-use Rattle.offer_answer.specs.Keys.{chosen_in, leg_key, key_in_force, place_of, missing_keys, offerers_suites, others_suites, section_keys, line_with, no_lines, offered_lines, committed_line, committed_key}
+use Rattle.offer_answer.specs.Profiles.{is_srtp, written_profile}
+use Rattle.offer_answer.specs.Keys.{chosen_in, leg_key, key_in_force, key_place_of, missing_keys, offerers_suites, others_suites, section_keys, line_with, no_lines, offered_lines, committed_line, committed_key}
 use Rattle.offer_answer.specs.Demands.{legs_for, new_leg, new_active_sections, new_legs, new_keys, is_dropped, dropped_sections}
 use Rattle.offer_answer.specs.Faults.{lacks_line, may_answer, takes_no_line, fault_of_answer_to}
 use Rattle.offer_answer.specs.Signals.{is_rejected_by, leg_signal, side_signal, section_signal, answer_signal}
 use Rattle.offer_answer.specs.Texts.{edit_with, interface_host, standing_port, new_port, offered_port, offer_section, answered_port, answering_line, answered_lines, answer_section}
-use Rattle.offer_answer.specs.Plan.{offer_fault, demand, answer_fault, signal, offer_text, answer_text, tag, is_side, protocol, AnswerHeard}
+use Rattle.offer_answer.specs.Plan.{offer_fault, demand, answer_fault, signal, offer_text, answer_text, tag, is_side, protocol, AnswerRead}
 use Rattle.offer_answer.proofs.Numbers.{in-numbers, in-filter}
 use Rattle.offer_answer.proofs.Written.{map-alike, section-is}
 use Rattle.offer_answer.proofs.Alike.{AlikeLegs, AlikeSections, AlikeOffers, AlikeLast, Alike, section_alike, inactive_past, inactive_beyond, active_alike}
@@ -112,15 +112,15 @@ module _ (config : Config) (rounds others : List Round) (ask : OfferAsk) (s : Al
   missing_alike : (section : ℕ) (side : Side) (suites : List Suite) → AlikeSections config rounds others section →
       missing_keys rounds section side suites ≡ missing_keys others section side suites
   missing_alike section side suites a =
-      ap (map (place_of section side))
+      ap (map (key_place_of section side))
       (filter_alike (λ suite. is_none (leg_key rounds section side suite)) (λ suite. is_none (leg_key others section side suite)) suites
       (λ suite i. ap is_none ((a.legs_are side).keys_are suite)))
 
   suites_alike : (section : ℕ) → AlikeSections config rounds others section → others_suites rounds ask section ≡ others_suites others ask section
   suites_alike section a =
       ap (λ (p : Proto). if is_srtp p && is_none (key_in_force rounds section (other_side (offerer rounds ask))) then Tag80 ∷ Tag32 ∷ [] else []) (written_next config rounds others ask section s)
-      ∙ ap (λ (side : Side). if is_srtp (written others ask section) && is_none (key_in_force rounds section (other_side side)) then Tag80 ∷ Tag32 ∷ [] else []) side_is
-      ∙ ap (λ (o : Option NewKey). if is_srtp (written others ask section) && is_none o then Tag80 ∷ Tag32 ∷ [] else []) (a.legs_are (other_side (offerer others ask))).key_in_force_is
+      ∙ ap (λ (side : Side). if is_srtp (written_profile others ask section) && is_none (key_in_force rounds section (other_side side)) then Tag80 ∷ Tag32 ∷ [] else []) side_is
+      ∙ ap (λ (o : Option NewKey). if is_srtp (written_profile others ask section) && is_none o then Tag80 ∷ Tag32 ∷ [] else []) (a.legs_are (other_side (offerer others ask))).key_in_force_is
 
   keys_alike_in : (section : ℕ) → AlikeSections config rounds others section → section_keys rounds ask section ≡ section_keys others ask section
   keys_alike_in section a =
@@ -165,7 +165,7 @@ module _ (config : Config) (rounds others : List Round) (ask : OfferAsk) (s : Al
   section_text : (ports : List ℕ) (keys : List NewKey) (section : ℕ) → section < most_sections →
       offer_section config rounds ask ports keys section ≡ offer_section config others ask ports keys section
   section_text ports keys section below =
-      section-is (offered_port config rounds ask ports section) (offered_port config others ask ports section) (written rounds ask section) (written others ask section)
+      section-is (offered_port config rounds ask ports section) (offered_port config others ask ports section) (written_profile rounds ask section) (written_profile others ask section)
       (interface_host config) (interface_host config) (offered_lines rounds ask keys section) (offered_lines others ask keys section)
       (port_alike ports section (s.sections_are section below)) (written_next config rounds others ask section s) refl (lines_next config rounds others ask keys section s below)
 
@@ -185,14 +185,14 @@ may_alike config rounds others ask s =
 
 takes_alike : (offer other : MadeOffer) (ask : AnswerAsk) (section : ℕ) → AlikeOffers offer other → takes_no_line offer ask section ≡ takes_no_line other ask section
 takes_alike offer other ask section s =
-    ap (λ (b : Bool). b && is_active_in ask.sdp section && is_srtp (written offer.before offer.ask section) && is_none (chosen_in ask.chosen section))
+    ap (λ (b : Bool). b && is_active_in ask.sdp section && is_srtp (written_profile offer.before offer.ask section) && is_none (chosen_in ask.chosen section))
     (active_alike (Some offer) (Some other) section s)
     ∙ elim (cases_lt section most_sections) [
       | inl below ↦ ap (λ (p : Proto). is_active_in other.ask.sdp section && is_active_in ask.sdp section && is_srtp p && is_none (chosen_in ask.chosen section)) (s.sections_are section below).written_is
       | inr past ↦
           let out = inactive_past other.ask.sdp section s.few past in
-          ap (λ (b : Bool). b && is_active_in ask.sdp section && is_srtp (written offer.before offer.ask section) && is_none (chosen_in ask.chosen section)) out
-          ∙ sym (ap (λ (b : Bool). b && is_active_in ask.sdp section && is_srtp (written other.before other.ask section) && is_none (chosen_in ask.chosen section)) out)
+          ap (λ (b : Bool). b && is_active_in ask.sdp section && is_srtp (written_profile offer.before offer.ask section) && is_none (chosen_in ask.chosen section)) out
+          ∙ sym (ap (λ (b : Bool). b && is_active_in ask.sdp section && is_srtp (written_profile other.before other.ask section) && is_none (chosen_in ask.chosen section)) out)
     ]
 
 fault_to_alike : (offer other : MadeOffer) (ask : AnswerAsk) → AlikeOffers offer other → fault_of_answer_to offer ask ≡ fault_of_answer_to other ask
@@ -352,8 +352,8 @@ module _ (config : Config) (rounds others : List Round) (ask : AnswerAsk) (s : A
       none_there : (made : MadeOffer) (section : ℕ) → is_active_in made.ask.sdp section ≡ false → offered_lines made.before made.ask made.keys section ≡ no_lines
       none_there made section out = rw out refl
 
-  pub heard_alike : AnswerHeard rounds ask → AnswerHeard others ask
-  unfolding AnswerHeard
+  pub heard_alike : AnswerRead rounds ask → AnswerRead others ask
+  unfolding AnswerRead
   heard_alike heard = record {
     count = heard.count;
     first = λ section below.

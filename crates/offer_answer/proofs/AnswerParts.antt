@@ -7,8 +7,8 @@ use Rattle.histories.specs.Words.{numbers}
 use Rattle.relay_outside.specs.declared.settings.Config.{Config}
 use Rattle.sdes_lines.specs.declared.crypto_line.CryptoLine.{CryptoLine}
 use Rattle.sdp_text.specs.Lines.{lines_of}
-use Rattle.sdp_text.specs.Reading.{sections_in}
-use Rattle.sdp_edit.specs.Choosing.{section_lines, IsFirstOf, IsOffered}
+use Rattle.sdp_text.specs.Descriptions.{sections_in}
+use Rattle.sdp_edit.specs.ChosenLines.{section_lines, IsFirstOf, IsOffered}
 use Rattle.ng_command.specs.declared.command.Options.{Options}
 use Rattle.ng_reply.specs.declared.code.ErrorCode.TheVariants.{E8, E10, E11, E12}
 use Rattle.port_pool.specs.declared.holder.Side.{Side}
@@ -19,39 +19,39 @@ use Rattle.port_pool.specs.Signals.{side_eq}
 use Rattle.offer_answer.specs.Rounds.{Round, AnswerAsk}
 use Rattle.offer_answer.specs.Sides.{MadeOffer, is_settled, is_some_sides, last_offer, maker, offered_sdp}
 use Rattle.offer_answer.specs.Sections.{section_count, section_in, no_section, all_sections, is_active, is_active_in}
-use Rattle.offer_answer.specs.Profiles.{is_srtp, is_srtp_leg, profile_offered, written}
+use Rattle.offer_answer.specs.Profiles.{is_srtp, is_srtp_leg, profile_offered, written_profile}
 use Rattle.offer_answer.specs.Keys.{chosen_in, leg_key, committed_line, committed_key, no_lines, offered_lines, last_lines}
 use Rattle.offer_answer.specs.Signals.{is_rejected_by, leg_signal, side_signal, section_signal, answer_signal}
 use Rattle.offer_answer.specs.Faults.{may_answer, takes_no_line, fault_of_answer_to}
-use Rattle.offer_answer.specs.Plan.{AnswerHeard, answer_fault, signal}
-use Rattle.offer_answer.specs.Dialogs.{drawn_as, leg_at}
-use Rattle.offer_answer.specs.Answering.{IsLast, HearsAnswer, AnsweredAt, line_committed, key_for_line}
+use Rattle.offer_answer.specs.Plan.{AnswerRead, answer_fault, signal}
+use Rattle.offer_answer.specs.Dialogs.{drawn_for_leg, leg_at}
+use Rattle.offer_answer.specs.Answers.{IsLast, ReadsAnswer, AnsweredAt, line_committed, key_for_line}
 use Rattle.offer_answer.specs.declared.leg.DrawnKey.{DrawnKey}
 use Rattle.offer_answer.specs.declared.last_offer.LastOffer.{LastOffer}
-use Rattle.offer_answer.specs.declared.answered.AnsweredSection.{AnsweredSection}
+use Rattle.offer_answer.specs.declared.answered_section.AnsweredSection.{AnsweredSection}
 use Rattle.offer_answer.proofs.Offering.{past-end, numbers-next, numbers-end}
 use Rattle.offer_answer.proofs.Committing.{line-by, key-by}
 
 -- The sections of the answer.
 
-pub count-answered : (lines : List (List ℕ)) (rounds : List Round) (ask : AnswerAsk) → HearsAnswer lines rounds ask → section_count ask.sdp ≡ length (sections_in lines)
+pub count-answered : (lines : List (List ℕ)) (rounds : List Round) (ask : AnswerAsk) → ReadsAnswer lines rounds ask → section_count ask.sdp ≡ length (sections_in lines)
 count-answered lines rounds ask h = ap (λ ls. length (sections_in ls)) h.lines_are
 
 pub section-answered : (lines : List (List ℕ)) (sdp : List ℕ) (section : ℕ) → lines_of sdp ≡ lines → unwrap_or (slice_get (sections_in lines) section) no_section ≡ section_in sdp section
 section-answered lines sdp section e = sym (ap (λ (ls : List (List ℕ)). unwrap_or (slice_get (sections_in ls) section) no_section) e)
 
-pub taken-heard : (lines : List (List ℕ)) (rounds : List Round) (ask : AnswerAsk) (section : ℕ) (offered : List (Option CryptoLine)) → HearsAnswer lines rounds ask →
+pub taken-heard : (lines : List (List ℕ)) (rounds : List Round) (ask : AnswerAsk) (section : ℕ) (offered : List (Option CryptoLine)) → ReadsAnswer lines rounds ask →
     offered ≡ last_lines rounds section → section < length (sections_in lines) →
     IsFirstOf (IsOffered offered) (section_lines section lines) (chosen_in ask.chosen section)
-unfolding AnswerHeard
+unfolding AnswerRead
 taken-heard lines rounds ask section offered h e l =
     subst (λ (o : List (Option CryptoLine)). IsFirstOf (IsOffered o) (section_lines section lines) (chosen_in ask.chosen section)) (sym e)
     (subst (λ (ls : List (List ℕ)). IsFirstOf (IsOffered (last_lines rounds section)) (section_lines section ls) (chosen_in ask.chosen section)) h.lines_are
     (h.heard.first section (omega (arith, l, count-answered lines rounds ask h))))
 
-pub none-heard : (lines : List (List ℕ)) (rounds : List Round) (ask : AnswerAsk) (section : ℕ) → HearsAnswer lines rounds ask → length (sections_in lines) ≤ section →
+pub none-heard : (lines : List (List ℕ)) (rounds : List Round) (ask : AnswerAsk) (section : ℕ) → ReadsAnswer lines rounds ask → length (sections_in lines) ≤ section →
     None ≡ chosen_in ask.chosen section
-unfolding AnswerHeard
+unfolding AnswerRead
 none-heard lines rounds ask section h l =
     let past = past-end ask.chosen section (omega (arith, l, count-answered lines rounds ask h, h.heard.count)) in
     sym (ap (λ (o : Option (Option CryptoLine)). elim o [ None ↦ None | Some line ↦ line ]) past)
@@ -77,12 +77,12 @@ line-is config rounds offer ask section o from side a l e =
 
 pub key-is : (config : Config) (rounds : List Round) (offer : MadeOffer) (ask : AnswerAsk) (section : ℕ) (o : AnsweredSection) (from side : Side) →
     AnsweredAt config rounds offer ask section o → last_offer rounds ≡ Some offer → from ≡ maker offer →
-    option_map (drawn_as section side) (key_for_line (leg_at o.kept side) (line_committed o from side)) ≡ committed_key rounds ask section side
+    option_map (drawn_for_leg section side) (key_for_line (leg_at o.kept side) (line_committed o from side)) ≡ committed_key rounds ask section side
 key-is config rounds offer ask section o from side a l e =
     go (line_committed o from side)
     ∙ sym (key-by rounds ask section side (line_committed o from side) (sym (line-is config rounds offer ask section o from side a l e)))
   where
-    go : (line : Option CryptoLine) → option_map (drawn_as section side) (key_for_line (leg_at o.kept side) line)
+    go : (line : Option CryptoLine) → option_map (drawn_for_leg section side) (key_for_line (leg_at o.kept side) line)
         ≡ elim line [ None ↦ None | Some made ↦ leg_key rounds section side made.suite ]
     go None = refl
     go (Some line) = (a.kept_is.legs_are side).keys_are line.suite
@@ -99,27 +99,27 @@ by-side rounds offer ask section side own e =
 pub own-signal : (config : Config) (rounds : List Round) (offer : MadeOffer) (ask : AnswerAsk) (section : ℕ) (o : AnsweredSection) (last : LastOffer) (side : Side)
     (line : Option CryptoLine) (key : Option DrawnKey) → AnsweredAt config rounds offer ask section o → IsLast rounds offer last → side_eq side last.maker ≡ true →
     line ≡ line_committed o last.maker side → key ≡ key_for_line (leg_at o.kept side) (line_committed o last.maker side) →
-    leg_signal o.made.section last.options line (option_map (drawn_as section side) key) ≡ side_signal rounds offer ask section side
+    leg_signal o.made.section last.options line (option_map (drawn_for_leg section side) key) ≡ side_signal rounds offer ask section side
 own-signal config rounds offer ask section o last side line key a i own l k =
-    ap (λ s. leg_signal s last.options line (option_map (drawn_as section side) key)) a.made_is.section_is
-    ∙ ap (λ s. leg_signal (section_in offer.ask.sdp section) s line (option_map (drawn_as section side) key)) i.kept.options_are
-    ∙ ap (λ x. leg_signal (section_in offer.ask.sdp section) offer.ask.options x (option_map (drawn_as section side) key))
+    ap (λ s. leg_signal s last.options line (option_map (drawn_for_leg section side) key)) a.made_is.section_is
+    ∙ ap (λ s. leg_signal (section_in offer.ask.sdp section) s line (option_map (drawn_for_leg section side) key)) i.kept.options_are
+    ∙ ap (λ x. leg_signal (section_in offer.ask.sdp section) offer.ask.options x (option_map (drawn_for_leg section side) key))
     (l ∙ line-is config rounds offer ask section o last.maker side a i.offer_is i.kept.maker_is)
     ∙ ap (λ x. leg_signal (section_in offer.ask.sdp section) offer.ask.options (committed_line rounds ask section side) x)
-    (ap (option_map (drawn_as section side)) k ∙ key-is config rounds offer ask section o last.maker side a i.offer_is i.kept.maker_is)
+    (ap (option_map (drawn_for_leg section side)) k ∙ key-is config rounds offer ask section o last.maker side a i.offer_is i.kept.maker_is)
     ∙ sym (by-side rounds offer ask section side true (sym (ap (side_eq side) i.kept.maker_is) ∙ own))
 
 pub others-signal : (config : Config) (rounds : List Round) (offer : MadeOffer) (ask : AnswerAsk) (section : ℕ) (o : AnsweredSection) (last : LastOffer) (options : Options) (side : Side)
     (line : Option CryptoLine) (key : Option DrawnKey) → AnsweredAt config rounds offer ask section o → IsLast rounds offer last → ask.options ≡ options → side_eq side last.maker ≡ false →
     line ≡ line_committed o last.maker side → key ≡ key_for_line (leg_at o.kept side) (line_committed o last.maker side) →
-    leg_signal o.section options line (option_map (drawn_as section side) key) ≡ side_signal rounds offer ask section side
+    leg_signal o.section options line (option_map (drawn_for_leg section side) key) ≡ side_signal rounds offer ask section side
 others-signal config rounds offer ask section o last options side line key a i asked others l k =
-    ap (λ s. leg_signal s options line (option_map (drawn_as section side) key)) a.section_is
-    ∙ ap (λ s. leg_signal (section_in ask.sdp section) s line (option_map (drawn_as section side) key)) (sym asked)
-    ∙ ap (λ x. leg_signal (section_in ask.sdp section) ask.options x (option_map (drawn_as section side) key))
+    ap (λ s. leg_signal s options line (option_map (drawn_for_leg section side) key)) a.section_is
+    ∙ ap (λ s. leg_signal (section_in ask.sdp section) s line (option_map (drawn_for_leg section side) key)) (sym asked)
+    ∙ ap (λ x. leg_signal (section_in ask.sdp section) ask.options x (option_map (drawn_for_leg section side) key))
     (l ∙ line-is config rounds offer ask section o last.maker side a i.offer_is i.kept.maker_is)
     ∙ ap (λ x. leg_signal (section_in ask.sdp section) ask.options (committed_line rounds ask section side) x)
-    (ap (option_map (drawn_as section side)) k ∙ key-is config rounds offer ask section o last.maker side a i.offer_is i.kept.maker_is)
+    (ap (option_map (drawn_for_leg section side)) k ∙ key-is config rounds offer ask section o last.maker side a i.offer_is i.kept.maker_is)
     ∙ sym (by-side rounds offer ask section side false (sym (ap (side_eq side) i.kept.maker_is) ∙ others))
 
 pub reject-signal : (rounds : List Round) (offer : MadeOffer) (ask : AnswerAsk) (section : ℕ) (rejected : Bool) → is_rejected_by rounds ask section ≡ rejected →
@@ -154,7 +154,7 @@ takes-is config rounds offer ask section o a =
     ap (λ s. is_active s && is_active o.section && is_srtp o.made.written && is_none o.line) a.made_is.section_is
     ∙ ap (λ s. is_active_in offer.ask.sdp section && is_active s && is_srtp o.made.written && is_none o.line) a.section_is
     ∙ ap (λ p. is_active_in offer.ask.sdp section && is_active_in ask.sdp section && is_srtp p && is_none o.line) a.made_is.written_is
-    ∙ ap (λ l. is_active_in offer.ask.sdp section && is_active_in ask.sdp section && is_srtp (written offer.before offer.ask section) && is_none l) a.line_is
+    ∙ ap (λ l. is_active_in offer.ask.sdp section && is_active_in ask.sdp section && is_srtp (written_profile offer.before offer.ask section) && is_none l) a.line_is
 
 pub any-left : (p : ℕ → Bool) (i n : ℕ) → i < n → list_any p (numbers i (n - i)) ≡ (p i || list_any p (numbers (i + 1) (n - (i + 1))))
 any-left p i n l = ap (list_any p) (numbers-next i n l)

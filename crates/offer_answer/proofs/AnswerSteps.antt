@@ -15,9 +15,9 @@ use Rattle.offer_answer.specs.Sections.{most_sections, section_count, sections_o
 use Rattle.offer_answer.specs.Profiles.{profile_offered, profile_in_force}
 use Rattle.offer_answer.specs.Keys.{leg_key, committed_key}
 use Rattle.offer_answer.specs.Signals.{is_rejected_by}
-use Rattle.offer_answer.specs.Dialogs.{LegFor, SectionFor, DialogFor, key_for, leg_at, no_leg, drawn_as}
+use Rattle.offer_answer.specs.Dialogs.{LegFor, SectionFor, DialogFor, key_for, leg_at, no_leg, drawn_for_leg}
 use Rattle.offer_answer.specs.LastOffers.{OfferKept}
-use Rattle.offer_answer.specs.Answering.{AnsweredFor}
+use Rattle.offer_answer.specs.Answers.{AnsweredFor}
 use Rattle.offer_answer.specs.declared.leg.DrawnKey.{DrawnKey}
 use Rattle.offer_answer.specs.declared.leg.Leg.{Leg}
 use Rattle.offer_answer.specs.declared.last_offer.LastOffer.{LastOffer}
@@ -49,12 +49,12 @@ leg-rejected config rounds ask section side leg f r = record {
     gone : has_pairs (Answered ask ∷ rounds) section ≡ false
     gone = pairs-after rounds ask section true r
 
-    keys : (suite : Suite) → option_map (drawn_as section side) (key_for (record no_leg { offered = leg.offered }) suite) ≡ leg_key (Answered ask ∷ rounds) section side suite
+    keys : (suite : Suite) → option_map (drawn_for_leg section side) (key_for (record no_leg { offered = leg.offered }) suite) ≡ leg_key (Answered ask ∷ rounds) section side suite
     keys Tag80 = sym (key-answered ask rounds section side Tag80 ∙ ap (λ (b : Bool). if b then leg_key rounds section side Tag80 else None) gone)
     keys Tag32 = sym (key-answered ask rounds section side Tag32 ∙ ap (λ (b : Bool). if b then leg_key rounds section side Tag32 else None) gone)
 
 pub leg-committed : (config : Config) (rounds : List Round) (ask : AnswerAsk) (section : ℕ) (side : Side) (leg : Leg) (key : Option DrawnKey) → LegFor config rounds section side leg →
-    is_rejected_by rounds ask section ≡ false → option_map (drawn_as section side) key ≡ committed_key rounds ask section side →
+    is_rejected_by rounds ask section ≡ false → option_map (drawn_for_leg section side) key ≡ committed_key rounds ask section side →
     LegFor config (Answered ask ∷ rounds) section side (record leg { in_force = leg.offered; key_in_force = key })
 leg-committed config rounds ask section side leg key f r k = record {
   port_is = f.port_is ∙ sym (ap (port_of config) (leg-answered ask rounds section side ∙ ap (λ (b : Bool). if b then leg_of rounds section side else None) stays));
@@ -67,7 +67,7 @@ leg-committed config rounds ask section side leg key f r k = record {
     stays : has_pairs (Answered ask ∷ rounds) section ≡ true
     stays = pairs-after rounds ask section false r
 
-    keys : (suite : Suite) → option_map (drawn_as section side) (key_for (record leg { in_force = leg.offered; key_in_force = key }) suite) ≡ leg_key (Answered ask ∷ rounds) section side suite
+    keys : (suite : Suite) → option_map (drawn_for_leg section side) (key_for (record leg { in_force = leg.offered; key_in_force = key }) suite) ≡ leg_key (Answered ask ∷ rounds) section side suite
     keys Tag80 = f.keys_are Tag80 ∙ sym (key-answered ask rounds section side Tag80 ∙ ap (λ (b : Bool). if b then leg_key rounds section side Tag80 else None) stays)
     keys Tag32 = f.keys_are Tag32 ∙ sym (key-answered ask rounds section side Tag32 ∙ ap (λ (b : Bool). if b then leg_key rounds section side Tag32 else None) stays)
 

@@ -4,7 +4,7 @@ use Rattle.std.specs.List.{list_any}
 use Rattle.std.specs.Str.{bytes_eq}
 use Rattle.sdes_lines.specs.declared.crypto_line.CryptoLine.{CryptoLine}
 use Rattle.sdp_text.specs.Lines.{lines_of}
-use Rattle.sdp_edit.specs.Choosing.{IsOffered, IsFirstOf, section_lines}
+use Rattle.sdp_edit.specs.ChosenLines.{IsOffered, IsFirstOf, section_lines}
 use Rattle.ng_reply.specs.declared.code.ErrorCode.TheVariants.{E8, E10, E11, E12}
 use Rattle.port_pool.specs.declared.holder.Side.{Side}
 use Rattle.port_pool.specs.declared.holder.Side.TheVariants.{A, B}
@@ -13,11 +13,11 @@ use Rattle.port_pool.specs.Signals.{NewKey, side_eq, other_side, signal_at}
 use Rattle.offer_answer.specs.Rounds.{Round, Offered, Answered, AnswerAsk}
 use Rattle.offer_answer.specs.Sides.{MadeOffer, is_some_sides, last_offer, maker, offered_sdp}
 use Rattle.offer_answer.specs.Sections.{section_in, section_count, all_sections, is_active_in, has_pairs}
-use Rattle.offer_answer.specs.Profiles.{is_srtp, is_srtp_leg, profile_over, profile_offered, profile_in_force, written}
+use Rattle.offer_answer.specs.Profiles.{is_srtp, is_srtp_leg, profile_over, profile_offered, profile_in_force, written_profile}
 use Rattle.offer_answer.specs.Keys.{chosen_in, leg_key, chosen_by, committed_line, committed_key, no_lines, offered_lines, last_lines}
-use Rattle.offer_answer.specs.Signals.{is_rejected_by, key_of, side_signal, answer_signal}
+use Rattle.offer_answer.specs.Signals.{is_rejected_by, line_key, side_signal, answer_signal}
 use Rattle.offer_answer.specs.Faults.{may_answer, takes_no_line, fault_of_answer_to}
-use Rattle.offer_answer.specs.Plan.{AnswerHeard, answer_fault, signal}
+use Rattle.offer_answer.specs.Plan.{AnswerRead, answer_fault, signal}
 use Rattle.offer_answer.specs.Laws.{IsAnswerRound, AreRounds, IsSecured, SecuresLegs}
 use Rattle.offer_answer.proofs.Drawn.{signal-inbound, signal-outbound, answer-signal, same_side}
 use Rattle.offer_answer.proofs.Keyed.{HasKey, has_key-found, drawn-answered, has_key-answered}
@@ -103,13 +103,13 @@ all-true false y z e = cc
 
 -- an answer that uses a section which was offered with SRTP takes up one of the lines
 takes-line : (rounds : List Round) (offer : MadeOffer) (ask : AnswerAsk) (section : ℕ) → last_offer rounds ≡ Some offer → IsAnswerRound rounds ask →
-    is_active_in offer.ask.sdp section ≡ true → is_active_in ask.sdp section ≡ true → is_srtp (written offer.before offer.ask section) ≡ true →
+    is_active_in offer.ask.sdp section ≡ true → is_active_in ask.sdp section ≡ true → is_srtp (written_profile offer.before offer.ask section) ≡ true →
     (line : CryptoLine) × (chosen_in ask.chosen section ≡ Some line) × IsOffered (offered_lines offer.before offer.ask offer.keys section) line
-unfolding AnswerHeard
+unfolding AnswerRead
 takes-line rounds offer ask section l r offered active secure =
     let below = active-within ask.sdp section active in
     let takes = none-passes (takes_no_line offer ask) (all_sections ask.sdp) section (takes-lines rounds offer ask l r.no_fault) (in-all ask.sdp section below) in
-    let some : is_none (chosen_in ask.chosen section) ≡ false = rest (is_active_in offer.ask.sdp section) (is_active_in ask.sdp section) (is_srtp (written offer.before offer.ask section)) offered active secure takes in
+    let some : is_none (chosen_in ask.chosen section) ≡ false = rest (is_active_in offer.ask.sdp section) (is_active_in ask.sdp section) (is_srtp (written_profile offer.before offer.ask section)) offered active secure takes in
     let line = is_there (chosen_in ask.chosen section) some in
     let first = subst (λ o. IsFirstOf (IsOffered (last_lines rounds section)) (section_lines section (lines_of ask.sdp)) o) line.1 (r.heard.first section below) in (
       line.0,
@@ -176,7 +176,7 @@ secured-leg rounds offer ask section side s l rs r taken same = go (is_srtp_leg 
     offered : is_active_in offer.ask.sdp section ≡ true
     offered = subst (λ (o : Option MadeOffer). is_active_in (elim o [ None ↦ [] | Some made ↦ made.ask.sdp ]) section ≡ true) l uses.0
 
-    inbound : s.inbound ≡ option_map key_of (committed_line rounds ask section side)
+    inbound : s.inbound ≡ option_map line_key (committed_line rounds ask section side)
     inbound = ap (λ (t : LegSignal). t.inbound) (sym same) ∙ signal-inbound rounds offer ask section side
 
     outbound : s.outbound ≡ option_map (λ (k : NewKey). k.number) (committed_key rounds ask section side)
@@ -187,14 +187,14 @@ secured-leg rounds offer ask section side s l rs r taken same = go (is_srtp_leg 
         let line : committed_line rounds ask section side ≡ None =
         line-by rounds offer ask section side l ∙ ap (λ (b : Bool). if b then chosen_by offer ask section side else None) e in
         let key : committed_key rounds ask section side ≡ None = key-by rounds ask section side None line in
-        (inbound ∙ ap (option_map key_of) line, outbound ∙ ap (option_map (λ (k : NewKey). k.number)) key)
+        (inbound ∙ ap (option_map line_key) line, outbound ∙ ap (option_map (λ (k : NewKey). k.number)) key)
     go true e =
         let keys = has-keys rounds offer ask section side l rs r offered uses.1 uses.2 e in
         let line : committed_line rounds ask section side ≡ Some keys.0 =
         line-by rounds offer ask section side l ∙ ap (λ (b : Bool). if b then chosen_by offer ask section side else None) e ∙ keys.1 in
         let found = has_key-found rounds section side keys.0.suite keys.2 in
         let key : committed_key rounds ask section side ≡ Some found.0 = key-by rounds ask section side (Some keys.0) line ∙ found.1 in
-        (ap is_some (inbound ∙ ap (option_map key_of) line), ap is_some (outbound ∙ ap (option_map (λ (k : NewKey). k.number)) key))
+        (ap is_some (inbound ∙ ap (option_map line_key) line), ap is_some (outbound ∙ ap (option_map (λ (k : NewKey). k.number)) key))
 
 pub secures_legs : SecuresLegs
 unfolding signal

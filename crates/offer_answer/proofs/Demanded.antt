@@ -8,8 +8,8 @@ use Rattle.std.proofs.Common.{nat_lt, option_map}
 use Rattle.std.proofs.lemmas.List.{length-map}
 use Rattle.sdp_text.specs.Lines.{lines_of}
 use Rattle.sdp_text.specs.LineFaults.{faulty_line}
-use Rattle.sdp_text.specs.Parts.{or_else, parts, served_fault, section_of}
-use Rattle.sdp_text.specs.Reading.{fault_in, unplaced_fault, dtls_fault}
+use Rattle.sdp_text.specs.Parts.{first_of_two, media_parts, served_fault, section_of}
+use Rattle.sdp_text.specs.Descriptions.{fault_in, unplaced_fault, dtls_fault}
 use Rattle.sdp_text.specs.declared.fault.SdpFault.{SdpFault}
 use Rattle.sdp_text.specs.declared.fault.SdpFault.TheVariants.{Line, TooManyMedia}
 use Rattle.port_pool.specs.declared.holder.Side.{Side}
@@ -18,8 +18,8 @@ use Rattle.port_pool.specs.Signals.{other_side}
 use Rattle.offer_answer.specs.Rounds.{Round, OfferAsk, NewLeg, KeyPlace}
 use Rattle.offer_answer.specs.Sides.{offerer}
 use Rattle.offer_answer.specs.Sections.{most_sections, section_in, section_count, all_sections, active_sections, is_active_in, has_pairs}
-use Rattle.offer_answer.specs.Profiles.{is_srtp, written}
-use Rattle.offer_answer.specs.Keys.{chosen_in, leg_key, key_in_force, place_of, missing_keys, suite_of, offerers_suites, others_suites, section_keys}
+use Rattle.offer_answer.specs.Profiles.{is_srtp, written_profile}
+use Rattle.offer_answer.specs.Keys.{chosen_in, leg_key, key_in_force, key_place_of, missing_keys, suite_of, offerers_suites, others_suites, section_keys}
 use Rattle.offer_answer.specs.Demands.{new_leg, legs_for, new_active_sections, is_dropped}
 use Rattle.offer_answer.specs.Plan.{demand}
 use Rattle.offer_answer.proofs.Members.{kept, in-append}
@@ -71,7 +71,7 @@ record IsOfLeg (section : ℕ) (side : Side) (k : KeyPlace) : Type 0 where
 in-missing_keys : (rounds : List Round) (section : ℕ) (side : Side) (suites : List Suite) (k : KeyPlace) →
     In k (missing_keys rounds section side suites) → IsOfLeg section side k
 in-missing_keys rounds section side suites k i =
-    let c = in-map (place_of section side) (filter (λ suite. is_none (leg_key rounds section side suite)) suites) k i in
+    let c = in-map (key_place_of section side) (filter (λ suite. is_none (leg_key rounds section side suite)) suites) k i in
     record { of_section = ap (λ (l : KeyPlace). l.section) c.2; of_side = ap (λ (l : KeyPlace). l.side) c.2 }
 
 abbrev Differ : Suite → Suite → Type 0
@@ -80,7 +80,7 @@ Differ s t = s ≡ t → ⊥
 missing_keys-apart : (rounds : List Round) (section : ℕ) (side : Side) (suites : List Suite) → Ordered Differ suites →
     Ordered AreKeysApart (missing_keys rounds section side suites)
 missing_keys-apart rounds section side suites o =
-    map-ordered Differ AreKeysApart (place_of section side) (filter (λ suite. is_none (leg_key rounds section side suite)) suites)
+    map-ordered Differ AreKeysApart (key_place_of section side) (filter (λ suite. is_none (leg_key rounds section side suite)) suites)
     (filter-ordered Differ (λ suite. is_none (leg_key rounds section side suite)) suites o)
     (λ s t differ e f g. differ g)
 
@@ -97,7 +97,7 @@ offerers_suites-apart ask section = go (is_srtp (section_in ask.sdp section).pro
 
 others_suites-apart : (rounds : List Round) (ask : OfferAsk) (section : ℕ) → Ordered Differ (others_suites rounds ask section)
 others_suites-apart rounds ask section =
-    go (is_srtp (written rounds ask section) && is_none (key_in_force rounds section (other_side (offerer rounds ask))))
+    go (is_srtp (written_profile rounds ask section) && is_none (key_in_force rounds section (other_side (offerer rounds ask))))
   where
     tag32 : (s : Suite) → In s (Tag32 ∷ []) → Differ Tag80 s
     tag32 s (here e) f = let g : Tag80 ≡ Tag32 = f ∙ e in cc
@@ -159,13 +159,13 @@ dropped-within rounds ask section i =
 
 -- a description without a fault has at most eight sections
 pub few_sections : (sdp : List ℕ) → fault_in (lines_of sdp) ≡ None → section_count sdp ≤ most_sections
-few_sections sdp e = go (faulty_line (lines_of sdp)) (unplaced_fault (parts (lines_of sdp))) (dtls_fault (parts (lines_of sdp))) (nat_lt 8 (length (parts (lines_of sdp)))) refl e
+few_sections sdp e = go (faulty_line (lines_of sdp)) (unplaced_fault (media_parts (lines_of sdp))) (dtls_fault (media_parts (lines_of sdp))) (nat_lt 8 (length (media_parts (lines_of sdp)))) refl e
   where
-    counted : length (map section_of (parts (lines_of sdp))) ≡ length (parts (lines_of sdp))
-    counted = length-map (parts (lines_of sdp)) section_of
+    counted : length (map section_of (media_parts (lines_of sdp))) ≡ length (media_parts (lines_of sdp))
+    counted = length-map (media_parts (lines_of sdp)) section_of
 
-    go : (f : Option ℕ) (u d : Option SdpFault) (n : Bool) → nat_lt 8 (length (parts (lines_of sdp))) ≡ n →
-        or_else (option_map Line f) (or_else u (or_else d (or_else (if n then Some (TooManyMedia (length (parts (lines_of sdp)))) else None) (served_fault (parts (lines_of sdp)))))) ≡ None →
+    go : (f : Option ℕ) (u d : Option SdpFault) (n : Bool) → nat_lt 8 (length (media_parts (lines_of sdp))) ≡ n →
+        first_of_two (option_map Line f) (first_of_two u (first_of_two d (first_of_two (if n then Some (TooManyMedia (length (media_parts (lines_of sdp)))) else None) (served_fault (media_parts (lines_of sdp)))))) ≡ None →
         section_count sdp ≤ most_sections
     go (Some n) u d b t e = cc
     go None (Some u) d b t e = cc
@@ -191,7 +191,7 @@ new_leg-is_new rounds ask l i =
 missing_keys-missing : (rounds : List Round) (section : ℕ) (side : Side) (suites : List Suite) (k : KeyPlace) →
     In k (missing_keys rounds section side suites) → is_none (leg_key rounds k.section k.side k.suite) ≡ true
 missing_keys-missing rounds section side suites k i =
-    let c = in-map (place_of section side) (filter (λ suite. is_none (leg_key rounds section side suite)) suites) k i in
+    let c = in-map (key_place_of section side) (filter (λ suite. is_none (leg_key rounds section side suite)) suites) k i in
     let p = kept (λ suite. is_none (leg_key rounds section side suite)) suites c.0 c.1 in
     subst (λ (l : KeyPlace). is_none (leg_key rounds l.section l.side l.suite) ≡ true) (sym c.2) p.passes
 

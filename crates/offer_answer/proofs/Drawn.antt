@@ -13,9 +13,9 @@ use Rattle.port_pool.specs.declared.signal.SectionSignal.TheVariants.{Commit, Re
 use Rattle.port_pool.specs.Signals.{NewKey, side_eq, suite_eq, side_of, signal_at}
 use Rattle.offer_answer.specs.Rounds.{Round, AnswerAsk, drawn_for}
 use Rattle.offer_answer.specs.Sides.{MadeOffer, last_offer, maker}
-use Rattle.offer_answer.specs.Sections.{section_count, all_sections, life}
+use Rattle.offer_answer.specs.Sections.{section_count, all_sections, section_life}
 use Rattle.offer_answer.specs.Keys.{is_for, leg_keys, leg_key, committed_line, committed_key}
-use Rattle.offer_answer.specs.Signals.{is_rejected_by, key_of, side_signal, section_signal, answer_signal}
+use Rattle.offer_answer.specs.Signals.{is_rejected_by, line_key, side_signal, section_signal, answer_signal}
 use Rattle.offer_answer.specs.Plan.{signal}
 use Rattle.offer_answer.specs.Laws.{IsDrawnInLife, IsKeyOf, NamesDrawnKeys}
 use Rattle.offer_answer.proofs.Members.{found, kept}
@@ -44,7 +44,7 @@ pub leg_key-drawn : (rounds : List Round) (section : ℕ) (side : Side) (suite :
     leg_key rounds section side suite ≡ Some key → IsLegKey rounds section side suite key
 leg_key-drawn rounds section side suite key e =
     let f = found (λ (k : NewKey). suite_eq k.suite suite) (leg_keys rounds section side) key e in
-    let k = kept (is_for section side) (drawn_for (life rounds section)) key f.is_in in
+    let k = kept (is_for section side) (drawn_for (section_life rounds section)) key f.is_in in
     record {
       for_section = grind (arith, k.passes);
       for_side = same_side key.side side (grind (arith, k.passes));
@@ -78,10 +78,10 @@ signal-outbound rounds offer ask section side = go (side_eq side (maker offer)) 
     go false e = rw e refl
 
 pub signal-inbound : (rounds : List Round) (offer : MadeOffer) (ask : AnswerAsk) (section : ℕ) (side : Side) →
-    (side_signal rounds offer ask section side).inbound ≡ option_map key_of (committed_line rounds ask section side)
+    (side_signal rounds offer ask section side).inbound ≡ option_map line_key (committed_line rounds ask section side)
 signal-inbound rounds offer ask section side = go (side_eq side (maker offer)) refl
   where
-    go : (b : Bool) → side_eq side (maker offer) ≡ b → (side_signal rounds offer ask section side).inbound ≡ option_map key_of (committed_line rounds ask section side)
+    go : (b : Bool) → side_eq side (maker offer) ≡ b → (side_signal rounds offer ask section side).inbound ≡ option_map line_key (committed_line rounds ask section side)
     go true e = rw e refl
     go false e = rw e refl
 
@@ -94,7 +94,7 @@ leg-named rounds offer ask section side s number e o =
     go None k n = cc
     go (Some key) k n =
         let by = committed_key-drawn rounds ask section side key k in
-        let inbound : s.inbound ≡ Some (key_of by.line) = sym (ap (λ (t : LegSignal). t.inbound) e) ∙ signal-inbound rounds offer ask section side ∙ ap (option_map key_of) by.line_is in
+        let inbound : s.inbound ≡ Some (line_key by.line) = sym (ap (λ (t : LegSignal). t.inbound) e) ∙ signal-inbound rounds offer ask section side ∙ ap (option_map line_key) by.line_is in
         record {
           key = key;
           number_is = cc;

@@ -4,7 +4,7 @@ use Rattle.sdp_text.specs.declared.host.Host.{Host}
 use Rattle.sdp_edit.specs.declared.edits.SectionEdit.{SectionEdit}
 use Rattle.sdp_edit.specs.declared.edits.Edit.{Edit}
 use Rattle.sdp_edit.specs.Images.{image_of}
-use Rattle.sdp_edit.specs.Editing.{edited_from, edited_line, edited}
+use Rattle.sdp_edit.specs.EditedText.{edited_from, edited_line, edited}
 
 abbrev with_spare : Host → Bool → Bool → List SectionEdit → ℕ → Edit
 with_spare address origin session sections spare = record { address = address; replace_origin = origin; replace_session = session; sections = record { list = sections; spare = spare } }

@@ -4,8 +4,8 @@ use Rattle.std.proofs.lemmas.List.{get_or-take, length-take-le}
 use Rattle.std.proofs.lemmas.Option.{slice_get-get_or}
 use Rattle.sdes_lines.specs.declared.crypto_line.CryptoLine.{CryptoLine}
 use Rattle.sdp_text.specs.Lines.{lines_of}
-use Rattle.sdp_text.specs.Reading.{sections_in}
-use Rattle.sdp_edit.specs.Choosing.{section_lines, IsFirstOf}
+use Rattle.sdp_text.specs.Descriptions.{sections_in}
+use Rattle.sdp_edit.specs.ChosenLines.{section_lines, IsFirstOf}
 use Rattle.offer_answer.specs.Sections.{section_count}
 use Rattle.offer_answer.specs.Rounds.{Round}
 use Rattle.offer_answer.specs.Sides.{MadeOffer, last_offer}

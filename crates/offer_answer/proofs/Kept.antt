@@ -3,10 +3,10 @@ use Rattle.std.proofs.Common.{◌≡◌, ◌∙◌, refl, ap, sym, subst, ℕ, z
 use Rattle.relay_outside.specs.declared.address.Ip.{Ip}
 use Rattle.histories.specs.Words.{numbers}
 use Rattle.sdp_edit.specs.declared.edits.Edit.{Edit}
-use Rattle.sdp_edit.specs.Editing.{edited}
+use Rattle.sdp_edit.specs.EditedText.{edited}
 use Rattle.ng_command.specs.declared.command.Options.{Options}
 use Rattle.offer_answer.specs.Texts.{host_of_ip}
-use Rattle.offer_answer.specs.Writing.{IsReserved, widest_section, widest_at, widest_sections, widest_len, made_at}
+use Rattle.offer_answer.specs.Edits.{IsEditReserved, widest_section, widest_at, widest_sections, widest_len, made_at}
 use Rattle.offer_answer.specs.Widths.{SameMade, SameOffer, KeepsOffer, WritesNext}
 use Rattle.offer_answer.specs.declared.last_offer.MadeSection.{MadeSection}
 use Rattle.offer_answer.specs.declared.last_offer.LastOffer.{LastOffer}
@@ -57,8 +57,8 @@ pub kept-writes : (plan : Plan) (lines : List (List ℕ)) (old new : Next) → K
 kept-writes plan lines (Offer o) (Offer n) k w =
     let few = w.0 in (
       subst (λ count. count ≤ 8) (sym k.count_is) few,
-      subst (λ (options : Options). IsReserved plan.interface options n.last.count plan.edit) (sym k.options_are)
-          (subst (λ count. IsReserved plan.interface o.last.options count plan.edit) (sym k.count_is) w.1),
+      subst (λ (options : Options). IsEditReserved plan.interface options n.last.count plan.edit) (sym k.options_are)
+          (subst (λ count. IsEditReserved plan.interface o.last.options count plan.edit) (sym k.count_is) w.1),
       subst (λ len. len ≤ plan.reply_len) (sym (same-len plan.interface o.last n.last lines k few)) w.2,
     )
 kept-writes plan lines (Answer o) (Answer n) k w = w

@@ -9,7 +9,7 @@ use Rattle.port_pool.specs.declared.holder.Holder.{Holder}
 use Rattle.port_pool.specs.Signals.{NewKey, suite_eq}
 use Rattle.offer_answer.specs.Rounds.{Round, Offered, Answered, OfferAsk, AnswerAsk, drawn_for}
 use Rattle.offer_answer.specs.Sides.{GivenAnswer, is_begun, last_answer, has_answer}
-use Rattle.offer_answer.specs.Sections.{leases, life, has_pairs, is_committed}
+use Rattle.offer_answer.specs.Sections.{leases, section_life, has_pairs, is_committed}
 use Rattle.offer_answer.specs.Keys.{is_for, leg_keys, leg_key, committed_line, committed_key, key_in_force}
 use Rattle.offer_answer.proofs.Members.{found, kept, in-left, in-right}
 use Rattle.offer_answer.proofs.Lives.{LifeOf, begins, goes_on, is_over, life-step}
@@ -37,7 +37,7 @@ is_found {X} test (y ∷ ys) x (there i) p = go (test y) (is_found test ys x i p
 -- a leg has a key for a suite
 pub record HasKey (rounds : List Round) (section : ℕ) (side : Side) (suite : Suite) : Type 0 where
   pub key : NewKey
-  pub drawn : In key (drawn_for (life rounds section))
+  pub drawn : In key (drawn_for (section_life rounds section))
   pub is_legs : is_for section side key ≡ true
   pub of_suite : key.suite ≡ suite
 
@@ -49,7 +49,7 @@ pub has_key-found : (rounds : List Round) (section : ℕ) (side : Side) (suite :
     (k : NewKey) × (leg_key rounds section side suite ≡ Some k)
 has_key-found rounds section side suite h =
     is_found (λ (k : NewKey). suite_eq k.suite suite) (leg_keys rounds section side) h.key
-    (in-kept (is_for section side) (drawn_for (life rounds section)) h.key h.drawn h.is_legs)
+    (in-kept (is_for section side) (drawn_for (section_life rounds section)) h.key h.drawn h.is_legs)
     (rw h.of_suite (suite-same suite))
 
 suite-eq : (s t : Suite) → suite_eq s t ≡ true → s ≡ t
@@ -60,24 +60,24 @@ suite-eq Tag32 Tag80 e = cc
 
 pub among-has : (rounds : List Round) (section : ℕ) (side : Side) (key : NewKey) → In key (leg_keys rounds section side) → HasKey rounds section side key.suite
 among-has rounds section side key i =
-    let k = kept (is_for section side) (drawn_for (life rounds section)) key i in
+    let k = kept (is_for section side) (drawn_for (section_life rounds section)) key i in
     record { key = key; drawn = k.is_in; is_legs = k.passes; of_suite = refl }
 
 pub found-has : (rounds : List Round) (section : ℕ) (side : Side) (suite : Suite) (key : NewKey) → leg_key rounds section side suite ≡ Some key → HasKey rounds section side suite
 found-has rounds section side suite key e =
     let f = found (λ (k : NewKey). suite_eq k.suite suite) (leg_keys rounds section side) key e in
-    let k = kept (is_for section side) (drawn_for (life rounds section)) key f.is_in in
+    let k = kept (is_for section side) (drawn_for (section_life rounds section)) key f.is_in in
     record { key = key; drawn = k.is_in; is_legs = k.passes; of_suite = suite-eq key.suite suite f.passes }
 
-no_life : (rounds : List Round) (section : ℕ) → life rounds section ≡ [] → has_pairs rounds section ≡ true → false ≡ true
+no_life : (rounds : List Round) (section : ℕ) → section_life rounds section ≡ [] → has_pairs rounds section ≡ true → false ≡ true
 no_life rounds section e h = subst (λ rs. is_begun rs ≡ true) e h
 
 -- an answer that leaves the section its pairs leaves its keys
 pub drawn-answered : (ask : AnswerAsk) (rounds : List Round) (section : ℕ) → has_pairs (Answered ask ∷ rounds) section ≡ true →
-    (has_pairs rounds section ≡ true) × (drawn_for (life (Answered ask ∷ rounds) section) ≡ drawn_for (life rounds section))
+    (has_pairs rounds section ≡ true) × (drawn_for (section_life (Answered ask ∷ rounds) section) ≡ drawn_for (section_life rounds section))
 drawn-answered ask rounds section h = go (life-step (Answered ask) rounds section)
   where
-    go : LifeOf (Answered ask) rounds section → (has_pairs rounds section ≡ true) × (drawn_for (life (Answered ask ∷ rounds) section) ≡ drawn_for (life rounds section))
+    go : LifeOf (Answered ask) rounds section → (has_pairs rounds section ≡ true) × (drawn_for (section_life (Answered ask ∷ rounds) section) ≡ drawn_for (section_life rounds section))
     go (begins l e) = cc
     go (goes_on l had e) = (had, ap drawn_for e)
     go (is_over e) = absurd (true≢false (sym (no_life (Answered ask ∷ rounds) section e h)))
@@ -93,13 +93,13 @@ pub has_key-new : (ask : OfferAsk) (legs : List Holder) (keys : List NewKey) (ro
     HasKey (Offered ask legs keys ∷ rounds) section side key.suite
 has_key-new ask legs keys rounds section side key h i f = go (life-step (Offered ask legs keys) rounds section)
   where
-    with_life : (later : List Round) → life (Offered ask legs keys ∷ rounds) section ≡ Offered ask legs keys ∷ later →
+    with_life : (later : List Round) → section_life (Offered ask legs keys ∷ rounds) section ≡ Offered ask legs keys ∷ later →
         HasKey (Offered ask legs keys ∷ rounds) section side key.suite
     with_life later e = record { key = key; drawn = subst (λ rs. In key (drawn_for rs)) (sym e) (in-left (drawn_for later) i); is_legs = f; of_suite = refl }
 
     go : LifeOf (Offered ask legs keys) rounds section → HasKey (Offered ask legs keys ∷ rounds) section side key.suite
     go (begins l e) = with_life [] e
-    go (goes_on l had e) = with_life (life rounds section) e
+    go (goes_on l had e) = with_life (section_life rounds section) e
     go (is_over e) = absurd (true≢false (sym (no_life (Offered ask legs keys ∷ rounds) section e h)))
 
 -- a key that the leg had before an offer that leased no pair for it
@@ -120,22 +120,22 @@ has_key-old ask legs keys rounds section side suite h none k = go (life-step (Of
 
 -- what a committed section had drawn before its last answer it still has
 committed-drawn : (rounds : List Round) (section : ℕ) (answer : GivenAnswer) (key : NewKey) → is_committed rounds section ≡ true → last_answer rounds ≡ Some answer →
-    In key (drawn_for (life answer.before section)) → In key (drawn_for (life rounds section))
+    In key (drawn_for (section_life answer.before section)) → In key (drawn_for (section_life rounds section))
 committed-drawn [] section answer key c a i = cc
 committed-drawn (Answered ask ∷ rounds) section answer key c a i = go (life-step (Answered ask) rounds section)
   where
     before : answer.before ≡ rounds
     before = cc
 
-    go : LifeOf (Answered ask) rounds section → In key (drawn_for (life (Answered ask ∷ rounds) section))
+    go : LifeOf (Answered ask) rounds section → In key (drawn_for (section_life (Answered ask ∷ rounds) section))
     go (begins l e) = cc
-    go (goes_on l had e) = subst (λ rs. In key (drawn_for rs)) (sym e) (subst (λ rs. In key (drawn_for (life rs section))) before i)
+    go (goes_on l had e) = subst (λ rs. In key (drawn_for rs)) (sym e) (subst (λ rs. In key (drawn_for (section_life rs section))) before i)
     go (is_over e) = absurd (true≢false (sym (subst (λ rs. has_answer rs ≡ true) e c)))
 committed-drawn (Offered ask legs keys ∷ rounds) section answer key c a i =
     go (life-step (Offered ask legs keys) rounds section) (λ d. committed-drawn rounds section answer key d a i)
   where
-    go : LifeOf (Offered ask legs keys) rounds section → (is_committed rounds section ≡ true → In key (drawn_for (life rounds section))) →
-        In key (drawn_for (life (Offered ask legs keys ∷ rounds) section))
+    go : LifeOf (Offered ask legs keys) rounds section → (is_committed rounds section ≡ true → In key (drawn_for (section_life rounds section))) →
+        In key (drawn_for (section_life (Offered ask legs keys ∷ rounds) section))
     go (begins l e) more = absurd (true≢false (sym (subst (λ rs. has_answer rs ≡ true) e c)))
     go (goes_on l had e) more =
         subst (λ rs. In key (drawn_for rs)) (sym e) (in-right keys (more (subst (λ rs. has_answer rs ≡ true) e c)))
@@ -149,7 +149,7 @@ in_force-drawn rounds section side key e = go (is_committed rounds section) refl
         leg_key answer.before section side line.suite ≡ Some key → HasKey rounds section side key.suite
     of_line answer c a line k =
         let h = found (λ (x : NewKey). suite_eq x.suite line.suite) (leg_keys answer.before section side) key k in
-        let b = kept (is_for section side) (drawn_for (life answer.before section)) key h.is_in in
+        let b = kept (is_for section side) (drawn_for (section_life answer.before section)) key h.is_in in
         record { key = key; drawn = committed-drawn rounds section answer key c a b.is_in; is_legs = b.passes; of_suite = refl }
 
     of_key : (answer : GivenAnswer) → is_committed rounds section ≡ true → last_answer rounds ≡ Some answer → (line : Option CryptoLine) →

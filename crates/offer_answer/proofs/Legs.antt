@@ -7,7 +7,7 @@ use Rattle.port_pool.specs.declared.holder.Holder.{Holder}
 use Rattle.port_pool.specs.Signals.{NewKey, side_eq}
 use Rattle.offer_answer.specs.Rounds.{Round, Offered, Answered, OfferAsk}
 use Rattle.offer_answer.specs.Sides.{is_begun, offerer}
-use Rattle.offer_answer.specs.Sections.{leases, life, has_pairs, leased_for}
+use Rattle.offer_answer.specs.Sections.{leases, section_life, has_pairs, leased_for}
 use Rattle.offer_answer.specs.Demands.{new_leg, legs_for, new_active_sections, new_legs}
 use Rattle.offer_answer.specs.Plan.{demand}
 use Rattle.offer_answer.specs.Laws.{leg_place, new_leg_place, IsOfferRound, AreRounds, HaveLegs}
@@ -21,7 +21,7 @@ use Rattle.offer_answer.proofs.Secured.{section-of, some-passes, in-mapped, in-f
 -- a leg of the section and side, in the section's life
 record HasLeg (rounds : List Round) (section : ℕ) (side : Side) : Type 0 where
   leg : Holder
-  leased : In leg (leased_for (life rounds section))
+  leased : In leg (leased_for (section_life rounds section))
   of_section : leg.section ≡ section
   of_side : leg.side ≡ side
 
@@ -61,7 +61,7 @@ leased-leg rounds ask legs keys section side r l =
     let of = of-place leg.0 section side leg.2 in
     (leg.0, leg.1, of.0, of.1)
 
-no_pairs : (rounds : List Round) (section : ℕ) → life rounds section ≡ [] → has_pairs rounds section ≡ true → ⊥
+no_pairs : (rounds : List Round) (section : ℕ) → section_life rounds section ≡ [] → has_pairs rounds section ≡ true → ⊥
 no_pairs rounds section e h = true≢false (sym (subst (λ rs. is_begun rs ≡ true) e h))
 
 has-leg : (rounds : List Round) (section : ℕ) (side : Side) → AreRounds rounds → has_pairs rounds section ≡ true → HasLeg rounds section side
@@ -98,6 +98,6 @@ has-leg (Answered ask ∷ rounds) section side rs h = go (life-step (Answered as
 pub have_legs : HaveLegs
 have_legs rounds section side rs h =
     let leg = has-leg rounds section side rs h in
-    let found = is_found (λ (x : Holder). (x.section == section) && side_eq x.side side) (leased_for (life rounds section)) leg.leg leg.leased
+    let found = is_found (λ (x : Holder). (x.section == section) && side_eq x.side side) (leased_for (section_life rounds section)) leg.leg leg.leased
     (is_leg-of section side leg.leg leg.of_section leg.of_side) in
     ap is_some found.1

@@ -4,28 +4,28 @@ use Rattle.histories.specs.Words.{In}
 use Rattle.port_pool.specs.declared.holder.Holder.{Holder}
 use Rattle.port_pool.specs.Signals.{NewKey}
 use Rattle.offer_answer.specs.Rounds.{Round, Offered, Answered, OfferAsk, drawn_for}
-use Rattle.offer_answer.specs.Sections.{leases, takes_away, life, has_pairs}
+use Rattle.offer_answer.specs.Sections.{leases, takes_pairs_away, section_life, has_pairs}
 use Rattle.offer_answer.specs.Laws.{IsDrawnInLife}
 use Rattle.offer_answer.proofs.Members.{in-append, in-right, in-left}
 
 -- a life goes on by one round
 pub data LifeOf (round : Round) (rounds : List Round) (section : ℕ) : Type 0 where
-  begins : leases round section ≡ true → life (round ∷ rounds) section ≡ round ∷ [] → LifeOf round rounds section
-  goes_on : leases round section ≡ false → has_pairs rounds section ≡ true → life (round ∷ rounds) section ≡ round ∷ life rounds section → LifeOf round rounds section
-  is_over : life (round ∷ rounds) section ≡ [] → LifeOf round rounds section
+  begins : leases round section ≡ true → section_life (round ∷ rounds) section ≡ round ∷ [] → LifeOf round rounds section
+  goes_on : leases round section ≡ false → has_pairs rounds section ≡ true → section_life (round ∷ rounds) section ≡ round ∷ section_life rounds section → LifeOf round rounds section
+  is_over : section_life (round ∷ rounds) section ≡ [] → LifeOf round rounds section
 
 pub life-step : (round : Round) (rounds : List Round) (section : ℕ) → LifeOf round rounds section
-life-step round rounds section = go (leases round section) (life rounds section) refl refl
+life-step round rounds section = go (leases round section) (section_life rounds section) refl refl
   where
-    on : (former : Round) (before : List Round) (b : Bool) → leases round section ≡ false → life rounds section ≡ former ∷ before →
-        takes_away round (former ∷ before) section ≡ b → LifeOf round rounds section
+    on : (former : Round) (before : List Round) (b : Bool) → leases round section ≡ false → section_life rounds section ≡ former ∷ before →
+        takes_pairs_away round (former ∷ before) section ≡ b → LifeOf round rounds section
     on former before true l e t = is_over (rw (l, e, t) refl)
     on former before false l e t = goes_on l (rw e refl) (rw (l, e, t) refl)
 
-    go : (b : Bool) (before : List Round) → leases round section ≡ b → life rounds section ≡ before → LifeOf round rounds section
+    go : (b : Bool) (before : List Round) → leases round section ≡ b → section_life rounds section ≡ before → LifeOf round rounds section
     go true before l e = begins l (rw l refl)
     go false [] l e = is_over (rw (l, e) refl)
-    go false (former ∷ before) l e = on former before (takes_away round (former ∷ before) section) l e refl
+    go false (former ∷ before) l e = on former before (takes_pairs_away round (former ∷ before) section) l e refl
 
 -- the last round drew it
 by_last : (ask : OfferAsk) (legs : List Holder) (keys : List NewKey) (rounds : List Round) (section : ℕ) (key : NewKey) →
@@ -48,8 +48,8 @@ by_earlier round rounds section key d l has = record {
 }
 
 drawn-step : (round : Round) (rounds : List Round) (section : ℕ) (key : NewKey) → LifeOf round rounds section →
-    (In key (drawn_for (life rounds section)) → IsDrawnInLife rounds section key) →
-    In key (drawn_for (life (round ∷ rounds) section)) → IsDrawnInLife (round ∷ rounds) section key
+    (In key (drawn_for (section_life rounds section)) → IsDrawnInLife rounds section key) →
+    In key (drawn_for (section_life (round ∷ rounds) section)) → IsDrawnInLife (round ∷ rounds) section key
 drawn-step (Answered ask) rounds section key (begins l e) more i = cc
 drawn-step (Answered ask) rounds section key (goes_on l had e) more i =
     by_earlier (Answered ask) rounds section key (more (subst (λ rs. In key (drawn_for rs)) e i)) l (rw e refl)
@@ -60,14 +60,14 @@ drawn-step (Offered ask legs keys) rounds section key (begins l e) more i =
       | inr j ↦ elim j [ ]
     ]
 drawn-step (Offered ask legs keys) rounds section key (goes_on l had e) more i =
-    elim (in-append keys (drawn_for (life rounds section)) (subst (λ rs. In key (drawn_for rs)) e i)) [
+    elim (in-append keys (drawn_for (section_life rounds section)) (subst (λ rs. In key (drawn_for rs)) e i)) [
       | inl j ↦ by_last ask legs keys rounds section key j (rw e refl)
       | inr j ↦ by_earlier (Offered ask legs keys) rounds section key (more j) l (rw e refl)
     ]
 drawn-step (Offered ask legs keys) rounds section key (is_over e) more i = elim (subst (λ rs. In key (drawn_for rs)) e i) [ ]
 
 -- what offers of a section's life drew was drawn since it got the pairs that it has
-pub drawn_in-life : (rounds : List Round) (section : ℕ) (key : NewKey) → In key (drawn_for (life rounds section)) → IsDrawnInLife rounds section key
+pub drawn_in-life : (rounds : List Round) (section : ℕ) (key : NewKey) → In key (drawn_for (section_life rounds section)) → IsDrawnInLife rounds section key
 drawn_in-life [] section key i = elim i [ ]
 drawn_in-life (round ∷ rounds) section key i = drawn-step round rounds section key (life-step round rounds section) (drawn_in-life rounds section key) i
 

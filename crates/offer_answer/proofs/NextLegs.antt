@@ -14,18 +14,18 @@ use Rattle.port_pool.specs.Ports.{pair_port}
 use Rattle.offer_answer.specs.Rounds.{Round, Offered, OfferAsk, NewLeg}
 use Rattle.offer_answer.specs.Sides.{offerer}
 use Rattle.offer_answer.specs.Sections.{section_in, is_active, is_active_in, has_pairs, is_committed}
-use Rattle.offer_answer.specs.Profiles.{is_srtp, profile_offered, written}
+use Rattle.offer_answer.specs.Profiles.{is_srtp, profile_offered, written_profile}
 use Rattle.offer_answer.specs.Keys.{is_for, leg_keys, key_among, leg_key, key_in_force, line_with, lines_of_keys, no_lines, offered_lines}
 use Rattle.offer_answer.specs.Demands.{new_legs}
 use Rattle.offer_answer.specs.Texts.{new_port, standing_port}
-use Rattle.offer_answer.specs.Dialogs.{drawn_as, key_for, leg_at, no_leg}
-use Rattle.offer_answer.specs.Offering.{OfferedFor, leg_asked, key_asked}
+use Rattle.offer_answer.specs.Dialogs.{drawn_for_leg, key_for, leg_at, no_leg}
+use Rattle.offer_answer.specs.Offers.{OfferedFor, leg_asked, key_asked}
 use Rattle.offer_answer.specs.Nexts.{numbered_keys, pairs_after, port_kept, key_kept, carrying, LegNext, MadeNext}
 use Rattle.offer_answer.specs.declared.leg.DrawnKey.{DrawnKey}
 use Rattle.offer_answer.specs.declared.leg.Leg.{Leg}
 use Rattle.offer_answer.specs.declared.leg.DialogSection.{DialogSection}
 use Rattle.offer_answer.specs.declared.last_offer.MadeSection.{MadeSection}
-use Rattle.offer_answer.specs.declared.offered.OfferedSection.{OfferedSection}
+use Rattle.offer_answer.specs.declared.offered_section.OfferedSection.{OfferedSection}
 use Rattle.offer_answer.proofs.Offering.{dropped-is}
 use Rattle.offer_answer.proofs.Steps.{find-append}
 use Rattle.offer_answer.proofs.Nexts.{without-leg, without-key, without-profile, without-key_in_force}
@@ -66,7 +66,7 @@ leg-dropped config rounds ask section o side profile f p dropped = record {
     key_gone : (suite : Suite) → key_kept rounds ask section side suite ≡ None
     key_gone suite = ap (λ (b : Bool). if b then leg_key rounds section side suite else None) gone
 
-    keys : (suite : Suite) → option_map (drawn_as section side) (key_for (record no_leg { offered = Some profile }) suite)
+    keys : (suite : Suite) → option_map (drawn_for_leg section side) (key_for (record no_leg { offered = Some profile }) suite)
         ≡ or_else (key_among (filter (is_for section side) []) suite) (key_kept rounds ask section side suite)
     keys Tag80 = sym (key_gone Tag80)
     keys Tag32 = sym (key_gone Tag32)
@@ -114,7 +114,7 @@ leg-stands config rounds ask section o side profile f p stands = record {
     key_stays : (suite : Suite) → key_kept rounds ask section side suite ≡ leg_key rounds section side suite
     key_stays suite = key_by suite (pairs_after rounds ask section) refl
 
-    keys : (suite : Suite) → option_map (drawn_as section side) (key_for (record (leg_at o.kept side) { offered = Some profile }) suite)
+    keys : (suite : Suite) → option_map (drawn_for_leg section side) (key_for (record (leg_at o.kept side) { offered = Some profile }) suite)
         ≡ or_else (key_among (filter (is_for section side) []) suite) (key_kept rounds ask section side suite)
     keys Tag80 = (f.kept_is.legs_are side).keys_are Tag80 ∙ sym (key_stays Tag80)
     keys Tag32 = (f.kept_is.legs_are side).keys_are Tag32 ∙ sym (key_stays Tag32)
@@ -128,7 +128,7 @@ two-sides config rounds ask ports keys section now a b B = b
 
 -- the other side has the profile that is written to it
 pub written-over : (rounds : List Round) (ask : OfferAsk) (section : ℕ) (side : Side) (profile : Proto) →
-    Some profile ≡ profile_offered (Offered ask [] [] ∷ rounds) section side → side ≡ other_side (offerer rounds ask) → profile ≡ written rounds ask section
+    Some profile ≡ profile_offered (Offered ask [] [] ∷ rounds) section side → side ≡ other_side (offerer rounds ask) → profile ≡ written_profile rounds ask section
 written-over rounds ask section side profile p s = go (offerer rounds ask) refl
   where
     over : Some profile ≡ profile_offered (Offered ask [] [] ∷ rounds) section (other_side (offerer rounds ask))
@@ -138,10 +138,10 @@ written-over rounds ask section side profile p s = go (offerer rounds ask) refl
     apart A = refl
     apart B = refl
 
-    go : (maker : Side) → offerer rounds ask ≡ maker → profile ≡ written rounds ask section
+    go : (maker : Side) → offerer rounds ask ≡ maker → profile ≡ written_profile rounds ask section
     go maker e =
-        let same : Some profile ≡ Some (written rounds ask section) =
-        over ∙ ap (λ (b : Bool). Some (if b then (section_in ask.sdp section).proto else written rounds ask section)) (apart (offerer rounds ask)) in
+        let same : Some profile ≡ Some (written_profile rounds ask section) =
+        over ∙ ap (λ (b : Bool). Some (if b then (section_in ask.sdp section).proto else written_profile rounds ask section)) (apart (offerer rounds ask)) in
         cc
 
 -- With new ports.
@@ -165,7 +165,7 @@ leg-leased config rounds ask ports keys section side leg n = record {
 }
   where
     keys_stay : (suite : Suite) →
-        option_map (drawn_as section side) (key_for (record leg { port = unwrap_or (new_port (new_legs rounds ask) ports section side) leg.port }) suite)
+        option_map (drawn_for_leg section side) (key_for (record leg { port = unwrap_or (new_port (new_legs rounds ask) ports section side) leg.port }) suite)
         ≡ or_else (key_among (filter (is_for section side) keys) suite) (key_kept rounds ask section side suite)
     keys_stay Tag80 = n.keys_are Tag80
     keys_stay Tag32 = n.keys_are Tag32
@@ -186,8 +186,8 @@ map-else f (Some x) k = refl
 
 pub leg-drawn : (config : Config) (rounds : List Round) (ask : OfferAsk) (ports : List ℕ) (keys : List NewKey) (section : ℕ) (side : Side) (leg : Leg) (long short : Option DrawnKey) →
     LegNext config rounds ask ports [] section side leg →
-    option_map (drawn_as section side) long ≡ key_among (filter (is_for section side) keys) Tag80 →
-    option_map (drawn_as section side) short ≡ key_among (filter (is_for section side) keys) Tag32 →
+    option_map (drawn_for_leg section side) long ≡ key_among (filter (is_for section side) keys) Tag80 →
+    option_map (drawn_for_leg section side) short ≡ key_among (filter (is_for section side) keys) Tag32 →
     LegNext config rounds ask ports keys section side (record leg { long_key = or_else long leg.long_key; short_key = or_else short leg.short_key })
 leg-drawn config rounds ask ports keys section side leg long short n l s = record {
   port_is = n.port_is;
@@ -197,23 +197,23 @@ leg-drawn config rounds ask ports keys section side leg long short n l s = recor
   key_in_force_is = n.key_in_force_is;
 }
   where
-    either : (new old : Option DrawnKey) (suite : Suite) → option_map (drawn_as section side) new ≡ key_among (filter (is_for section side) keys) suite →
-        option_map (drawn_as section side) old ≡ key_kept rounds ask section side suite →
-        option_map (drawn_as section side) (or_else new old) ≡ or_else (key_among (filter (is_for section side) keys) suite) (key_kept rounds ask section side suite)
+    either : (new old : Option DrawnKey) (suite : Suite) → option_map (drawn_for_leg section side) new ≡ key_among (filter (is_for section side) keys) suite →
+        option_map (drawn_for_leg section side) old ≡ key_kept rounds ask section side suite →
+        option_map (drawn_for_leg section side) (or_else new old) ≡ or_else (key_among (filter (is_for section side) keys) suite) (key_kept rounds ask section side suite)
     either new old suite e f =
-        map-else (drawn_as section side) new old ∙ ap (λ o. or_else o (option_map (drawn_as section side) old)) e
+        map-else (drawn_for_leg section side) new old ∙ ap (λ o. or_else o (option_map (drawn_for_leg section side) old)) e
         ∙ ap (or_else (key_among (filter (is_for section side) keys) suite)) f
 
     drawn : (suite : Suite) →
-        option_map (drawn_as section side) (key_for (record leg { long_key = or_else long leg.long_key; short_key = or_else short leg.short_key }) suite)
+        option_map (drawn_for_leg section side) (key_for (record leg { long_key = or_else long leg.long_key; short_key = or_else short leg.short_key }) suite)
         ≡ or_else (key_among (filter (is_for section side) keys) suite) (key_kept rounds ask section side suite)
     drawn Tag80 = either long leg.long_key Tag80 l (n.keys_are Tag80)
     drawn Tag32 = either short leg.short_key Tag32 s (n.keys_are Tag32)
 
 pub leg-keyed : (config : Config) (rounds : List Round) (ask : OfferAsk) (ports : List ℕ) (keys : List NewKey) (section : ℕ) (side : Side) (leg : Leg)
     (long short new_long new_short : Option DrawnKey) → LegNext config rounds ask ports [] section side leg →
-    option_map (drawn_as section side) long ≡ key_among (filter (is_for section side) keys) Tag80 →
-    option_map (drawn_as section side) short ≡ key_among (filter (is_for section side) keys) Tag32 →
+    option_map (drawn_for_leg section side) long ≡ key_among (filter (is_for section side) keys) Tag80 →
+    option_map (drawn_for_leg section side) short ≡ key_among (filter (is_for section side) keys) Tag32 →
     new_long ≡ or_else long leg.long_key → new_short ≡ or_else short leg.short_key →
     LegNext config rounds ask ports keys section side (record leg { long_key = new_long; short_key = new_short })
 leg-keyed config rounds ask ports keys section side leg long short new_long new_short n l s e f =
@@ -295,14 +295,14 @@ used-both a s made e f p q = rw (sym e, sym f, p, q) refl
 pub lines-unused : (rounds : List Round) (ask : OfferAsk) (keys : List NewKey) (section : ℕ) (made : MadeSection) → MadeNext rounds ask section made →
     (is_active made.section && is_srtp made.written) ≡ false → no_lines ≡ offered_lines rounds ask keys section
 lines-unused rounds ask keys section made m e =
-    let unused : (is_active_in ask.sdp section && is_srtp (written rounds ask section)) ≡ false =
+    let unused : (is_active_in ask.sdp section && is_srtp (written_profile rounds ask section)) ≡ false =
     sym (ap (λ s. is_active s && is_srtp made.written) m.section_is ∙ ap (λ p. is_active_in ask.sdp section && is_srtp p) m.written_is) ∙ e in
     sym (ap (λ b. lines_if b rounds ask keys section) unused)
 
 lines-used : (rounds : List Round) (ask : OfferAsk) (keys : List NewKey) (section : ℕ) (made : MadeSection) → MadeNext rounds ask section made →
     (is_active made.section && is_srtp made.written) ≡ true → offered_lines rounds ask keys section ≡ lines_if true rounds ask keys section
 lines-used rounds ask keys section made m e =
-    let used : (is_active_in ask.sdp section && is_srtp (written rounds ask section)) ≡ true =
+    let used : (is_active_in ask.sdp section && is_srtp (written_profile rounds ask section)) ≡ true =
     sym (ap (λ s. is_active s && is_srtp made.written) m.section_is ∙ ap (λ p. is_active_in ask.sdp section && is_srtp p) m.written_is) ∙ e in
     ap (λ b. lines_if b rounds ask keys section) used
 
@@ -313,9 +313,9 @@ pub lines-in_force : (config : Config) (rounds : List Round) (ask : OfferAsk) (p
 lines-in_force config rounds ask ports keys section made leg key m n e k =
     sym (lines-used rounds ask keys section made m e
     ∙ ap (λ o. lines_of_keys o (filter (is_for section (other_side (offerer rounds ask))) keys ++ leg_keys rounds section (other_side (offerer rounds ask))))
-    (sym n.key_in_force_is ∙ ap (option_map (drawn_as section (other_side (offerer rounds ask)))) k))
+    (sym n.key_in_force_is ∙ ap (option_map (drawn_for_leg section (other_side (offerer rounds ask)))) k))
 
-line-carried : (tag : ℕ) (section : ℕ) (side : Side) (key : Option DrawnKey) → option_map (carrying tag) key ≡ option_map (line_with tag) (option_map (drawn_as section side) key)
+line-carried : (tag : ℕ) (section : ℕ) (side : Side) (key : Option DrawnKey) → option_map (carrying tag) key ≡ option_map (line_with tag) (option_map (drawn_for_leg section side) key)
 line-carried tag section side None = refl
 line-carried tag section side (Some key) = refl
 
@@ -326,7 +326,7 @@ pub lines-both : (config : Config) (rounds : List Round) (ask : OfferAsk) (ports
 lines-both config rounds ask ports keys section made leg m n e k =
     ap (λ o. o ∷ option_map (carrying 2) leg.short_key ∷ []) (line 1 Tag80 leg.long_key (n.keys_are Tag80))
     ∙ ap (λ o. option_map (line_with 1) (key_among all_keys Tag80) ∷ o ∷ []) (line 2 Tag32 leg.short_key (n.keys_are Tag32))
-    ∙ sym (lines-used rounds ask keys section made m e ∙ ap (λ o. lines_of_keys o all_keys) (sym n.key_in_force_is ∙ ap (option_map (drawn_as section side)) k))
+    ∙ sym (lines-used rounds ask keys section made m e ∙ ap (λ o. lines_of_keys o all_keys) (sym n.key_in_force_is ∙ ap (option_map (drawn_for_leg section side)) k))
   where
     side : Side
     side = other_side (offerer rounds ask)
@@ -345,7 +345,7 @@ lines-both config rounds ask ports keys section made leg m n e k =
     stays suite = ap (λ (b : Bool). if b || is_committed rounds section then leg_key rounds section side suite else None) active
 
     line : (tag : ℕ) (suite : Suite) (key : Option DrawnKey) →
-        option_map (drawn_as section side) key ≡ or_else (key_among (filter (is_for section side) keys) suite) (key_kept rounds ask section side suite) →
+        option_map (drawn_for_leg section side) key ≡ or_else (key_among (filter (is_for section side) keys) suite) (key_kept rounds ask section side suite) →
         option_map (carrying tag) key ≡ option_map (line_with tag) (key_among all_keys suite)
     line tag suite key is =
         line-carried tag section side key

@@ -10,14 +10,14 @@ use Rattle.port_pool.specs.Signals.{NewKey, side_eq, suite_eq}
 use Rattle.port_pool.specs.Ports.{pair_port}
 use Rattle.offer_answer.specs.Rounds.{Round, Offered, Answered, OfferAsk, NewLeg, KeyPlace, drawn_for}
 use Rattle.offer_answer.specs.Sides.{is_begun, has_answer, last_answer, first_tag, offerer}
-use Rattle.offer_answer.specs.Sections.{most_sections, all_sections, active_sections, is_active_in, leases, life, has_pairs, is_committed, leased_for, leg_of}
+use Rattle.offer_answer.specs.Sections.{most_sections, all_sections, active_sections, is_active_in, leases, section_life, has_pairs, is_committed, leased_for, leg_of}
 use Rattle.offer_answer.specs.Profiles.{profile_offered, profile_in_force}
 use Rattle.offer_answer.specs.Keys.{is_for, key_among, leg_key, committed_key, key_in_force, section_keys}
 use Rattle.offer_answer.specs.Demands.{new_leg, legs_for, new_active_sections, new_legs, new_keys}
 use Rattle.offer_answer.specs.Texts.{new_port, standing_port}
 use Rattle.offer_answer.specs.Laws.{leg_place, new_leg_place, key_place}
 use Rattle.offer_answer.specs.Dialogs.{DialogFor, Awaits, SectionFor}
-use Rattle.offer_answer.specs.Filled.{AreLeased, port_after}
+use Rattle.offer_answer.specs.PortsAndKeys.{AreDemandedLegs, port_after}
 use Rattle.offer_answer.specs.Nexts.{numbered_keys, pairs_after, port_kept, key_kept, LegNext, SectionNext}
 use Rattle.offer_answer.specs.declared.leg.Leg.{Leg}
 use Rattle.offer_answer.specs.declared.leg.DialogSection.{DialogSection}
@@ -32,21 +32,21 @@ use Rattle.offer_answer.proofs.Steps.{pairs-offered, committed-offered, not-amon
 -- Sections without pairs, and ones that aren't committed.
 
 pub committed-has : (rounds : List Round) (section : ℕ) → is_committed rounds section ≡ true → has_pairs rounds section ≡ true
-committed-has rounds section e = go (life rounds section) e
+committed-has rounds section e = go (section_life rounds section) e
   where
     go : (now : List Round) → has_answer now ≡ true → is_begun now ≡ true
     go [] e = cc
     go (round ∷ now) e = refl
 
 pub without-leg : (rounds : List Round) (section : ℕ) (side : Side) → has_pairs rounds section ≡ false → leg_of rounds section side ≡ None
-without-leg rounds section side e = go (life rounds section) e
+without-leg rounds section side e = go (section_life rounds section) e
   where
     go : (now : List Round) → is_begun now ≡ false → find (λ (leg : Holder). leg.section == section && side_eq leg.side side) (leased_for now) ≡ None
     go [] e = refl
     go (round ∷ now) e = cc
 
 pub without-key : (rounds : List Round) (section : ℕ) (side : Side) (suite : Suite) → has_pairs rounds section ≡ false → leg_key rounds section side suite ≡ None
-without-key rounds section side suite e = go (life rounds section) e
+without-key rounds section side suite e = go (section_life rounds section) e
   where
     go : (now : List Round) → is_begun now ≡ false → key_among (filter (is_for section side) (drawn_for now)) suite ≡ None
     go [] e = refl
@@ -63,7 +63,7 @@ without-key_in_force rounds section side e =
 
 -- An offer leases pairs for the sections that it uses and that have none.
 
-leased-new : (config : Config) (rounds : List Round) (ask : OfferAsk) (ports : List ℕ) (legs : List Holder) (section : ℕ) → AreLeased config rounds ask ports legs →
+leased-new : (config : Config) (rounds : List Round) (ask : OfferAsk) (ports : List ℕ) (legs : List Holder) (section : ℕ) → AreDemandedLegs config rounds ask ports legs →
     list_any (λ (leg : Holder). leg.section == section) legs ≡ true → In section (new_active_sections rounds ask)
 leased-new config rounds ask ports legs section l e =
     let one = some-passes (λ (leg : Holder). leg.section == section) legs e in
@@ -73,7 +73,7 @@ leased-new config rounds ask ports legs section l e =
     let same : from.source ≡ section = section-of one.0 new.0 from.source section (in-legs_for rounds ask from.source new.0 from.gives) new.2 one.2 in
     subst (λ n. In n (new_active_sections rounds ask)) same from.is_in
 
-new-leased : (config : Config) (rounds : List Round) (ask : OfferAsk) (ports : List ℕ) (legs : List Holder) (section : ℕ) → AreLeased config rounds ask ports legs →
+new-leased : (config : Config) (rounds : List Round) (ask : OfferAsk) (ports : List ℕ) (legs : List Holder) (section : ℕ) → AreDemandedLegs config rounds ask ports legs →
     is_active_in ask.sdp section ≡ true → has_pairs rounds section ≡ false → list_any (λ (leg : Holder). leg.section == section) legs ≡ false → ⊥
 new-leased config rounds ask ports legs section l active had e =
     let new : In section (new_active_sections rounds ask) =
@@ -89,7 +89,7 @@ new-leased config rounds ask ports legs section l active had e =
     true≢false (sym alike ∙ same)
 
 pub leases-new : (config : Config) (rounds : List Round) (ask : OfferAsk) (ports : List ℕ) (legs : List Holder) (keys : List NewKey) (section : ℕ) →
-    AreLeased config rounds ask ports legs → leases (Offered ask legs keys) section ≡ (is_active_in ask.sdp section && not (has_pairs rounds section))
+    AreDemandedLegs config rounds ask ports legs → leases (Offered ask legs keys) section ≡ (is_active_in ask.sdp section && not (has_pairs rounds section))
 leases-new config rounds ask ports legs keys section l =
     go (leases (Offered ask legs keys) section) (is_active_in ask.sdp section) (has_pairs rounds section) refl refl refl
   where
@@ -111,12 +111,12 @@ and-false true = refl
 and-false false = refl
 
 leases-had : (config : Config) (rounds : List Round) (ask : OfferAsk) (ports : List ℕ) (legs : List Holder) (keys : List NewKey) (section : ℕ) →
-    AreLeased config rounds ask ports legs → has_pairs rounds section ≡ true → leases (Offered ask legs keys) section ≡ false
+    AreDemandedLegs config rounds ask ports legs → has_pairs rounds section ≡ true → leases (Offered ask legs keys) section ≡ false
 leases-had config rounds ask ports legs keys section l had =
     leases-new config rounds ask ports legs keys section l ∙ ap (λ h. is_active_in ask.sdp section && not h) had ∙ and-false (is_active_in ask.sdp section)
 
 leased-had : (config : Config) (rounds : List Round) (ask : OfferAsk) (ports : List ℕ) (legs : List Holder) (keys : List NewKey) (section : ℕ) →
-    AreLeased config rounds ask ports legs → leases (Offered ask legs keys) section ≡ true → has_pairs rounds section ≡ false
+    AreDemandedLegs config rounds ask ports legs → leases (Offered ask legs keys) section ≡ true → has_pairs rounds section ≡ false
 leased-had config rounds ask ports legs keys section l e = go (has_pairs rounds section) refl
   where
     go : (b : Bool) → has_pairs rounds section ≡ b → b ≡ false
@@ -126,7 +126,7 @@ leased-had config rounds ask ports legs keys section l e = go (has_pairs rounds 
 -- What stands after the offer.
 
 pub pairs-next : (config : Config) (rounds : List Round) (ask : OfferAsk) (ports : List ℕ) (legs : List Holder) (keys : List NewKey) (section : ℕ) →
-    AreLeased config rounds ask ports legs → has_pairs (Offered ask legs keys ∷ rounds) section ≡ pairs_after rounds ask section
+    AreDemandedLegs config rounds ask ports legs → has_pairs (Offered ask legs keys ∷ rounds) section ≡ pairs_after rounds ask section
 pairs-next config rounds ask ports legs keys section l =
     pairs-offered ask legs keys rounds section
     ∙ ap (λ b. b || (has_pairs rounds section && not (not (is_active_in ask.sdp section) && not (is_committed rounds section)))) (leases-new config rounds ask ports legs keys section l)
@@ -141,7 +141,7 @@ pairs-next config rounds ask ports legs keys section l =
     go false false false h = refl
 
 pub committed-next : (config : Config) (rounds : List Round) (ask : OfferAsk) (ports : List ℕ) (legs : List Holder) (keys : List NewKey) (section : ℕ) →
-    AreLeased config rounds ask ports legs → is_committed (Offered ask legs keys ∷ rounds) section ≡ is_committed rounds section
+    AreDemandedLegs config rounds ask ports legs → is_committed (Offered ask legs keys ∷ rounds) section ≡ is_committed rounds section
 committed-next config rounds ask ports legs keys section l =
     committed-offered ask legs keys rounds section ∙ go (is_committed rounds section) refl
   where
@@ -191,7 +191,7 @@ or-none None = refl
 or-none (Some x) = refl
 
 port-next : (config : Config) (rounds : List Round) (ask : OfferAsk) (ports : List ℕ) (legs : List Holder) (keys : List NewKey) (section : ℕ) (side : Side) →
-    AreLeased config rounds ask ports legs →
+    AreDemandedLegs config rounds ask ports legs →
     or_else (new_port (new_legs rounds ask) ports section side) (port_kept config rounds ask section side) ≡ standing_port config (Offered ask legs keys ∷ rounds) section side
 port-next config rounds ask ports legs keys section side l = go (leases (Offered ask legs keys) section) refl
   where
@@ -262,7 +262,7 @@ numbered-places first (bytes ∷ keys) [] e = absurd (omega (arith, e))
 numbered-places first (bytes ∷ keys) (place ∷ places) e = ap (λ ps. place ∷ ps) (numbered-places (first + 1) keys places (omega (arith, e)))
 
 key-next : (config : Config) (rounds : List Round) (ask : OfferAsk) (ports : List ℕ) (legs : List Holder) (keys : List NewKey) (section : ℕ) (side : Side) (suite : Suite) →
-    AreLeased config rounds ask ports legs → map key_place keys ≡ new_keys rounds ask →
+    AreDemandedLegs config rounds ask ports legs → map key_place keys ≡ new_keys rounds ask →
     or_else (key_among (filter (is_for section side) keys) suite) (key_kept rounds ask section side suite) ≡ leg_key (Offered ask legs keys ∷ rounds) section side suite
 key-next config rounds ask ports legs keys section side suite l drawn =
     go (pairs_after rounds ask section) refl ∙ sym after
@@ -301,7 +301,7 @@ key-next config rounds ask ports legs keys section side suite l drawn =
         ∙ sym (ap (λ (b : Bool). if b then or_else new (if leases (Offered ask legs keys) section then None else old) else None) e)
 
 in_force-next : (config : Config) (rounds : List Round) (ask : OfferAsk) (ports : List ℕ) (legs : List Holder) (keys : List NewKey) (section : ℕ) (side : Side) →
-    AreLeased config rounds ask ports legs → key_in_force (Offered ask legs keys ∷ rounds) section side ≡ key_in_force rounds section side
+    AreDemandedLegs config rounds ask ports legs → key_in_force (Offered ask legs keys ∷ rounds) section side ≡ key_in_force rounds section side
 in_force-next config rounds ask ports legs keys section side l =
     in_force-offered ask legs keys rounds section side ∙ go (leases (Offered ask legs keys) section) refl
   where
@@ -317,7 +317,7 @@ in_force-next config rounds ask ports legs keys section side l =
     go false e = ap (λ (b : Bool). if not b then key_in_force rounds section side else None) e
 
 profile-next : (config : Config) (rounds : List Round) (ask : OfferAsk) (ports : List ℕ) (legs : List Holder) (keys : List NewKey) (section : ℕ) (side : Side) →
-    AreLeased config rounds ask ports legs → profile_in_force (Offered ask legs keys ∷ rounds) section side ≡ profile_in_force rounds section side
+    AreDemandedLegs config rounds ask ports legs → profile_in_force (Offered ask legs keys ∷ rounds) section side ≡ profile_in_force rounds section side
 profile-next config rounds ask ports legs keys section side l =
     ap (λ (b : Bool). if b then profile_in_force rounds section side else None) (committed-next config rounds ask ports legs keys section l)
     ∙ go (is_committed rounds section) refl
@@ -329,7 +329,7 @@ profile-next config rounds ask ports legs keys section side l =
 -- Once all ports and keys have come, a section is as after the offer.
 
 pub section-filled : (config : Config) (rounds : List Round) (ask : OfferAsk) (ports : List ℕ) (legs : List Holder) (keys : List NewKey) (section : ℕ) (now : DialogSection) →
-    SectionNext config rounds ask ports keys section now → map key_place keys ≡ new_keys rounds ask → AreLeased config rounds ask ports legs →
+    SectionNext config rounds ask ports keys section now → map key_place keys ≡ new_keys rounds ask → AreDemandedLegs config rounds ask ports legs →
     SectionFor config (Offered ask legs keys ∷ rounds) section now
 section-filled config rounds ask ports legs keys section now n drawn l = record {
   pairs_are = n.pairs_are ∙ sym (pairs-next config rounds ask ports legs keys section l);

@@ -7,33 +7,33 @@ use Rattle.histories.specs.Words.{numbers, has}
 use Rattle.offer_answer.proofs.Standing.{has-filter}
 use Rattle.relay_outside.specs.declared.settings.Config.{Config}
 use Rattle.sdes_lines.specs.declared.crypto_line.CryptoLine.{CryptoLine}
-use Rattle.sdp_text.specs.Reading.{sections_in}
+use Rattle.sdp_text.specs.Descriptions.{sections_in}
 use Rattle.sdp_text.specs.declared.section.Section.{Section}
-use Rattle.sdp_edit.specs.Choosing.{section_lines, IsFirstOf, IsAny}
+use Rattle.sdp_edit.specs.ChosenLines.{section_lines, IsFirstOf, IsAny}
 use Rattle.port_pool.specs.declared.holder.Side.{Side}
 use Rattle.port_pool.specs.Signals.{other_side}
 use Rattle.offer_answer.specs.Rounds.{Round, OfferAsk, NewLeg, KeyPlace}
 use Rattle.offer_answer.specs.Sections.{section_count, section_in, no_section, is_active, is_active_in, active_sections, committed_count, has_pairs, is_committed}
 use Rattle.offer_answer.specs.Profiles.{is_srtp, profile_in_force}
-use Rattle.offer_answer.specs.Keys.{chosen_in, suite_of, place_of, leg_key, missing_keys, offerers_suites, others_suites, section_keys}
+use Rattle.offer_answer.specs.Keys.{chosen_in, suite_of, key_place_of, leg_key, missing_keys, offerers_suites, others_suites, section_keys}
 use Rattle.offer_answer.specs.Demands.{is_dropped, dropped_sections, new_leg, legs_for, new_legs, new_keys}
 use Rattle.offer_answer.specs.Faults.{lacks_line, is_strangers}
-use Rattle.offer_answer.specs.Plan.{OfferHeard, offer_fault}
+use Rattle.offer_answer.specs.Plan.{OfferRead, offer_fault}
 use Rattle.ng_reply.specs.declared.code.ErrorCode.TheVariants.{E8, E10, E12}
-use Rattle.offer_answer.specs.Offering.{HearsOffer, OfferedFor, written_over, missing, offerers_keys, others_keys, keys_asked, leg_asked, key_asked}
-use Rattle.offer_answer.specs.Dialogs.{key_for, leg_at, drawn_as}
+use Rattle.offer_answer.specs.Offers.{ReadsOffer, OfferedFor, written_over, missing, offerers_keys, others_keys, keys_asked, leg_asked, key_asked}
+use Rattle.offer_answer.specs.Dialogs.{key_for, leg_at, drawn_for_leg}
 use Rattle.offer_answer.specs.Sides.{offerer}
 use Rattle.offer_answer.specs.declared.leg.Leg.{Leg}
 use Rattle.offer_answer.specs.declared.leg.DrawnKey.{DrawnKey}
 use Rattle.sdp_text.specs.declared.proto.Proto.{Proto}
 use Rattle.sdes_lines.specs.declared.crypto_line.Suite.{Suite}
 use Rattle.sdes_lines.specs.declared.crypto_line.Suite.TheVariants.{Tag80, Tag32}
-use Rattle.offer_answer.specs.declared.offered.OfferedSection.{OfferedSection}
+use Rattle.offer_answer.specs.declared.offered_section.OfferedSection.{OfferedSection}
 
-pub count-heard : (lines : List (List ℕ)) (ask : OfferAsk) → HearsOffer lines ask → section_count ask.sdp ≡ length (sections_in lines)
+pub count-heard : (lines : List (List ℕ)) (ask : OfferAsk) → ReadsOffer lines ask → section_count ask.sdp ≡ length (sections_in lines)
 count-heard lines ask h = ap (λ ls. length (sections_in ls)) h.lines_are
 
-pub section-heard : (lines : List (List ℕ)) (ask : OfferAsk) (section : ℕ) (s : Section) → HearsOffer lines ask → slice_get (sections_in lines) section ≡ Some s →
+pub section-heard : (lines : List (List ℕ)) (ask : OfferAsk) (section : ℕ) (s : Section) → ReadsOffer lines ask → slice_get (sections_in lines) section ≡ Some s →
     s ≡ section_in ask.sdp section
 section-heard lines ask section s h e =
     sym (subst (λ (ls : List (List ℕ)). unwrap_or (slice_get (sections_in ls) section) no_section ≡ s) (sym h.lines_are) (ap (λ o. unwrap_or o no_section) e))
@@ -45,22 +45,22 @@ past-end xs i l = elim (slice_get_cases xs i).1 [
   | inr past ↦ past.1
 ]
 
-pub no-section-heard : (lines : List (List ℕ)) (ask : OfferAsk) (section : ℕ) → HearsOffer lines ask → length (sections_in lines) ≤ section →
+pub no-section-heard : (lines : List (List ℕ)) (ask : OfferAsk) (section : ℕ) → ReadsOffer lines ask → length (sections_in lines) ≤ section →
     no_section ≡ section_in ask.sdp section
 no-section-heard lines ask section h l =
     sym (subst (λ (ls : List (List ℕ)). unwrap_or (slice_get (sections_in ls) section) no_section ≡ no_section) (sym h.lines_are)
     (ap (λ o. unwrap_or o no_section) (past-end (sections_in lines) section l)))
 
-pub line-heard : (lines : List (List ℕ)) (ask : OfferAsk) (section : ℕ) → HearsOffer lines ask → section < length (sections_in lines) →
+pub line-heard : (lines : List (List ℕ)) (ask : OfferAsk) (section : ℕ) → ReadsOffer lines ask → section < length (sections_in lines) →
     IsFirstOf IsAny (section_lines section lines) (chosen_in ask.chosen section)
-unfolding OfferHeard
+unfolding OfferRead
 line-heard lines ask section h l =
     subst (λ (ls : List (List ℕ)). IsFirstOf IsAny (section_lines section ls) (chosen_in ask.chosen section)) h.lines_are
     (h.heard.first section (omega (arith, l, count-heard lines ask h)))
 
-pub no-line-heard : (lines : List (List ℕ)) (ask : OfferAsk) (section : ℕ) → HearsOffer lines ask → length (sections_in lines) ≤ section →
+pub no-line-heard : (lines : List (List ℕ)) (ask : OfferAsk) (section : ℕ) → ReadsOffer lines ask → length (sections_in lines) ≤ section →
     None ≡ chosen_in ask.chosen section
-unfolding OfferHeard
+unfolding OfferRead
 no-line-heard lines ask section h l =
     let past = past-end ask.chosen section (omega (arith, l, count-heard lines ask h, h.heard.count)) in
     sym (ap (λ (o : Option (Option CryptoLine)). elim o [ None ↦ None | Some line ↦ line ]) past)
@@ -168,22 +168,22 @@ keys-gathered rounds ask i n here old new l h e =
 -- The keys that a section demands.
 
 missing-is : (leg : Leg) (rounds : List Round) (section : ℕ) (side : Side) (suites : List Suite) →
-    ((suite : Suite) → option_map (drawn_as section side) (key_for leg suite) ≡ leg_key rounds section side suite) →
+    ((suite : Suite) → option_map (drawn_for_leg section side) (key_for leg suite) ≡ leg_key rounds section side suite) →
     map key_asked (missing leg section side suites) ≡ missing_keys rounds section side suites
 missing-is leg rounds section side [] keys = refl
 missing-is leg rounds section side (suite ∷ suites) keys = go (key_for leg suite) refl (keys suite) (missing-is leg rounds section side suites keys)
   where
-    go : (k : Option DrawnKey) → key_for leg suite ≡ k → option_map (drawn_as section side) (key_for leg suite) ≡ leg_key rounds section side suite →
+    go : (k : Option DrawnKey) → key_for leg suite ≡ k → option_map (drawn_for_leg section side) (key_for leg suite) ≡ leg_key rounds section side suite →
         map key_asked (missing leg section side suites) ≡ missing_keys rounds section side suites →
         map key_asked (missing leg section side (suite ∷ suites)) ≡ missing_keys rounds section side (suite ∷ suites)
     go None e f more =
-        let g : leg_key rounds section side suite ≡ None = sym f ∙ ap (option_map (drawn_as section side)) e in
-        rw (e, g) (ap (λ xs. place_of section side suite ∷ xs) more)
+        let g : leg_key rounds section side suite ≡ None = sym f ∙ ap (option_map (drawn_for_leg section side)) e in
+        rw (e, g) (ap (λ xs. key_place_of section side suite ∷ xs) more)
     go (Some k) e f more =
-        let g : leg_key rounds section side suite ≡ Some (drawn_as section side k) = sym f ∙ ap (option_map (drawn_as section side)) e in
+        let g : leg_key rounds section side suite ≡ Some (drawn_for_leg section side k) = sym f ∙ ap (option_map (drawn_for_leg section side)) e in
         rw (e, g) more
 
-none-alike : (section : ℕ) (side : Side) (k : Option DrawnKey) → is_none k ≡ is_none (option_map (drawn_as section side) k)
+none-alike : (section : ℕ) (side : Side) (k : Option DrawnKey) → is_none k ≡ is_none (option_map (drawn_for_leg section side) k)
 none-alike section side None = refl
 none-alike section side (Some k) = refl
 

@@ -6,7 +6,7 @@ use Rattle.histories.specs.Words.{In, here, there, numbers}
 use Rattle.sdes_lines.specs.declared.crypto_line.Suite.{Suite}
 use Rattle.sdes_lines.specs.declared.crypto_line.Suite.TheVariants.{Tag80, Tag32}
 use Rattle.sdes_lines.specs.declared.crypto_line.CryptoLine.{CryptoLine}
-use Rattle.sdp_edit.specs.Choosing.{IsOffered}
+use Rattle.sdp_edit.specs.ChosenLines.{IsOffered}
 use Rattle.sdp_text.specs.declared.section.Section.{Section}
 use Rattle.std.proofs.Common.{nat_lt}
 use Rattle.ng_reply.specs.declared.code.ErrorCode.TheVariants.{E8, E10, E12}
@@ -16,9 +16,9 @@ use Rattle.port_pool.specs.declared.holder.Holder.{Holder}
 use Rattle.port_pool.specs.Signals.{NewKey, side_eq, suite_eq, other_side}
 use Rattle.offer_answer.specs.Rounds.{Round, Offered, OfferAsk, NewLeg, KeyPlace, drawn_for}
 use Rattle.offer_answer.specs.Sides.{offerer}
-use Rattle.offer_answer.specs.Sections.{no_section, committed_count, sections_of, section_count, section_in, all_sections, active_sections, is_active, is_active_in, leases, life, has_pairs}
-use Rattle.offer_answer.specs.Profiles.{is_srtp, written}
-use Rattle.offer_answer.specs.Keys.{chosen_in, is_for, leg_keys, key_among, leg_key, key_in_force, place_of, missing_keys, offerers_suites, others_suites, section_keys, line_with, lines_of_keys, no_lines, offered_lines}
+use Rattle.offer_answer.specs.Sections.{no_section, committed_count, sections_of, section_count, section_in, all_sections, active_sections, is_active, is_active_in, leases, section_life, has_pairs}
+use Rattle.offer_answer.specs.Profiles.{is_srtp, written_profile}
+use Rattle.offer_answer.specs.Keys.{chosen_in, is_for, leg_keys, key_among, leg_key, key_in_force, key_place_of, missing_keys, offerers_suites, others_suites, section_keys, line_with, lines_of_keys, no_lines, offered_lines}
 use Rattle.offer_answer.specs.Demands.{legs_for, new_active_sections, new_legs}
 use Rattle.offer_answer.specs.Faults.{is_strangers, lacks_line}
 use Rattle.offer_answer.specs.Plan.{offer_fault, demand}
@@ -129,9 +129,9 @@ not-leased rounds ask legs keys section r has = go (leases (Offered ask legs key
     go true e = let p = some-passes (λ (leg : Holder). leg.section == section) legs e in absurd (leased p.0 p.1 p.2)
 
 has_key-pairs : (rounds : List Round) (section : ℕ) (side : Side) (suite : Suite) → HasKey rounds section side suite → has_pairs rounds section ≡ true
-has_key-pairs rounds section side suite h = go (life rounds section) refl
+has_key-pairs rounds section side suite h = go (section_life rounds section) refl
   where
-    go : (now : List Round) → life rounds section ≡ now → has_pairs rounds section ≡ true
+    go : (now : List Round) → section_life rounds section ≡ now → has_pairs rounds section ≡ true
     go [] e = elim (subst (λ rs. In h.key (drawn_for rs)) e h.drawn) [ ]
     go (former ∷ before) e = rw e refl
 
@@ -142,7 +142,7 @@ has_key-kept : (rounds : List Round) (ask : OfferAsk) (legs : List Holder) (keys
 has_key-kept rounds ask legs keys section side suite r has h =
     has_key-old ask legs keys rounds section side suite has (not-leased rounds ask legs keys section r (has_key-pairs rounds section side suite h)) h
 
-is_for-place : (section : ℕ) (side : Side) (suite : Suite) (key : NewKey) → key_place key ≡ place_of section side suite → is_for section side key ≡ true
+is_for-place : (section : ℕ) (side : Side) (suite : Suite) (key : NewKey) → key_place key ≡ key_place_of section side suite → is_for section side key ≡ true
 is_for-place section side suite key e =
     rw (ap (λ (p : KeyPlace). p.section) e, ap (λ (p : KeyPlace). p.side) e) (both side)
   where
@@ -153,11 +153,11 @@ is_for-place section side suite key e =
 -- what it demands for an active section it draws
 has_key-demanded : (rounds : List Round) (ask : OfferAsk) (legs : List Holder) (keys : List NewKey) (section : ℕ) (side : Side) (suite : Suite) →
     IsOfferRound rounds ask legs keys → has_pairs (Offered ask legs keys ∷ rounds) section ≡ true → is_active_in ask.sdp section ≡ true →
-    In (place_of section side suite) (section_keys rounds ask section) → HasKey (Offered ask legs keys ∷ rounds) section side suite
+    In (key_place_of section side suite) (section_keys rounds ask section) → HasKey (Offered ask legs keys ∷ rounds) section side suite
 unfolding demand
 has_key-demanded rounds ask legs keys section side suite r has active i =
-    let demanded = in-flat (section_keys rounds ask) (active_sections ask.sdp) section (place_of section side suite) (in-active ask.sdp section active) i in
-    let drawn = in-map key_place keys (place_of section side suite) (subst (λ places. In (place_of section side suite) places) (sym r.drawn) demanded) in
+    let demanded = in-flat (section_keys rounds ask) (active_sections ask.sdp) section (key_place_of section side suite) (in-active ask.sdp section active) i in
+    let drawn = in-map key_place keys (key_place_of section side suite) (subst (λ places. In (key_place_of section side suite) places) (sym r.drawn) demanded) in
     subst (λ s. HasKey (Offered ask legs keys ∷ rounds) section side s) (ap (λ (p : KeyPlace). p.suite) (sym drawn.2))
     (has_key-new ask legs keys rounds section side drawn.0 has drawn.1 (is_for-place section side suite drawn.0 (sym drawn.2)))
 
@@ -172,10 +172,10 @@ own-key rounds ask legs keys section line r has active secure chosen =
     suites : offerers_suites ask section ≡ line.suite ∷ []
     suites = rw (secure, chosen) refl
 
-    missing : leg_key rounds section (offerer rounds ask) line.suite ≡ None → In (place_of section (offerer rounds ask) line.suite) (section_keys rounds ask section)
+    missing : leg_key rounds section (offerer rounds ask) line.suite ≡ None → In (key_place_of section (offerer rounds ask) line.suite) (section_keys rounds ask section)
     missing none =
         in-left (missing_keys rounds section (other_side (offerer rounds ask)) (others_suites rounds ask section))
-        (in-mapped (place_of section (offerer rounds ask)) (filter (λ suite. is_none (leg_key rounds section (offerer rounds ask) suite)) (offerers_suites ask section)) line.suite
+        (in-mapped (key_place_of section (offerer rounds ask)) (filter (λ suite. is_none (leg_key rounds section (offerer rounds ask) suite)) (offerers_suites ask section)) line.suite
         (in-kept (λ suite. is_none (leg_key rounds section (offerer rounds ask) suite)) (offerers_suites ask section) line.suite
         (subst (λ ss. In line.suite ss) (sym suites) (here refl)) (ap is_none none)))
 
@@ -190,7 +190,7 @@ pub others-key : (rounds : List Round) (ask : OfferAsk) (legs : List Holder) (ke
     IsOffered (offered_lines rounds ask keys section) line →
     HasKey (Offered ask legs keys ∷ rounds) section (other_side (offerer rounds ask)) line.suite
 others-key rounds ask legs keys section line r has offered =
-    go (is_active_in ask.sdp section && is_srtp (written rounds ask section)) (key_in_force rounds section side) refl offered
+    go (is_active_in ask.sdp section && is_srtp (written_profile rounds ask section)) (key_in_force rounds section side) refl offered
   where
     side : Side
     side = other_side (offerer rounds ask)

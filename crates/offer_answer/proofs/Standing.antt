@@ -10,7 +10,7 @@ use Rattle.port_pool.specs.declared.holder.Side.TheVariants.{A, B}
 use Rattle.port_pool.specs.Signals.{NewKey, rejects, is_rejected}
 use Rattle.offer_answer.specs.Rounds.{Round, Offered, Answered, OfferAsk, AnswerAsk}
 use Rattle.offer_answer.specs.Sides.{MadeOffer, is_begun, last_offer, offered_sdp, has_answer}
-use Rattle.offer_answer.specs.Sections.{most_sections, section_count, all_sections, is_active_in, leases, life, has_pairs}
+use Rattle.offer_answer.specs.Sections.{most_sections, section_count, all_sections, is_active_in, leases, section_life, has_pairs}
 use Rattle.offer_answer.specs.Demands.{is_dropped}
 use Rattle.offer_answer.specs.Signals.{is_rejected_by, side_signal, section_signal, answer_signal}
 use Rattle.offer_answer.specs.Plan.{signal, demand}
@@ -18,33 +18,33 @@ use Rattle.offer_answer.specs.Laws.{RejectsWhatGoes, DropsWhatGoes}
 use Rattle.offer_answer.proofs.Lives.{LifeOf, begins, goes_on, is_over, life-step}
 
 -- a life has the last offer of all rounds
-pub offered_in-life : (rounds : List Round) (section : ℕ) → has_pairs rounds section ≡ true → offered_sdp (life rounds section) ≡ offered_sdp rounds
+pub offered_in-life : (rounds : List Round) (section : ℕ) → has_pairs rounds section ≡ true → offered_sdp (section_life rounds section) ≡ offered_sdp rounds
 offered_in-life [] section has = cc
 offered_in-life (Offered ask legs keys ∷ rounds) section has = go (life-step (Offered ask legs keys) rounds section) has
   where
     go : LifeOf (Offered ask legs keys) rounds section → has_pairs (Offered ask legs keys ∷ rounds) section ≡ true →
-        offered_sdp (life (Offered ask legs keys ∷ rounds) section) ≡ ask.sdp
+        offered_sdp (section_life (Offered ask legs keys ∷ rounds) section) ≡ ask.sdp
     go (begins l e) h = rw e refl
     go (goes_on l had e) h = rw e refl
     go (is_over e) h = let h' : false ≡ true = subst (λ rs. is_begun rs ≡ true) e h in cc
 offered_in-life (Answered ask ∷ rounds) section has = go (life-step (Answered ask) rounds section) (offered_in-life rounds section) has
   where
-    go : LifeOf (Answered ask) rounds section → (has_pairs rounds section ≡ true → offered_sdp (life rounds section) ≡ offered_sdp rounds) →
-        has_pairs (Answered ask ∷ rounds) section ≡ true → offered_sdp (life (Answered ask ∷ rounds) section) ≡ offered_sdp rounds
+    go : LifeOf (Answered ask) rounds section → (has_pairs rounds section ≡ true → offered_sdp (section_life rounds section) ≡ offered_sdp rounds) →
+        has_pairs (Answered ask ∷ rounds) section ≡ true → offered_sdp (section_life (Answered ask ∷ rounds) section) ≡ offered_sdp rounds
     go (begins l e) more h = cc
     go (goes_on l had e) more h = rw e (more had)
     go (is_over e) more h = let h' : false ≡ true = subst (λ rs. is_begun rs ≡ true) e h in cc
 
 -- a section is rejected exactly where it has no pairs after the answer
 pub rejected-goes : (rounds : List Round) (ask : AnswerAsk) (section : ℕ) → is_rejected_by rounds ask section ≡ not (has_pairs (Answered ask ∷ rounds) section)
-rejected-goes rounds ask section = go (life rounds section) refl
+rejected-goes rounds ask section = go (section_life rounds section) refl
   where
     on : (x y h : Bool) → h ≡ false → not (x && y && h) ≡ true
     on true true h e = rw e refl
     on true false h e = refl
     on false y h e = refl
 
-    alive : (x y : Bool) (former : Round) (before : List Round) → life rounds section ≡ former ∷ before →
+    alive : (x y : Bool) (former : Round) (before : List Round) → section_life rounds section ≡ former ∷ before →
         is_active_in (offered_sdp rounds) section ≡ x → is_active_in ask.sdp section ≡ y →
         not (x && y && true) ≡ not (has_pairs (Answered ask ∷ rounds) section)
     alive x y former before e p q =
@@ -56,7 +56,7 @@ rejected-goes rounds ask section = go (life rounds section) refl
         cases true false = refl
         cases false y = refl
 
-    go : (now : List Round) → life rounds section ≡ now → is_rejected_by rounds ask section ≡ not (has_pairs (Answered ask ∷ rounds) section)
+    go : (now : List Round) → section_life rounds section ≡ now → is_rejected_by rounds ask section ≡ not (has_pairs (Answered ask ∷ rounds) section)
     go [] e =
         on (is_active_in (offered_sdp rounds) section) (is_active_in ask.sdp section) (has_pairs rounds section) (rw e refl)
         ∙ rw e refl
@@ -136,7 +136,7 @@ has-numbers k (suc n) i low high = go (k == i) refl (λ above. has-numbers (suc 
 dropped-goes : (rounds : List Round) (ask : OfferAsk) (legs : List Holder) (keys : List NewKey) (section : ℕ) →
     leases (Offered ask legs keys) section ≡ false →
     is_dropped rounds ask section ≡ (has_pairs rounds section && not (has_pairs (Offered ask legs keys ∷ rounds) section))
-dropped-goes rounds ask legs keys section none = go (life rounds section) refl
+dropped-goes rounds ask legs keys section none = go (section_life rounds section) refl
   where
     cases : (committed active : Bool) (former : Round) (before : List Round) →
         (true && (not committed && not active)) ≡ (true && not (is_begun (if not active && not committed then [] else Offered ask legs keys ∷ former ∷ before)))
@@ -145,7 +145,7 @@ dropped-goes rounds ask legs keys section none = go (life rounds section) refl
     cases false true former before = refl
     cases false false former before = refl
 
-    go : (now : List Round) → life rounds section ≡ now →
+    go : (now : List Round) → section_life rounds section ≡ now →
         is_dropped rounds ask section ≡ (has_pairs rounds section && not (has_pairs (Offered ask legs keys ∷ rounds) section))
     go [] e = rw e refl
     go (former ∷ before) e = rw (e, none) (cases (has_answer (former ∷ before)) (is_active_in ask.sdp section) former before)

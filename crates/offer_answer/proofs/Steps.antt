@@ -9,7 +9,7 @@ use Rattle.port_pool.specs.declared.holder.Holder.{Holder}
 use Rattle.port_pool.specs.Signals.{NewKey, side_eq, suite_eq}
 use Rattle.offer_answer.specs.Rounds.{Round, Offered, Answered, OfferAsk, AnswerAsk, drawn_for}
 use Rattle.offer_answer.specs.Sides.{is_begun, has_answer, last_answer}
-use Rattle.offer_answer.specs.Sections.{is_active_in, leases, lives_on, life, has_pairs, is_committed, leased_for, leg_of}
+use Rattle.offer_answer.specs.Sections.{is_active_in, leases, lives_on, section_life, has_pairs, is_committed, leased_for, leg_of}
 use Rattle.offer_answer.specs.Profiles.{profile_offered, profile_in_force}
 use Rattle.offer_answer.specs.Keys.{is_for, leg_keys, key_among, leg_key, committed_key, key_in_force}
 use Rattle.offer_answer.specs.Signals.{is_rejected_by}
@@ -22,16 +22,16 @@ use Rattle.offer_answer.proofs.Standing.{rejected-goes}
 pub pairs-offered : (ask : OfferAsk) (legs : List Holder) (keys : List NewKey) (rounds : List Round) (section : ℕ) →
     has_pairs (Offered ask legs keys ∷ rounds) section
     ≡ (leases (Offered ask legs keys) section || (has_pairs rounds section && not (not (is_active_in ask.sdp section) && not (is_committed rounds section))))
-pairs-offered ask legs keys rounds section = go (leases (Offered ask legs keys) section) (life rounds section) refl refl
+pairs-offered ask legs keys rounds section = go (leases (Offered ask legs keys) section) (section_life rounds section) refl refl
   where
     on : (former : Round) (before : List Round) (away : Bool) → (not (is_active_in ask.sdp section) && not (has_answer (former ∷ before))) ≡ away →
         is_begun (if away then [] else Offered ask legs keys ∷ former ∷ before) ≡ (true && not away)
     on former before true e = refl
     on former before false e = refl
 
-    go : (b : Bool) (before : List Round) → leases (Offered ask legs keys) section ≡ b → life rounds section ≡ before →
-        is_begun (if leases (Offered ask legs keys) section then Offered ask legs keys ∷ [] else lives_on (Offered ask legs keys) (life rounds section) section)
-        ≡ (leases (Offered ask legs keys) section || (is_begun (life rounds section) && not (not (is_active_in ask.sdp section) && not (has_answer (life rounds section)))))
+    go : (b : Bool) (before : List Round) → leases (Offered ask legs keys) section ≡ b → section_life rounds section ≡ before →
+        is_begun (if leases (Offered ask legs keys) section then Offered ask legs keys ∷ [] else lives_on (Offered ask legs keys) (section_life rounds section) section)
+        ≡ (leases (Offered ask legs keys) section || (is_begun (section_life rounds section) && not (not (is_active_in ask.sdp section) && not (has_answer (section_life rounds section)))))
     go true before l e = rw l refl
     go false [] l e = rw (l, e) refl
     go false (former ∷ before) l e = rw (l, e) (on former before (not (is_active_in ask.sdp section) && not (has_answer (former ∷ before))) refl)
@@ -39,7 +39,7 @@ pairs-offered ask legs keys rounds section = go (leases (Offered ask legs keys) 
 -- it is committed where it was, unless the offer leases new pairs for it
 pub committed-offered : (ask : OfferAsk) (legs : List Holder) (keys : List NewKey) (rounds : List Round) (section : ℕ) →
     is_committed (Offered ask legs keys ∷ rounds) section ≡ (not (leases (Offered ask legs keys) section) && is_committed rounds section)
-committed-offered ask legs keys rounds section = go (leases (Offered ask legs keys) section) (life rounds section) refl refl
+committed-offered ask legs keys rounds section = go (leases (Offered ask legs keys) section) (section_life rounds section) refl refl
   where
     on : (former : Round) (before : List Round) (active answered : Bool) → has_answer (former ∷ before) ≡ answered →
         has_answer (if not active && not answered then [] else Offered ask legs keys ∷ former ∷ before) ≡ answered
@@ -47,9 +47,9 @@ committed-offered ask legs keys rounds section = go (leases (Offered ask legs ke
     on former before false true e = e
     on former before false false e = refl
 
-    go : (b : Bool) (before : List Round) → leases (Offered ask legs keys) section ≡ b → life rounds section ≡ before →
-        has_answer (if leases (Offered ask legs keys) section then Offered ask legs keys ∷ [] else lives_on (Offered ask legs keys) (life rounds section) section)
-        ≡ (not (leases (Offered ask legs keys) section) && has_answer (life rounds section))
+    go : (b : Bool) (before : List Round) → leases (Offered ask legs keys) section ≡ b → section_life rounds section ≡ before →
+        has_answer (if leases (Offered ask legs keys) section then Offered ask legs keys ∷ [] else lives_on (Offered ask legs keys) (section_life rounds section) section)
+        ≡ (not (leases (Offered ask legs keys) section) && has_answer (section_life rounds section))
     go true before l e = rw l refl
     go false [] l e = rw (l, e) refl
     go false (former ∷ before) l e = rw (l, e) (on former before (is_active_in ask.sdp section) (has_answer (former ∷ before)) refl)
@@ -68,7 +68,7 @@ pairs-answered ask rounds section = go (has_pairs (Answered ask ∷ rounds) sect
 pub committed-answered : (ask : AnswerAsk) (rounds : List Round) (section : ℕ) → is_committed (Answered ask ∷ rounds) section ≡ has_pairs (Answered ask ∷ rounds) section
 committed-answered ask rounds section = go (life-step (Answered ask) rounds section)
   where
-    go : LifeOf (Answered ask) rounds section → has_answer (life (Answered ask ∷ rounds) section) ≡ is_begun (life (Answered ask ∷ rounds) section)
+    go : LifeOf (Answered ask) rounds section → has_answer (section_life (Answered ask ∷ rounds) section) ≡ is_begun (section_life (Answered ask ∷ rounds) section)
     go (begins l e) = cc
     go (goes_on l had e) = rw e refl
     go (is_over e) = rw e refl
@@ -98,16 +98,16 @@ leg-offered ask legs keys rounds section side = go (life-step (Offered ask legs 
     is_leg : Holder → Bool
     is_leg leg = leg.section == section && side_eq leg.side side
 
-    over : (b : Bool) → leases (Offered ask legs keys) section ≡ b → life (Offered ask legs keys ∷ rounds) section ≡ [] → leases (Offered ask legs keys) section ≡ false
-    over true l e = let begun : Offered ask legs keys ∷ [] ≡ [] = subst (λ (b : Bool). (if b then Offered ask legs keys ∷ [] else lives_on (Offered ask legs keys) (life rounds section) section) ≡ []) l e in cc begun
+    over : (b : Bool) → leases (Offered ask legs keys) section ≡ b → section_life (Offered ask legs keys ∷ rounds) section ≡ [] → leases (Offered ask legs keys) section ≡ false
+    over true l e = let begun : Offered ask legs keys ∷ [] ≡ [] = subst (λ (b : Bool). (if b then Offered ask legs keys ∷ [] else lives_on (Offered ask legs keys) (section_life rounds section) section) ≡ []) l e in cc begun
     over false l e = l
 
     go : LifeOf (Offered ask legs keys) rounds section → leases (Offered ask legs keys) section ≡ leases (Offered ask legs keys) section →
-        find (λ leg. leg.section == section && side_eq leg.side side) (leased_for (life (Offered ask legs keys ∷ rounds) section))
+        find (λ leg. leg.section == section && side_eq leg.side side) (leased_for (section_life (Offered ask legs keys ∷ rounds) section))
         ≡ (if leases (Offered ask legs keys) section then find (λ leg. leg.section == section && side_eq leg.side side) legs
-        else if is_begun (life (Offered ask legs keys ∷ rounds) section) then leg_of rounds section side else None)
+        else if is_begun (section_life (Offered ask legs keys ∷ rounds) section) then leg_of rounds section side else None)
     go (begins l e) r = rw (e, l) (ap (find (λ leg. leg.section == section && side_eq leg.side side)) (append-nil legs))
-    go (goes_on l had e) r = rw (e, l) (not-among section side legs (leased_for (life rounds section)) l)
+    go (goes_on l had e) r = rw (e, l) (not-among section side legs (leased_for (section_life rounds section)) l)
     go (is_over e) r = let l = over (leases (Offered ask legs keys) section) refl e in rw (e, l) refl
 
 -- an answer leaves it while the section has pairs
@@ -116,8 +116,8 @@ pub leg-answered : (ask : AnswerAsk) (rounds : List Round) (section : ℕ) (side
 leg-answered ask rounds section side = go (life-step (Answered ask) rounds section)
   where
     go : LifeOf (Answered ask) rounds section →
-        find (λ leg. leg.section == section && side_eq leg.side side) (leased_for (life (Answered ask ∷ rounds) section))
-        ≡ (if is_begun (life (Answered ask ∷ rounds) section) then leg_of rounds section side else None)
+        find (λ leg. leg.section == section && side_eq leg.side side) (leased_for (section_life (Answered ask ∷ rounds) section))
+        ≡ (if is_begun (section_life (Answered ask ∷ rounds) section) then leg_of rounds section side else None)
     go (begins l e) = cc
     go (goes_on l had e) = rw e refl
     go (is_over e) = rw e refl
@@ -144,14 +144,14 @@ key-offered ask legs keys rounds section side suite = go (life-step (Offered ask
     or-none (Some key) = refl
 
     go : LifeOf (Offered ask legs keys) rounds section →
-        key_among (filter (is_for section side) (drawn_for (life (Offered ask legs keys ∷ rounds) section))) suite
-        ≡ (if is_begun (life (Offered ask legs keys ∷ rounds) section)
+        key_among (filter (is_for section side) (drawn_for (section_life (Offered ask legs keys ∷ rounds) section))) suite
+        ≡ (if is_begun (section_life (Offered ask legs keys ∷ rounds) section)
         then or_else (key_among (filter (is_for section side) keys) suite) (if leases (Offered ask legs keys) section then None else leg_key rounds section side suite)
         else None)
     go (begins l e) =
         rw (e, l) (ap (λ ks. key_among (filter (is_for section side) ks) suite) (append-nil keys) ∙ or-none (key_among (filter (is_for section side) keys) suite))
     go (goes_on l had e) =
-        rw (e, l) (ap (λ ks. key_among ks suite) (filter-append (is_for section side) keys (drawn_for (life rounds section)))
+        rw (e, l) (ap (λ ks. key_among ks suite) (filter-append (is_for section side) keys (drawn_for (section_life rounds section)))
         ∙ find-append (λ key. suite_eq key.suite suite) (filter (is_for section side) keys) (leg_keys rounds section side))
     go (is_over e) = rw e refl
 
@@ -161,8 +161,8 @@ pub key-answered : (ask : AnswerAsk) (rounds : List Round) (section : ℕ) (side
 key-answered ask rounds section side suite = go (life-step (Answered ask) rounds section)
   where
     go : LifeOf (Answered ask) rounds section →
-        key_among (filter (is_for section side) (drawn_for (life (Answered ask ∷ rounds) section))) suite
-        ≡ (if is_begun (life (Answered ask ∷ rounds) section) then leg_key rounds section side suite else None)
+        key_among (filter (is_for section side) (drawn_for (section_life (Answered ask ∷ rounds) section))) suite
+        ≡ (if is_begun (section_life (Answered ask ∷ rounds) section) then leg_key rounds section side suite else None)
     go (begins l e) = cc
     go (goes_on l had e) = rw e refl
     go (is_over e) = rw e refl

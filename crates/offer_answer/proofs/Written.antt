@@ -14,7 +14,7 @@ use Rattle.sdp_text.specs.declared.proto.Proto.{Proto}
 use Rattle.sdp_text.specs.declared.section.Section.{Section}
 use Rattle.sdp_edit.specs.declared.edits.SectionEdit.{SectionEdit}
 use Rattle.sdp_edit.specs.declared.edits.Edit.{Edit}
-use Rattle.sdp_edit.specs.Editing.{KeysHaveTags, HaveTags, edited}
+use Rattle.sdp_edit.specs.EditedText.{KeysHaveTags, HaveTags, edited}
 use Rattle.sdp_edit.specs.Widths.{IsSectionWithin, AreSectionsWithin}
 use Rattle.ng_command.specs.declared.command.Options.{Options}
 use Rattle.port_pool.specs.declared.holder.Side.{Side}
@@ -22,14 +22,14 @@ use Rattle.port_pool.specs.Signals.{NewKey, other_side}
 use Rattle.offer_answer.specs.Rounds.{Round, OfferAsk}
 use Rattle.offer_answer.specs.Sides.{offerer}
 use Rattle.offer_answer.specs.Sections.{most_sections, section_count, is_active, is_active_in, all_sections}
-use Rattle.offer_answer.specs.Profiles.{is_srtp, written}
+use Rattle.offer_answer.specs.Profiles.{is_srtp, written_profile}
 use Rattle.offer_answer.specs.Keys.{no_lines, line_with, lines_of_keys, key_among, key_in_force, is_for, leg_keys, offered_lines}
 use Rattle.offer_answer.specs.Texts.{host_of_ip, interface_host, edit_with, offered_port, offer_section, offer_edit}
 use Rattle.offer_answer.specs.Plan.{offer_text}
 use Rattle.offer_answer.specs.Dialogs.{leg_at, no_state}
 use Rattle.offer_answer.specs.LastOffers.{MadeFor}
-use Rattle.offer_answer.specs.Filled.{FilledFor, port_after}
-use Rattle.offer_answer.specs.Writing.{IsReserved, KeepsWidth, numbered, has_lines, made_at, port_written, section_written, sections_written, any_line, widest_section, widest_at, widest_sections, widest_edit, widest_len}
+use Rattle.offer_answer.specs.PortsAndKeys.{FilledFor, port_after}
+use Rattle.offer_answer.specs.Edits.{IsEditReserved, KeepsWidth, tagged_lines, has_lines, made_at, port_written, section_written, sections_written, any_line, widest_section, widest_at, widest_sections, widest_edit, widest_len}
 use Rattle.offer_answer.specs.declared.last_offer.MadeSection.{MadeSection}
 use Rattle.offer_answer.specs.declared.last_offer.LastOffer.{LastOffer}
 use Rattle.offer_answer.specs.declared.last_offer.OfferedNext.{OfferedNext}
@@ -124,8 +124,8 @@ widest-is lines edit interface last a o s e =
 
 -- The room stays enough where what it depends on stays.
 
-pub reserved-kept : (interface : Ip) (old new : LastOffer) (edit : Edit) → KeepsWidth old new → IsReserved interface old.options old.count edit →
-    IsReserved interface new.options new.count edit
+pub reserved-kept : (interface : Ip) (old new : LastOffer) (edit : Edit) → KeepsWidth old new → IsEditReserved interface old.options old.count edit →
+    IsEditReserved interface new.options new.count edit
 reserved-kept interface old new edit k r = record {
   address_is = r.address_is;
   origin_is = r.origin_is ∙ ap (λ (x : Options). x.replace_origin) (sym k.options_are);
@@ -173,12 +173,12 @@ offer-fits lines edit interface next a o s e within =
 -- The offer.
 
 -- the lines of an offer have the tags 1 and 2 already
-numbered-lines : (o : Option NewKey) (keys : List NewKey) → numbered (lines_of_keys o keys) ≡ lines_of_keys o keys
+numbered-lines : (o : Option NewKey) (keys : List NewKey) → tagged_lines (lines_of_keys o keys) ≡ lines_of_keys o keys
 numbered-lines (Some key) keys = refl
 numbered-lines None keys = go (key_among keys Tag80) (key_among keys Tag32)
   where
     go : (a b : Option NewKey) →
-        numbered (option_map (line_with 1) a ∷ option_map (line_with 2) b ∷ []) ≡ option_map (line_with 1) a ∷ option_map (line_with 2) b ∷ []
+        tagged_lines (option_map (line_with 1) a ∷ option_map (line_with 2) b ∷ []) ≡ option_map (line_with 1) a ∷ option_map (line_with 2) b ∷ []
     go None None = refl
     go None (Some b) = refl
     go (Some a) None = refl
@@ -186,12 +186,12 @@ numbered-lines None keys = go (key_among keys Tag80) (key_among keys Tag32)
 
 lines-are : (rounds : List Round) (ask : OfferAsk) (keys : List NewKey) (section : ℕ) (made : MadeSection) →
     MadeFor (record { ask = ask; keys = keys; before = rounds }) section made →
-    (if has_lines made then numbered made.lines else no_lines) ≡ offered_lines rounds ask keys section
+    (if has_lines made then tagged_lines made.lines else no_lines) ≡ offered_lines rounds ask keys section
 lines-are rounds ask keys section made m =
-    ap (λ b. if b then numbered made.lines else no_lines)
+    ap (λ b. if b then tagged_lines made.lines else no_lines)
     (ap (λ (s : Section). is_active s && is_srtp made.written) m.section_is ∙ ap (λ p. is_active_in ask.sdp section && is_srtp p) m.written_is)
-    ∙ ap (λ ls. if is_active_in ask.sdp section && is_srtp (written rounds ask section) then numbered ls else no_lines) m.lines_are
-    ∙ go (is_active_in ask.sdp section && is_srtp (written rounds ask section))
+    ∙ ap (λ ls. if is_active_in ask.sdp section && is_srtp (written_profile rounds ask section) then tagged_lines ls else no_lines) m.lines_are
+    ∙ go (is_active_in ask.sdp section && is_srtp (written_profile rounds ask section))
   where
     side : Side
     side = other_side (offerer rounds ask)
@@ -200,7 +200,7 @@ lines-are rounds ask keys section made m =
     lines = lines_of_keys (key_in_force rounds section (other_side (offerer rounds ask)))
         (filter (is_for section (other_side (offerer rounds ask))) keys ++ leg_keys rounds section (other_side (offerer rounds ask)))
 
-    go : (b : Bool) → (if b then numbered (if b then lines else no_lines) else no_lines) ≡ (if b then lines else no_lines)
+    go : (b : Bool) → (if b then tagged_lines (if b then lines else no_lines) else no_lines) ≡ (if b then lines else no_lines)
     go true = numbered-lines (key_in_force rounds section (other_side (offerer rounds ask)))
         (filter (is_for section (other_side (offerer rounds ask))) keys ++ leg_keys rounds section (other_side (offerer rounds ask)))
     go false = refl

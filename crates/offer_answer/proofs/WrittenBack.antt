@@ -5,11 +5,11 @@ use Rattle.relay_outside.specs.declared.settings.Config.{Config}
 use Rattle.sdes_lines.specs.CryptoLine.{IsTag}
 use Rattle.sdes_lines.specs.declared.crypto_line.CryptoLine.{CryptoLine}
 use Rattle.sdp_text.specs.Lines.{lines_of}
-use Rattle.sdp_text.specs.Reading.{sections_in}
+use Rattle.sdp_text.specs.Descriptions.{sections_in}
 use Rattle.sdp_text.specs.declared.section.Section.{Section}
-use Rattle.sdp_edit.specs.Choosing.{section_lines, IsFirstOf, IsAny}
+use Rattle.sdp_edit.specs.ChosenLines.{section_lines, IsFirstOf, IsAny}
 use Rattle.sdp_edit.specs.declared.edits.Edit.{Edit}
-use Rattle.sdp_edit.specs.Editing.{edited}
+use Rattle.sdp_edit.specs.EditedText.{edited}
 use Rattle.ng_command.specs.declared.command.Options.{Options}
 use Rattle.port_pool.specs.declared.holder.Side.{Side}
 use Rattle.offer_answer.specs.Rounds.{Round, OfferAsk, AnswerAsk}
@@ -19,10 +19,10 @@ use Rattle.offer_answer.specs.Profiles.{is_srtp}
 use Rattle.offer_answer.specs.Keys.{no_lines, chosen_in, line_with}
 use Rattle.offer_answer.specs.Signals.{is_rejected_by}
 use Rattle.offer_answer.specs.Texts.{host_of_ip, answering_line, answered_port, answered_lines, answer_section, answer_edit}
-use Rattle.offer_answer.specs.Plan.{OfferHeard, answer_text}
-use Rattle.offer_answer.specs.Dialogs.{LegFor, SectionFor, key_for, leg_at, drawn_as}
+use Rattle.offer_answer.specs.Plan.{OfferRead, answer_text}
+use Rattle.offer_answer.specs.Dialogs.{LegFor, SectionFor, key_for, leg_at, drawn_for_leg}
 use Rattle.offer_answer.specs.LastOffers.{MadeFor}
-use Rattle.offer_answer.specs.Writing.{greatest_tag, line_back}
+use Rattle.offer_answer.specs.Edits.{greatest_tag, line_back}
 use Rattle.offer_answer.specs.declared.leg.DrawnKey.{DrawnKey}
 use Rattle.offer_answer.specs.declared.leg.Leg.{Leg}
 use Rattle.offer_answer.specs.declared.leg.DialogSection.{DialogSection}
@@ -70,8 +70,8 @@ first-tag [] key none = cc none
 first-tag (line ∷ more) key (inl here) = here.0.0.is_tag
 first-tag (line ∷ more) key (inr there) = first-tag more key there.1
 
-chosen-tag : (ask : OfferAsk) (section : ℕ) (line : CryptoLine) → OfferHeard ask → chosen_in ask.chosen section ≡ Some line → IsTag line.tag
-unfolding OfferHeard
+chosen-tag : (ask : OfferAsk) (section : ℕ) (line : CryptoLine) → OfferRead ask → chosen_in ask.chosen section ≡ Some line → IsTag line.tag
+unfolding OfferRead
 chosen-tag ask section line heard e = elim (slice_get_cases ask.chosen section).1 [
   | inl here ↦ first-tag (section_lines section (lines_of ask.sdp)) line
       (subst (IsFirstOf IsAny (section_lines section (lines_of ask.sdp))) e (heard.first section (omega (arith, here.1, heard.count))))
@@ -90,9 +90,9 @@ answering-is config rounds offer section leg line l tag =
     same = omega arith
 
     go : (k : Option DrawnKey) → option_map (λ (key : DrawnKey). record { tag = min line.tag greatest_tag; suite = key.suite; key = key.bytes }) k
-        ≡ option_map (line_with line.tag) (option_map (drawn_as section (maker offer)) k)
+        ≡ option_map (line_with line.tag) (option_map (drawn_for_leg section (maker offer)) k)
     go None = refl
-    go (Some k) = ap (λ (t : ℕ). Some (line_with t (drawn_as section (maker offer) k))) same
+    go (Some k) = ap (λ (t : ℕ). Some (line_with t (drawn_for_leg section (maker offer) k))) same
 
 chosen-back : (config : Config) (rounds : List Round) (offer : MadeOffer) (section : ℕ) (leg : Leg) (chosen : Option CryptoLine) →
     LegFor config rounds section (maker offer) leg → ((line : CryptoLine) → chosen ≡ Some line → IsTag line.tag) →
@@ -101,7 +101,7 @@ chosen-back config rounds offer section leg None l tags = refl
 chosen-back config rounds offer section leg (Some line) l tags = answering-is config rounds offer section leg line l (tags line refl)
 
 lines-back : (config : Config) (rounds : List Round) (offer : MadeOffer) (ask : AnswerAsk) (section : ℕ) (made : MadeSection) (leg : Leg) (r : Bool) →
-    MadeFor offer section made → LegFor config rounds section (maker offer) leg → OfferHeard offer.ask → r ≡ is_rejected_by rounds ask section →
+    MadeFor offer section made → LegFor config rounds section (maker offer) leg → OfferRead offer.ask → r ≡ is_rejected_by rounds ask section →
     (if not r && is_srtp made.section.proto then option_and_then (line_back leg) made.line ∷ None ∷ [] else no_lines) ≡ answered_lines rounds offer ask section
 lines-back config rounds offer ask section made leg r m l heard e =
     ap (λ x. if not x && is_srtp made.section.proto then option_and_then (line_back leg) made.line ∷ None ∷ [] else no_lines) e
@@ -118,7 +118,7 @@ port-back config rounds offer ask section leg r l e =
 
 -- what is written of a section of the answer
 pub section-back : (config : Config) (rounds : List Round) (offer : MadeOffer) (ask : AnswerAsk) (section : ℕ) (made : MadeSection) (kept : DialogSection) (side : Side) (r : Bool) →
-    MadeFor offer section made → SectionFor config rounds section kept → side ≡ maker offer → OfferHeard offer.ask → r ≡ is_rejected_by rounds ask section →
+    MadeFor offer section made → SectionFor config rounds section kept → side ≡ maker offer → OfferRead offer.ask → r ≡ is_rejected_by rounds ask section →
     section-of (if r then 0 else (leg_at kept side).port) made.section.proto (host_of_ip config.interface)
     (if not r && is_srtp made.section.proto then option_and_then (line_back (leg_at kept side)) made.line ∷ None ∷ [] else no_lines)
     ≡ answer_section config rounds offer ask section

@@ -36,16 +36,16 @@ abbrev pub no_state : DialogSection
 no_state = record { has_pairs = false; is_committed = false; a = no_leg; b = no_leg }
 
 -- the key as one that was drawn for this leg
-abbrev pub drawn_as : ℕ → Side → DrawnKey → NewKey
-drawn_as section side key = record { number = key.number; section = section; side = side; suite = key.suite; bytes = key.bytes }
+abbrev pub drawn_for_leg : ℕ → Side → DrawnKey → NewKey
+drawn_for_leg section side key = record { number = key.number; section = section; side = side; suite = key.suite; bytes = key.bytes }
 
 -- what is kept of a leg is what the rounds come to
 pub record LegFor (config : Config) (rounds : List Round) (section : ℕ) (side : Side) (leg : Leg) : Type 0 where
   pub port_is : leg.port ≡ unwrap_or (standing_port config rounds section side) 0
   pub offered_is : leg.offered ≡ profile_offered rounds section side
   pub in_force_is : leg.in_force ≡ profile_in_force rounds section side
-  pub keys_are : (suite : Suite) → option_map (drawn_as section side) (key_for leg suite) ≡ leg_key rounds section side suite
-  pub key_in_force_is : option_map (drawn_as section side) leg.key_in_force ≡ key_in_force rounds section side
+  pub keys_are : (suite : Suite) → option_map (drawn_for_leg section side) (key_for leg suite) ≡ leg_key rounds section side suite
+  pub key_in_force_is : option_map (drawn_for_leg section side) leg.key_in_force ≡ key_in_force rounds section side
 
 pub record SectionFor (config : Config) (rounds : List Round) (section : ℕ) (kept : DialogSection) : Type 0 where
   pub pairs_are : kept.has_pairs ≡ has_pairs rounds section

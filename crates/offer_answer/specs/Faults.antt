@@ -4,13 +4,13 @@ use Rattle.std.specs.List.{list_any}
 use Rattle.std.specs.Str.{bytes_eq}
 use Rattle.sdes_lines.specs.declared.crypto_line.CryptoLine.{CryptoLine}
 use Rattle.sdp_text.specs.Lines.{lines_of}
-use Rattle.sdp_edit.specs.Choosing.{section_lines, IsFirstOf}
+use Rattle.sdp_edit.specs.ChosenLines.{section_lines, IsFirstOf}
 use Rattle.ng_reply.specs.declared.code.ErrorCode.{ErrorCode}
 use Rattle.ng_reply.specs.declared.code.ErrorCode.TheVariants.{E8, E10, E11, E12}
 use Rattle.offer_answer.specs.Rounds.{Round, OfferAsk, AnswerAsk}
 use Rattle.offer_answer.specs.Sides.{MadeOffer, is_begun, is_settled, is_some_sides}
 use Rattle.offer_answer.specs.Sections.{section_count, section_in, all_sections, active_sections, is_active_in, committed_count}
-use Rattle.offer_answer.specs.Profiles.{is_srtp, written}
+use Rattle.offer_answer.specs.Profiles.{is_srtp, written_profile}
 use Rattle.offer_answer.specs.Keys.{chosen_in}
 
 -- for each section of the description its first crypto line that is one of P
@@ -49,7 +49,7 @@ may_answer rounds ask =
 abbrev pub takes_no_line : MadeOffer → AnswerAsk → ℕ → Bool
 takes_no_line offer ask section =
     is_active_in offer.ask.sdp section && is_active_in ask.sdp section
-    && is_srtp (written offer.before offer.ask section) && is_none (chosen_in ask.chosen section)
+    && is_srtp (written_profile offer.before offer.ask section) && is_none (chosen_in ask.chosen section)
 
 -- the first that holds of an answer to this offer
 abbrev pub fault_of_answer_to : MadeOffer → AnswerAsk → Option ErrorCode

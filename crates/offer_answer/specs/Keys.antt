@@ -7,8 +7,8 @@ use Rattle.port_pool.specs.declared.holder.Side.{Side}
 use Rattle.port_pool.specs.Signals.{NewKey, side_eq, suite_eq, other_side}
 use Rattle.offer_answer.specs.Rounds.{Round, OfferAsk, AnswerAsk, KeyPlace, drawn_for}
 use Rattle.offer_answer.specs.Sides.{MadeOffer, last_offer, last_answer, offerer, maker}
-use Rattle.offer_answer.specs.Sections.{section_in, is_active_in, life, is_committed}
-use Rattle.offer_answer.specs.Profiles.{is_srtp, is_srtp_leg, profile_offered, written}
+use Rattle.offer_answer.specs.Sections.{section_in, is_active_in, section_life, is_committed}
+use Rattle.offer_answer.specs.Profiles.{is_srtp, is_srtp_leg, profile_offered, written_profile}
 
 -- the crypto line that was chosen in a section
 abbrev pub chosen_in : List (Option CryptoLine) → ℕ → Option CryptoLine
@@ -19,7 +19,7 @@ is_for section side key = key.section == section && side_eq key.side side
 
 -- the keys that a leg has: those that were drawn for it in its life
 abbrev pub leg_keys : List Round → ℕ → Side → List NewKey
-leg_keys rounds section side = filter (is_for section side) (drawn_for (life rounds section))
+leg_keys rounds section side = filter (is_for section side) (drawn_for (section_life rounds section))
 
 -- the one for a suite
 abbrev pub key_among : List NewKey → Suite → Option NewKey
@@ -52,12 +52,12 @@ key_in_force rounds section side =
 
 -- What an offer draws.
 
-abbrev pub place_of : ℕ → Side → Suite → KeyPlace
-place_of section side suite = record { section = section; side = side; suite = suite }
+abbrev pub key_place_of : ℕ → Side → Suite → KeyPlace
+key_place_of section side suite = record { section = section; side = side; suite = suite }
 
 -- of these suites those for which the leg has no key
 abbrev pub missing_keys : List Round → ℕ → Side → List Suite → List KeyPlace
-missing_keys rounds section side suites = map (place_of section side) (filter (λ suite. is_none (leg_key rounds section side suite)) suites)
+missing_keys rounds section side suites = map (key_place_of section side) (filter (λ suite. is_none (leg_key rounds section side suite)) suites)
 
 -- the suite of a chosen line
 abbrev pub suite_of : Option CryptoLine → List Suite
@@ -71,7 +71,7 @@ offerers_suites ask section = if is_srtp (section_in ask.sdp section).proto then
 -- the other side is offered both suites where SRTP is written to it and no key is in force on its leg
 abbrev pub others_suites : List Round → OfferAsk → ℕ → List Suite
 others_suites rounds ask section =
-    if is_srtp (written rounds ask section) && is_none (key_in_force rounds section (other_side (offerer rounds ask))) then Tag80 ∷ Tag32 ∷ [] else []
+    if is_srtp (written_profile rounds ask section) && is_none (key_in_force rounds section (other_side (offerer rounds ask))) then Tag80 ∷ Tag32 ∷ [] else []
 
 -- the keys that an active section demands, in the order of draws
 abbrev pub section_keys : List Round → OfferAsk → ℕ → List KeyPlace
@@ -97,7 +97,7 @@ lines_of_keys None keys = option_map (line_with 1) (key_among keys Tag80) ∷ op
 abbrev pub offered_lines : List Round → OfferAsk → List NewKey → ℕ → List (Option CryptoLine)
 offered_lines rounds ask keys section =
     let side = other_side (offerer rounds ask) in
-    if is_active_in ask.sdp section && is_srtp (written rounds ask section)
+    if is_active_in ask.sdp section && is_srtp (written_profile rounds ask section)
     then lines_of_keys (key_in_force rounds section side) (filter (is_for section side) keys ++ leg_keys rounds section side)
     else no_lines
 

@@ -3,9 +3,9 @@ use Rattle.std.specs.Prelude.{◌≡◌, ◌<◌, ◌≤◌, ℕ, Option, Some, 
 use Rattle.sdp_text.specs.declared.proto.Proto.TheVariants.{Other}
 use Rattle.offer_answer.specs.Sides.{MadeOffer, maker}
 use Rattle.offer_answer.specs.Sections.{most_sections, no_section, section_in, section_count}
-use Rattle.offer_answer.specs.Profiles.{written}
+use Rattle.offer_answer.specs.Profiles.{written_profile}
 use Rattle.offer_answer.specs.Keys.{chosen_in, no_lines, offered_lines}
-use Rattle.offer_answer.specs.Plan.{OfferHeard}
+use Rattle.offer_answer.specs.Plan.{OfferRead}
 use Rattle.offer_answer.specs.declared.last_offer.MadeSection.{MadeSection}
 use Rattle.offer_answer.specs.declared.last_offer.LastOffer.{LastOffer}
 
@@ -17,7 +17,7 @@ no_made = record { section = no_section; line = None; written = Other; lines = n
 pub record MadeFor (offer : MadeOffer) (section : ℕ) (made : MadeSection) : Type 0 where
   pub section_is : made.section ≡ section_in offer.ask.sdp section
   pub line_is : made.line ≡ chosen_in offer.ask.chosen section
-  pub written_is : made.written ≡ written offer.before offer.ask section
+  pub written_is : made.written ≡ written_profile offer.before offer.ask section
   pub lines_are : made.lines ≡ offered_lines offer.before offer.ask offer.keys section
 
 -- what is kept of the offer, which has no more sections than are kept
@@ -27,7 +27,7 @@ pub record LastFor (offer : MadeOffer) (last : LastOffer) : Type 0 where
   pub options_are : last.options ≡ offer.ask.options
   pub count_is : last.count ≡ section_count offer.ask.sdp
   pub few : section_count offer.ask.sdp ≤ most_sections
-  pub heard : OfferHeard offer.ask
+  pub heard : OfferRead offer.ask
   pub sections_are : (section : ℕ) → section < most_sections → MadeFor offer section (slice_index_or last.sections section no_made)
 
 -- an offer is kept exactly where there is one

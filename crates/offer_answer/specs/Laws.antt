@@ -8,8 +8,8 @@ use Rattle.port_pool.specs.Signals.{NewKey, signal_at, is_rejected}
 use Rattle.offer_answer.specs.Rounds.{Round, Offered, Answered, OfferAsk, AnswerAsk, NewLeg, KeyPlace}
 use Rattle.offer_answer.specs.Sections.{most_sections, leases, has_pairs, leg_of}
 use Rattle.offer_answer.specs.Profiles.{is_srtp_leg, profile_offered}
-use Rattle.offer_answer.specs.Keys.{place_of}
-use Rattle.offer_answer.specs.Plan.{AnswerHeard, offer_fault, answer_fault, signal, demand}
+use Rattle.offer_answer.specs.Keys.{key_place_of}
+use Rattle.offer_answer.specs.Plan.{AnswerRead, offer_fault, answer_fault, signal, demand}
 
 -- after the earlier rounds, and through all of the later ones, the section kept its pairs
 abbrev pub KeepsPairs : ℕ → List Round → List Round → Type 0
@@ -66,7 +66,7 @@ abbrev pub new_leg_place : NewLeg → ℕ × Side
 new_leg_place leg = (leg.section, leg.side)
 
 abbrev pub key_place : NewKey → KeyPlace
-key_place key = place_of key.section key.side key.suite
+key_place key = key_place_of key.section key.side key.suite
 
 -- an offer without a fault, with the legs and the keys that it demanded
 pub record IsOfferRound (rounds : List Round) (ask : OfferAsk) (legs : List Holder) (keys : List NewKey) : Type 0 where
@@ -77,7 +77,7 @@ pub record IsOfferRound (rounds : List Round) (ask : OfferAsk) (legs : List Hold
 -- an answer without a fault, with the crypto lines that are chosen in it
 pub record IsAnswerRound (rounds : List Round) (ask : AnswerAsk) : Type 0 where
   pub no_fault : answer_fault rounds ask ≡ None
-  pub heard : AnswerHeard rounds ask
+  pub heard : AnswerRead rounds ask
 
 abbrev pub AreRounds : List Round → Type 0
 AreRounds [] = Unit {0}

@@ -10,11 +10,11 @@ pub mod Faults
 pub mod Plan
 pub mod Laws
 pub mod Dialogs
-pub mod Offering
+pub mod Offers
 pub mod LastOffers
-pub mod Filled
+pub mod PortsAndKeys
 pub mod Nexts
-pub mod Answering
-pub mod Writing
+pub mod Answers
+pub mod Edits
 pub mod Widths
 pub mod Plans

@@ -9,12 +9,12 @@ use Rattle.port_pool.specs.Signals.{NewKey}
 use Rattle.offer_answer.specs.Rounds.{Round, Offered, OfferAsk, KeyPlace}
 use Rattle.offer_answer.specs.Sides.{offerer}
 use Rattle.offer_answer.specs.Sections.{most_sections, section_in, section_count, is_active_in, is_committed}
-use Rattle.offer_answer.specs.Profiles.{profile_offered, profile_in_force, written}
+use Rattle.offer_answer.specs.Profiles.{profile_offered, profile_in_force, written_profile}
 use Rattle.offer_answer.specs.Keys.{chosen_in, is_for, key_among, leg_key, key_in_force}
 use Rattle.offer_answer.specs.Demands.{new_legs}
-use Rattle.offer_answer.specs.Plan.{OfferHeard}
+use Rattle.offer_answer.specs.Plan.{OfferRead}
 use Rattle.offer_answer.specs.Texts.{new_port, standing_port}
-use Rattle.offer_answer.specs.Dialogs.{drawn_as, key_for, leg_at, no_state}
+use Rattle.offer_answer.specs.Dialogs.{drawn_for_leg, key_for, leg_at, no_state}
 use Rattle.offer_answer.specs.LastOffers.{no_made}
 use Rattle.offer_answer.specs.declared.leg.DrawnKey.{DrawnKey}
 use Rattle.offer_answer.specs.declared.leg.Leg.{Leg}
@@ -52,8 +52,8 @@ pub record LegNext (config : Config) (rounds : List Round) (ask : OfferAsk) (por
   pub offered_is : leg.offered ≡ profile_offered (Offered ask [] [] ∷ rounds) section side
   pub in_force_is : leg.in_force ≡ profile_in_force rounds section side
   pub keys_are : (suite : Suite) →
-      option_map (drawn_as section side) (key_for leg suite) ≡ or_else (key_among (filter (is_for section side) keys) suite) (key_kept rounds ask section side suite)
-  pub key_in_force_is : option_map (drawn_as section side) leg.key_in_force ≡ key_in_force rounds section side
+      option_map (drawn_for_leg section side) (key_for leg suite) ≡ or_else (key_among (filter (is_for section side) keys) suite) (key_kept rounds ask section side suite)
+  pub key_in_force_is : option_map (drawn_for_leg section side) leg.key_in_force ≡ key_in_force rounds section side
 
 pub record SectionNext (config : Config) (rounds : List Round) (ask : OfferAsk) (ports : List ℕ) (keys : List NewKey) (section : ℕ) (kept : DialogSection) : Type 0 where
   pub pairs_are : kept.has_pairs ≡ pairs_after rounds ask section
@@ -64,7 +64,7 @@ pub record SectionNext (config : Config) (rounds : List Round) (ask : OfferAsk) 
 pub record MadeNext (rounds : List Round) (ask : OfferAsk) (section : ℕ) (made : MadeSection) : Type 0 where
   pub section_is : made.section ≡ section_in ask.sdp section
   pub line_is : made.line ≡ chosen_in ask.chosen section
-  pub written_is : made.written ≡ written rounds ask section
+  pub written_is : made.written ≡ written_profile rounds ask section
 
 -- what is kept of the offer
 pub record LastNext (rounds : List Round) (ask : OfferAsk) (last : LastOffer) : Type 0 where
@@ -73,7 +73,7 @@ pub record LastNext (rounds : List Round) (ask : OfferAsk) (last : LastOffer) : 
   pub options_are : last.options ≡ ask.options
   pub count_is : last.count ≡ section_count ask.sdp
   pub few : section_count ask.sdp ≤ most_sections
-  pub heard : OfferHeard ask
+  pub heard : OfferRead ask
   pub sections_are : (section : ℕ) → section < most_sections → MadeNext rounds ask section (slice_index_or last.sections section no_made)
 
 -- The offer after these rounds is kept, and the sections are as after it, as far as these ports and keys have come.

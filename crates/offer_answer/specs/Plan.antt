@@ -3,8 +3,8 @@ use Rattle.std.specs.Prelude.{ℕ, List, [], Bool, not, ◌&&◌, Option, Some, 
 use Rattle.relay_outside.specs.declared.settings.Config.{Config}
 use Rattle.sdp_text.specs.Lines.{lines_of}
 use Rattle.sdp_text.specs.declared.proto.Proto.{Proto}
-use Rattle.sdp_edit.specs.Choosing.{IsAny, IsOffered}
-use Rattle.sdp_edit.specs.Editing.{edited}
+use Rattle.sdp_edit.specs.ChosenLines.{IsAny, IsOffered}
+use Rattle.sdp_edit.specs.EditedText.{edited}
 use Rattle.ng_reply.specs.declared.code.ErrorCode.{ErrorCode}
 use Rattle.ng_reply.specs.declared.code.ErrorCode.TheVariants.{E10}
 use Rattle.port_pool.specs.declared.signal.SectionSignal.{SectionSignal}
@@ -20,12 +20,12 @@ use Rattle.offer_answer.specs.Texts.{offer_edit, answer_edit}
 use Rattle.offer_answer.specs.Faults.{AreFirst, fault_of_offer, may_answer, fault_of_answer_to}
 
 -- the chosen lines of an offer are the first usable ones of its sections
-unfoldable pub OfferHeard : OfferAsk → Type 0
-OfferHeard ask = AreFirst (λ section. IsAny) ask.sdp ask.chosen
+unfoldable pub OfferRead : OfferAsk → Type 0
+OfferRead ask = AreFirst (λ section. IsAny) ask.sdp ask.chosen
 
 -- the chosen lines of an answer are the first ones whose tag and suite are those of a line that its side was offered
-unfoldable pub AnswerHeard : List Round → AnswerAsk → Type 0
-AnswerHeard rounds ask = AreFirst (λ section. IsOffered (last_lines rounds section)) ask.sdp ask.chosen
+unfoldable pub AnswerRead : List Round → AnswerAsk → Type 0
+AnswerRead rounds ask = AreFirst (λ section. IsOffered (last_lines rounds section)) ask.sdp ask.chosen
 
 -- the first fault of an offer: E10, E12 or E8
 unfoldable pub offer_fault : List Round → OfferAsk → Option ErrorCode

@@ -1,14 +1,14 @@
 -- The plan of an offer or of an answer, as it is made and as it is filled.
 use Rattle.std.specs.Prelude.{◌≡◌, ◌≢◌, ℕ, List, [], None, Result, Ok, Err}
 use Rattle.relay_outside.specs.declared.settings.Config.{Config}
-use Rattle.sdp_edit.specs.Editing.{edited}
+use Rattle.sdp_edit.specs.EditedText.{edited}
 use Rattle.port_pool.specs.Signals.{NewKey}
 use Rattle.offer_answer.specs.Rounds.{Round, OfferAsk, AnswerAsk, Demand}
 use Rattle.offer_answer.specs.Plan.{offer_fault, demand, answer_fault, signal, answer_text}
-use Rattle.offer_answer.specs.Filled.{FilledFor}
+use Rattle.offer_answer.specs.PortsAndKeys.{FilledFor}
 use Rattle.offer_answer.specs.Nexts.{NextFor}
-use Rattle.offer_answer.specs.Offering.{PlanFor, code_of}
-use Rattle.offer_answer.specs.Answering.{AnsweredFor}
+use Rattle.offer_answer.specs.Offers.{PlanFor, plan_code}
+use Rattle.offer_answer.specs.Answers.{AnsweredFor}
 use Rattle.offer_answer.specs.declared.plan.Next.{Next}
 use Rattle.offer_answer.specs.declared.plan.Next.TheVariants.{Offer, Answer}
 use Rattle.offer_answer.specs.declared.plan.Plan.{Plan}
@@ -49,10 +49,10 @@ pub record AnswerPlan (config : Config) (rounds : List Round) (ask : AnswerAsk) 
 
 -- the result of planning an offer: its first fault, its plan, or out of memory
 abbrev pub OfferAnswered : Config → List Round → OfferAsk → Result Plan OaFault → Type 0
-OfferAnswered config rounds ask (Err fault) = fault ≢ faults.OutOfMemory → offer_fault rounds ask ≡ code_of fault
+OfferAnswered config rounds ask (Err fault) = fault ≢ faults.OutOfMemory → offer_fault rounds ask ≡ plan_code fault
 OfferAnswered config rounds ask (Ok plan) = (offer_fault rounds ask ≡ None) × OfferPlan config rounds ask plan
 
 -- the result of planning an answer
 abbrev pub AnswerAnswered : Config → List Round → AnswerAsk → List (List ℕ) → Result Plan OaFault → Type 0
-AnswerAnswered config rounds ask lines (Err fault) = fault ≢ faults.OutOfMemory → answer_fault rounds ask ≡ code_of fault
+AnswerAnswered config rounds ask lines (Err fault) = fault ≢ faults.OutOfMemory → answer_fault rounds ask ≡ plan_code fault
 AnswerAnswered config rounds ask lines (Ok plan) = (answer_fault rounds ask ≡ None) × AnswerPlan config rounds ask lines plan

@@ -1,7 +1,7 @@
 -- The profiles of legs (RFC 3551, RFC 4585, RFC 3711, RFC 5124).
 use Rattle.std.specs.Prelude.{ℕ, List, [], ◌∷◌, Bool, true, false, Option, Some, None, if◌then◌else◌, unwrap_or}
 use Rattle.histories.specs.Words.{or_else}
-use Rattle.sdp_text.specs.Parts.{is_rtp}
+use Rattle.sdp_text.specs.Parts.{is_rtp_proto}
 use Rattle.sdp_text.specs.declared.proto.Proto.{Proto}
 use Rattle.sdp_text.specs.declared.proto.Proto.TheVariants.{Avp, Avpf, Savp, Savpf, Other}
 use Rattle.port_pool.specs.declared.holder.Side.{Side}
@@ -27,7 +27,7 @@ is_srtp_leg (Some profile) = is_srtp profile
 abbrev pub profile_over : Option Proto → OfferAsk → ℕ → Proto
 profile_over in_force ask section =
     let own = (section_in ask.sdp section).proto in
-    if is_rtp own then unwrap_or (or_else ask.options.transport in_force) own else own
+    if is_rtp_proto own then unwrap_or (or_else ask.options.transport in_force) own else own
 
 abbrev mutual
   -- the profile that a leg has by the last offer: the offerer's its own, the other side's the written one
@@ -46,5 +46,5 @@ abbrev mutual
       if is_committed (Answered ask ∷ rounds) section then profile_offered rounds section side else None
 
 -- the profile that an offer after these rounds is written with to the other side
-abbrev pub written : List Round → OfferAsk → ℕ → Proto
-written rounds ask section = profile_over (profile_in_force rounds section (other_side (offerer rounds ask))) ask section
+abbrev pub written_profile : List Round → OfferAsk → ℕ → Proto
+written_profile rounds ask section = profile_over (profile_in_force rounds section (other_side (offerer rounds ask))) ask section

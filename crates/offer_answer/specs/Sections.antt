@@ -3,8 +3,8 @@ use Rattle.std.specs.Prelude.{ℕ, List, [], ◌∷◌, ◌++◌, length, Bool, 
 use Rattle.std.specs.List.{list_any}
 use Rattle.histories.specs.Words.{numbers}
 use Rattle.sdp_text.specs.Lines.{lines_of}
-use Rattle.sdp_text.specs.Parts.{is_rtp}
-use Rattle.sdp_text.specs.Reading.{sections_in}
+use Rattle.sdp_text.specs.Parts.{is_rtp_proto}
+use Rattle.sdp_text.specs.Descriptions.{sections_in}
 use Rattle.sdp_text.specs.declared.section.Section.{Section}
 use Rattle.sdp_text.specs.declared.proto.Proto.TheVariants.{Other}
 use Rattle.port_pool.specs.declared.holder.Side.{Side}
@@ -33,7 +33,7 @@ section_in sdp section = unwrap_or (slice_get (sections_of sdp) section) no_sect
 
 -- a section is active where its protocol is one of the four of RTP and its port isn't 0 (RFC 3264 section 6)
 abbrev pub is_active : Section → Bool
-is_active section = not (section.port == 0) && is_rtp section.proto
+is_active section = not (section.port == 0) && is_rtp_proto section.proto
 
 abbrev pub is_active_in : List ℕ → ℕ → Bool
 is_active_in sdp section = is_active (section_in sdp section)
@@ -51,25 +51,25 @@ leases (Answered ask) section = false
 
 -- The round takes the section's pairs away, after the earlier rounds of its life. An offer drops a section that it doesn't
 -- use and that no answer has committed. An answer rejects a section that isn't active both in its offer and in itself.
-abbrev pub takes_away : Round → List Round → ℕ → Bool
-takes_away (Offered ask legs keys) life section = not (is_active_in ask.sdp section) && not (has_answer life)
-takes_away (Answered ask) life section = not (is_active_in (offered_sdp life) section && is_active_in ask.sdp section)
+abbrev pub takes_pairs_away : Round → List Round → ℕ → Bool
+takes_pairs_away (Offered ask legs keys) section_life section = not (is_active_in ask.sdp section) && not (has_answer section_life)
+takes_pairs_away (Answered ask) section_life section = not (is_active_in (offered_sdp section_life) section && is_active_in ask.sdp section)
 
 abbrev pub lives_on : Round → List Round → ℕ → List Round
 lives_on round [] section = []
-lives_on round (former ∷ life) section = if takes_away round (former ∷ life) section then [] else round ∷ former ∷ life
+lives_on round (former ∷ section_life) section = if takes_pairs_away round (former ∷ section_life) section then [] else round ∷ former ∷ section_life
 
 -- the rounds since the section got the pairs that it has, from the offer that leased them on; none where it has no pairs
-abbrev pub life : List Round → ℕ → List Round
-life [] section = []
-life (round ∷ rounds) section = if leases round section then round ∷ [] else lives_on round (life rounds section) section
+abbrev pub section_life : List Round → ℕ → List Round
+section_life [] section = []
+section_life (round ∷ rounds) section = if leases round section then round ∷ [] else lives_on round (section_life rounds section) section
 
 abbrev pub has_pairs : List Round → ℕ → Bool
-has_pairs rounds section = is_begun (life rounds section)
+has_pairs rounds section = is_begun (section_life rounds section)
 
 -- an answer has committed the section since it got the pairs that it has
 abbrev pub is_committed : List Round → ℕ → Bool
-is_committed rounds section = has_answer (life rounds section)
+is_committed rounds section = has_answer (section_life rounds section)
 
 -- all legs that offers among the rounds leased pairs for
 abbrev pub leased_for : List Round → List Holder
@@ -79,7 +79,7 @@ leased_for (Answered ask ∷ rounds) = leased_for rounds
 
 -- the section's leg on a side, with its pair
 abbrev pub leg_of : List Round → ℕ → Side → Option Holder
-leg_of rounds section side = find (λ leg. leg.section == section && side_eq leg.side side) (leased_for (life rounds section))
+leg_of rounds section side = find (λ leg. leg.section == section && side_eq leg.side side) (leased_for (section_life rounds section))
 
 -- how many sections the last committed offer has; 0 before the first answer
 abbrev pub committed_count : List Round → ℕ

@@ -36,8 +36,8 @@ signalled None (Some host) = ip_of host
 signalled None None = ips.V4 (0 ∷ 0 ∷ 0 ∷ 0 ∷ [])
 
 -- the key and the suite of a crypto line
-abbrev pub key_of : CryptoLine → List ℕ × Suite
-key_of line = (line.key, line.suite)
+abbrev pub line_key : CryptoLine → List ℕ × Suite
+line_key line = (line.key, line.suite)
 
 -- What a leg is committed with, by its side's section in a description with these options, the crypto line that the side chose
 -- and the key under which packets are sent to it. Hold is read from the description alone (RFC 3264 section 8.4).
@@ -48,7 +48,7 @@ leg_signal section options line key = record {
   flags = options.flags;
   hold = section.hold;
   mux = false;
-  inbound = option_map key_of line;
+  inbound = option_map line_key line;
   outbound = option_map (λ (k : NewKey). k.number) key;
 }
 

@@ -16,7 +16,7 @@ use Rattle.port_pool.specs.Ports.{pair_port}
 use Rattle.offer_answer.specs.Rounds.{Round, OfferAsk, AnswerAsk, NewLeg}
 use Rattle.offer_answer.specs.Sides.{MadeOffer, offerer, maker}
 use Rattle.offer_answer.specs.Sections.{section_in, all_sections, is_active_in, leg_of}
-use Rattle.offer_answer.specs.Profiles.{is_srtp, written}
+use Rattle.offer_answer.specs.Profiles.{is_srtp, written_profile}
 use Rattle.offer_answer.specs.Keys.{chosen_in, leg_key, line_with, no_lines, offered_lines}
 use Rattle.offer_answer.specs.Signals.{is_rejected_by}
 use Rattle.offer_answer.specs.Demands.{new_legs}
@@ -58,7 +58,7 @@ offered_port config rounds ask ports section =
 abbrev pub offer_section : Config → List Round → OfferAsk → List ℕ → List NewKey → ℕ → SectionEdit
 offer_section config rounds ask ports keys section = record {
   port = offered_port config rounds ask ports section;
-  proto = written rounds ask section;
+  proto = written_profile rounds ask section;
   address = interface_host config;
   crypto = offered_lines rounds ask keys section;
 }

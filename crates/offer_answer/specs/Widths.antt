@@ -1,8 +1,8 @@
 -- What the length of an offer's text hangs on.
 use Rattle.std.specs.Prelude.{◌≡◌, ◌<◌, ◌≤◌, ℕ, List, length}
-use Rattle.sdp_edit.specs.Editing.{edited, HaveTags}
+use Rattle.sdp_edit.specs.EditedText.{edited, HaveTags}
 use Rattle.offer_answer.specs.Sections.{most_sections}
-use Rattle.offer_answer.specs.Writing.{IsReserved, made_at, widest_len}
+use Rattle.offer_answer.specs.Edits.{IsEditReserved, made_at, widest_len}
 use Rattle.offer_answer.specs.declared.last_offer.MadeSection.{MadeSection}
 use Rattle.offer_answer.specs.declared.last_offer.LastOffer.{LastOffer}
 use Rattle.offer_answer.specs.declared.plan.Next.{Next}
@@ -29,7 +29,7 @@ KeepsOffer (Answer old) (Offer new) = ⊥
 -- an offer's edit has room for its sections, and the plan's length bounds its text; an answer's edit is whole
 abbrev pub WritesNext : Plan → List (List ℕ) → Next → Type 0
 WritesNext plan lines (Offer next) =
-    (next.last.count ≤ most_sections) × IsReserved plan.interface next.last.options next.last.count plan.edit
+    (next.last.count ≤ most_sections) × IsEditReserved plan.interface next.last.options next.last.count plan.edit
     × (widest_len plan.interface next.last lines ≤ plan.reply_len)
 WritesNext plan lines (Answer next) = HaveTags plan.edit.sections.list × (length (edited lines plan.edit) ≤ plan.reply_len)
 

@@ -5,11 +5,11 @@ ghost use Rattle.relay_outside.specs.declared.settings.Config.{Config};
 ghost use Rattle.sdp_text.specs.Lines.{lines_of};
 ghost use Rattle.offer_answer.specs.Rounds.{Round, OfferAsk, AnswerAsk};
 ghost use Rattle.offer_answer.specs.Keys.{no_lines, last_lines};
-ghost use Rattle.offer_answer.specs.Plan.{OfferHeard, AnswerHeard};
+ghost use Rattle.offer_answer.specs.Plan.{OfferRead, AnswerRead};
 ghost use Rattle.offer_answer.specs.Dialogs.{DialogFor};
 
 use crate::dialog::Dialog;
-use crate::rejecting::made_section;
+use crate::rejected_sections::made_section;
 use sdes_lines::CryptoLine;
 use sdp_edit::{choose, choose_among};
 use sdp_text::{MOST_SECTIONS, Sdp};
@@ -54,7 +54,7 @@ impl ChosenLines {
 
     /// The lines that are chosen in the description of an offer: the first usable one of each section (RFC 4568 section 5.1.2).
     pub fn of_offer(sdp: &Sdp) -> ChosenLines
-        ensures { (ask : OfferAsk) → lines_of ask.sdp ≡ sdp.now → ask.chosen ≡ result → OfferHeard ask }
+        ensures { (ask : OfferAsk) → lines_of ask.sdp ≡ sdp.now → ask.chosen ≡ result → OfferRead ask }
     {
         let count = sdp.section_count();
         let mut lines = [None; MOST_SECTIONS];
@@ -88,7 +88,7 @@ impl Dialog {
     /// and suite are those of a line that its side was offered (RFC 4568 section 5.1.2). None before the first offer.
     pub fn hear(&self, sdp: &Sdp) -> ChosenLines
         ensures { (config : Config) (rounds : List Round) (ask : AnswerAsk) → DialogFor config self.now rounds →
-            lines_of ask.sdp ≡ sdp.now → ask.chosen ≡ result → AnswerHeard rounds ask }
+            lines_of ask.sdp ≡ sdp.now → ask.chosen ≡ result → AnswerRead rounds ask }
     {
         let count = sdp.section_count();
         let mut lines = [None; MOST_SECTIONS];

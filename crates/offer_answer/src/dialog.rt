@@ -8,8 +8,8 @@ ghost use Rattle.offer_answer.specs.Rounds.{Round, Offered, Answered, OfferAsk, 
 ghost use Rattle.offer_answer.specs.Sides.{MadeOffer, last_offer};
 ghost use Rattle.offer_answer.specs.Plan as plan;
 ghost use Rattle.offer_answer.specs.Dialogs.{DialogFor, Awaits, no_state};
-ghost use Rattle.offer_answer.specs.Filled.{AreLeased, FilledFor};
-ghost use Rattle.offer_answer.specs.Answering.{IsLast, AnsweredFor};
+ghost use Rattle.offer_answer.specs.PortsAndKeys.{AreDemandedLegs, FilledFor};
+ghost use Rattle.offer_answer.specs.Answers.{IsLast, AnsweredFor};
 ghost use Rattle.offer_answer.specs.Plans.{OfferFilled, AnswerNext};
 
 use crate::last_offer::{LastOffer, OfferedNext};
@@ -137,7 +137,7 @@ impl Dialog {
     pub(crate) fn apply_offer(&mut self, next: OfferedNext)
         ensures { (config : Config) (rounds : List Round) (ask : OfferAsk) (ports : List ℕ) (keys : List NewKey) (legs : List Holder) →
             DialogFor config self.old rounds → Awaits self.old ask.from_tag → FilledFor config rounds ask ports keys next →
-            AreLeased config rounds ask ports legs → DialogFor config self.new (Offered ask legs keys ∷ rounds) }
+            AreDemandedLegs config rounds ask ports legs → DialogFor config self.new (Offered ask legs keys ∷ rounds) }
     {
         let OfferedNext { last, sections } = next;
         self.is_begun = true;
@@ -193,7 +193,7 @@ impl Dialog {
     pub fn apply(&mut self, plan: Plan)
         ensures offered { (config : Config) (rounds : List Round) (ask : OfferAsk) (ports : List ℕ) (keys : List NewKey) (legs : List Holder) →
             DialogFor config self.old rounds → Awaits self.old ask.from_tag → OfferFilled config rounds ask ports keys plan.next →
-            AreLeased config rounds ask ports legs → DialogFor config self.new (Offered ask legs keys ∷ rounds) }
+            AreDemandedLegs config rounds ask ports legs → DialogFor config self.new (Offered ask legs keys ∷ rounds) }
         ensures answered { (config : Config) (rounds : List Round) (ask : AnswerAsk) → DialogFor config self.old rounds →
             AnswerNext config rounds ask plan.next → DialogFor config self.new (Answered ask ∷ rounds) }
     {

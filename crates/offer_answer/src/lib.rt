@@ -6,34 +6,34 @@
 //! and `Faults`. `specs/Laws.antt` has what holds of every plan, which `law` proves.
 //!
 //! A `Dialog` keeps the state that the rounds lead to (`specs/Dialogs.antt`), and `offer` makes the plan of an offer from it, or tells its
-//! first fault (`specs/Offering.antt`).
+//! first fault (`specs/Offers.antt`).
 #![tactic(auto)]
 
-mod answered;
-mod answering;
+mod answer_plan;
+mod answer_text;
+mod answered_section;
 mod chosen_lines;
 mod dialog;
 mod fault;
-mod filling;
 mod last_offer;
 mod law;
 mod leg;
 mod next_answer;
 mod next_offer;
-mod offered;
+mod offer_plan;
+mod offer_text;
+mod offered_section;
 mod plan;
-mod planning;
-mod rejecting;
-mod signalling;
-mod writing;
-mod writing_back;
+mod ports_and_keys;
+mod rejected_sections;
+mod signals;
 
-pub use answering::answer;
+pub use answer_plan::answer;
 pub use chosen_lines::ChosenLines;
 pub use dialog::Dialog;
 pub use fault::OaFault;
 pub use law::{
     offers_drop_what_goes, signals_name_drawn_keys, signals_reject_what_goes, signals_secure_legs,
 };
+pub use offer_plan::offer;
 pub use plan::Plan;
-pub use planning::offer;

@@ -7,14 +7,14 @@ ghost use Rattle.offer_answer.specs.Sides.{MadeOffer};
 ghost use Rattle.offer_answer.specs.Sections.{most_sections};
 ghost use Rattle.offer_answer.specs.Keys.{committed_key};
 ghost use Rattle.offer_answer.specs.Signals.{is_rejected_by};
-ghost use Rattle.offer_answer.specs.Dialogs.{DialogFor, SectionFor, LegFor, drawn_as, no_state};
-ghost use Rattle.offer_answer.specs.Answering.{IsLast, HearsAnswer, AsksAnswer, AnsweredAt, AnsweredFor};
+ghost use Rattle.offer_answer.specs.Dialogs.{DialogFor, SectionFor, LegFor, drawn_for_leg, no_state};
+ghost use Rattle.offer_answer.specs.Answers.{IsLast, ReadsAnswer, AsksAnswer, AnsweredAt, AnsweredFor};
 
-use crate::answered::{AnsweredSection, answered_section};
+use crate::answered_section::{AnsweredSection, answered_section};
 use crate::dialog::Dialog;
 use crate::last_offer::LastOffer;
 use crate::leg::{DialogSection, DrawnKey, Leg};
-use crate::rejecting::is_rejected;
+use crate::rejected_sections::is_rejected;
 use ng_bencode::Text;
 use ng_command::AnswerIn;
 use port_pool::Side;
@@ -47,7 +47,7 @@ fn rejected_leg(leg: &Leg) -> Leg
 /// A leg that was committed with this key: the profile that the last offer gave it is in force.
 fn committed_leg(leg: &Leg, key: Option<DrawnKey>) -> Leg
     ensures { (config : Config) (rounds : List Round) (ask : AnswerAsk) (section : ℕ) (side : Side) → LegFor config rounds section side leg.now →
-        is_rejected_by rounds ask section ≡ false → option_map (drawn_as section side) key ≡ committed_key rounds ask section side →
+        is_rejected_by rounds ask section ≡ false → option_map (drawn_for_leg section side) key ≡ committed_key rounds ask section side →
         LegFor config (Answered ask ∷ rounds) section side result }
 {
     Leg {
@@ -89,7 +89,7 @@ fn committed_section(answered: &AnsweredSection, last: &LastOffer) -> DialogSect
 fn next_section(dialog: &Dialog, last: &LastOffer, sdp: &Sdp, section: usize) -> DialogSection
     requires { section < 8 }
     ensures { (config : Config) (rounds : List Round) (offer : MadeOffer) (ask : AnswerAsk) → DialogFor config dialog.now rounds →
-        IsLast rounds offer last.now → HearsAnswer sdp.now rounds ask → SectionFor config (Answered ask ∷ rounds) section result }
+        IsLast rounds offer last.now → ReadsAnswer sdp.now rounds ask → SectionFor config (Answered ask ∷ rounds) section result }
 {
     if is_rejected(dialog, last, sdp, section) {
         return rejected_section(&dialog.section(section));
@@ -100,7 +100,7 @@ fn next_section(dialog: &Dialog, last: &LastOffer, sdp: &Sdp, section: usize) ->
 
 fn next_sections(dialog: &Dialog, last: &LastOffer, sdp: &Sdp) -> [DialogSection; MOST_SECTIONS]
     ensures { (config : Config) (rounds : List Round) (offer : MadeOffer) (ask : AnswerAsk) → DialogFor config dialog.now rounds →
-        IsLast rounds offer last.now → HearsAnswer sdp.now rounds ask →
+        IsLast rounds offer last.now → ReadsAnswer sdp.now rounds ask →
         (section : ℕ) → section < most_sections → SectionFor config (Answered ask ∷ rounds) section (slice_index_or result section no_state) }
 {
     [

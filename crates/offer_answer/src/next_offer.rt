@@ -8,13 +8,15 @@ ghost use Rattle.offer_answer.specs.Sections.{is_active};
 ghost use Rattle.offer_answer.specs.Profiles.{profile_offered};
 ghost use Rattle.offer_answer.specs.Dialogs.{DialogFor, no_state};
 ghost use Rattle.offer_answer.specs.LastOffers.{no_made};
-ghost use Rattle.offer_answer.specs.Offering.{HearsOffer, AsksOffer, OfferedFor};
+ghost use Rattle.offer_answer.specs.Offers.{ReadsOffer, AsksOffer, OfferedFor};
 ghost use Rattle.offer_answer.specs.Nexts.{LegNext, SectionNext, MadeNext, NextFor};
 
 use crate::dialog::Dialog;
 use crate::last_offer::{LastOffer, MadeSection, OfferedNext};
 use crate::leg::{DialogSection, Leg};
-use crate::offered::{OfferedSection, is_active, offered_section, other_side, written_over};
+use crate::offered_section::{
+    OfferedSection, is_active, offered_section, other_side, written_over,
+};
 use ng_bencode::Text;
 use ng_command::OfferIn;
 use port_pool::Side;
@@ -97,7 +99,7 @@ fn sections_after(
     transport: Option<Proto>,
     maker: Side,
 ) -> [DialogSection; MOST_SECTIONS]
-    ensures { (config : Config) (rounds : List Round) (ask : OfferAsk) → DialogFor config dialog.now rounds → HearsOffer sdp.now ask →
+    ensures { (config : Config) (rounds : List Round) (ask : OfferAsk) → DialogFor config dialog.now rounds → ReadsOffer sdp.now ask →
         transport ≡ ask.options.transport → maker ≡ offerer rounds ask →
         (section : ℕ) → section < 8 → SectionNext config rounds ask [] [] section (slice_index_or result section no_state) }
 {
@@ -115,7 +117,7 @@ fn made_sections(
     transport: Option<Proto>,
     maker: Side,
 ) -> [MadeSection; MOST_SECTIONS]
-    ensures { (config : Config) (rounds : List Round) (ask : OfferAsk) → DialogFor config dialog.now rounds → HearsOffer sdp.now ask →
+    ensures { (config : Config) (rounds : List Round) (ask : OfferAsk) → DialogFor config dialog.now rounds → ReadsOffer sdp.now ask →
         transport ≡ ask.options.transport → maker ≡ offerer rounds ask →
         (section : ℕ) → section < 8 → MadeNext rounds ask section (slice_index_or result section no_made) }
 {

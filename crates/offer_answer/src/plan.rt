@@ -7,14 +7,14 @@ ghost use Rattle.sdp_text.specs.Lines.{lines_of};
 ghost use Rattle.port_pool.specs.Signals.{NewKey};
 ghost use Rattle.offer_answer.specs.Rounds.{Round, OfferAsk, AnswerAsk, Demand};
 ghost use Rattle.offer_answer.specs.Plan.{demand, offer_text, answer_text};
-ghost use Rattle.offer_answer.specs.Offering.{PlanFor, leg_asked, key_asked, pair_count, key_count};
+ghost use Rattle.offer_answer.specs.Offers.{PlanFor, leg_asked, key_asked, pairs_demanded, key_count};
 ghost use Rattle.offer_answer.specs.Plans.{OfferNext, OfferFilled, OfferPlan, AnswerNext, AnswerPlan};
 ghost use Rattle.offer_answer.specs.Nexts.{numbered_keys};
 ghost use Rattle.offer_answer.specs.Widths.{KeepsOffer, WritesNext, WritesFrom};
 
 use crate::last_offer::OfferedNext;
 use crate::next_answer::AnsweredNext;
-use crate::writing::write_offer;
+use crate::offer_text::write_offer;
 use port_pool::{Side, Signal};
 use relay_outside::{Ip, KeyAndSalt};
 use sdes_lines::Suite;
@@ -54,7 +54,7 @@ pub struct Plan {
 impl Plan {
     /// How many pairs it demands.
     pub fn pairs(&self) -> usize
-        ensures count { result ≡ pair_count self.now }
+        ensures count { result ≡ pairs_demanded self.now }
         ensures demanded { (asked : Demand) → PlanFor self.now asked → result ≡ length asked.pairs }
     {
         self.legs.len()
@@ -70,7 +70,7 @@ impl Plan {
 
     /// The section, from 0, and the side of the leg that a pair is for. The index counts from 0, in the order of leases.
     pub fn pair_leg(&self, index: usize) -> (u8, Side)
-        requires { index < pair_count self.now }
+        requires { index < pairs_demanded self.now }
         ensures { (asked : Demand) → PlanFor self.now asked → slice_get asked.pairs index ≡ Some (leg_asked result) }
     {
         self.legs[index]
@@ -126,7 +126,7 @@ impl Plan {
     /// Puts in the RTP ports of the leased pairs and the drawn keys, each as many and in the order as they are demanded. The keys
     /// have the numbers from `first_key` on.
     fn put(&mut self, ports: &[u16], first_key: u64, keys: &[KeyAndSalt])
-        requires ports { length ports.now ≡ pair_count self.old }
+        requires ports { length ports.now ≡ pairs_demanded self.old }
         requires keys { length keys.now ≡ key_count self.old }
         requires first { first_key ≤ 2 ^ 63 }
         ensures rest { self.new ≡ record self.old { next = self.new.next } }
@@ -176,7 +176,7 @@ impl Plan {
         keys: &[KeyAndSalt],
         out: &mut Bytes,
     )
-        requires ports { length ports.now ≡ pair_count self.old }
+        requires ports { length ports.now ≡ pairs_demanded self.old }
         requires keys { length keys.now ≡ key_count self.old }
         requires first { first_key ≤ 2 ^ 63 }
         requires made { WritesFrom self.old sdp.now }

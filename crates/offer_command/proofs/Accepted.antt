@@ -6,8 +6,8 @@ use Rattle.relay_outside.specs.declared.address.Addr.{Addr}
 use Rattle.relay_outside.specs.declared.settings.Config.{Config}
 use Rattle.ng_bencode.specs.Tree.{Entries}
 use Rattle.ng_command.specs.declared.command.Options.{Options}
-use Rattle.ng_command.specs.Said as said
-use Rattle.ng_command.specs.Said.{Said}
+use Rattle.ng_command.specs.Meanings as said
+use Rattle.ng_command.specs.Meanings.{Said}
 use Rattle.ng_frame.specs.Frame.{frame}
 use Rattle.ng_reply.specs.declared.code.ErrorCode.{ErrorCode}
 use Rattle.ng_reply.specs.declared.code.ErrorCode.TheVariants.{E15}
@@ -15,18 +15,18 @@ use Rattle.sdes_lines.specs.declared.crypto_line.CryptoLine.{CryptoLine}
 use Rattle.sdp_text.specs.Lines.{lines_of}
 use Rattle.offer_answer.specs.Rounds.{Round, OfferAsk, Demand}
 use Rattle.offer_answer.specs.Plan as plan
-use Rattle.offer_answer.specs.Offering.{key_count}
+use Rattle.offer_answer.specs.Offers.{key_count}
 use Rattle.call_board.specs.Acts as act
 use Rattle.call_board.specs.Acts.{Call, Given, Control, Turn, BoardEntry}
 use Rattle.call_board.specs.Calls.{find_call, rounds_of_call}
 use Rattle.call_board.specs.Pairs.{free}
-use Rattle.call_board.specs.Kept.{kept}
-use Rattle.call_board.specs.Asked.{Reads, asked}
+use Rattle.call_board.specs.KeptReplies.{kept_reply}
+use Rattle.call_board.specs.Requests.{ReadsBody, asked}
 use Rattle.call_board.specs.Answers.{offer_ask, offering, undoing, answering, answering_asked, answering_unless, spelled}
-use Rattle.call_board.specs.Fits.{FitsControl, GivesFor, Hears, demanded, demanded_by}
+use Rattle.call_board.specs.Fits.{FitsControl, GivesFor, ReadsRequest, demanded, demanded_by}
 use Rattle.call_board.specs.Replies.{reply_datagram}
 use Rattle.call_board.specs.Views.{view_of}
-use Rattle.call_board.specs.Planned.{Target, PlansOffer}
+use Rattle.call_board.specs.Plans.{Target, PlansOffer}
 use Rattle.call_board.specs.declared.board_plan.BoardPlan.{BoardPlan}
 use Rattle.call_board.proofs.Dues.{target_in, target_is, offer_leases}
 use Rattle.offer_command.specs.Offers.{IsDue, CanOffer, target_of, demand_of, offer_of}
@@ -38,10 +38,10 @@ pub record IsAsked (config : Config) (h : List BoardEntry) (now : ℕ) (source :
     (chosen : List (Option CryptoLine)) (id from_tag sdp : List ℕ) (options : Options) : Type 0 where
   pub framed : frame (cookie ++ 32 ∷ body) ≡ Some (cookie, body)
   pub length_is : too_long ≡ nat_lt 16384 (length (cookie ++ 32 ∷ body))
-  pub reads : Reads body pairs
+  pub reads : ReadsBody body pairs
   pub asks : asked config too_long pairs ≡ Ok (said.Offer id from_tag sdp options)
-  pub heard : plan.OfferHeard (offer_ask from_tag sdp options chosen)
-  pub none_kept : kept h source cookie now ≡ None
+  pub heard : plan.OfferRead (offer_ask from_tag sdp options chosen)
+  pub none_kept : kept_reply h source cookie now ≡ None
 
 none_fails : (n : ℕ) → list_any not (replicate n true) ≡ false
 none_fails zero = refl
@@ -99,7 +99,7 @@ can_offer config h now source cookie body too_long pairs chosen id from_tag sdp 
       framed = a.framed;
       length_is = a.length_is;
       reads = λ is. a.reads;
-      hears = λ is. subst (λ (r : Result Said ErrorCode). Hears h (control draws) r) (sym a.asks) a.heard;
+      hears = λ is. subst (λ (r : Result Said ErrorCode). ReadsRequest h (control draws) r) (sym a.asks) a.heard;
       gives = subst (λ (d : Demand). GivesFor d (given draws) (act.Offered (o draws))) (sym (same draws))
           (record { all_opened = refl }, record { all_drawn = count ∙ keys_count config h id ask p plans.1; none_failed = refl }, refl);
       reports = λ out_of_memory. absurd (let e = out_of_memory in cc);

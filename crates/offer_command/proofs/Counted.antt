@@ -5,27 +5,27 @@ use Rattle.histories.proofs.Lists.{mapped, has_it}
 use Rattle.relay_outside.specs.declared.settings.Config.{Config}
 use Rattle.relay_outside.specs.declared.ports.PortCall.{PortCall}
 use Rattle.sdp_text.specs.Lines.{lines_of}
-use Rattle.sdp_text.specs.Reading.{fault_in}
+use Rattle.sdp_text.specs.Descriptions.{fault_in}
 use Rattle.port_pool.specs.Ports.{pair_count}
 use Rattle.port_pool.specs.Pools.{AreFree}
 use Rattle.port_pool.specs.declared.holder.Holder.{Holder}
-use Rattle.media_ports.specs.Held.{TellsHeld, AreOthers}
+use Rattle.media_ports.specs.OpenPorts.{LogsHeld, AreOthers}
 use Rattle.offer_answer.specs.Rounds.{Round, OfferAsk}
 use Rattle.offer_answer.specs.Plan.{demand}
-use Rattle.offer_answer.specs.Offering.{PlanFor, leg_asked, key_asked}
+use Rattle.offer_answer.specs.Offers.{PlanFor, leg_asked, key_asked}
 use Rattle.call_board.specs.Acts.{BoardEntry}
 use Rattle.call_board.specs.Pairs.{drawn, held, free}
 use Rattle.call_board.specs.Fits.{IsFitting}
-use Rattle.call_board.specs.Planned.{HasRoom}
+use Rattle.call_board.specs.Plans.{HasRoomForPlan}
 use Rattle.call_board.specs.Views.{View, times_leased}
-use Rattle.call_board.specs.Boards.{Shows}
+use Rattle.call_board.specs.Boards.{BoardMatches}
 use Rattle.call_board.specs.declared.board.Board.{Board}
 use Rattle.call_board.specs.declared.board_plan.BoardPlan.{BoardPlan}
 use Rattle.call_board.proofs.Sieves.{is_out}
 use Rattle.call_board.proofs.Bounds.{few_leases, few_drawn, few_pairs_asked, few_keys_asked}
 use Rattle.call_board.proofs.Free.{free_not_held}
 use Rattle.call_board.proofs.Outs.{are_free}
-use Rattle.offer_command.specs.Leasing.{CanLease, pairs_of_plan, keys_of_plan}
+use Rattle.offer_command.specs.Leases.{CanLease, pairs_of_plan, keys_of_plan}
 
 -- no pair was leased so often that an offer's leases reach the end of their count
 pub leases_left : (config : Config) (h : List BoardEntry) (pair count : ℕ) → IsFitting config h → length h ≤ 2 ^ 56 → count ≤ 16 → times_leased h pair + count ≤ 2 ^ 63
@@ -54,10 +54,10 @@ free_is_not_held config h p among =
     free_not_held config h p leg.from (has_it p (free config h) among) leg.is_in leg.makes)
 
 -- in a turn of the board an offer may take what its plan demands
-pub may_lease : (config : Config) (h : List BoardEntry) (board : Board) (told : Option (List PortCall)) (p : BoardPlan) (v : View) → IsFitting config h → length h ≤ 2 ^ 56 →
-    HasRoom board p → pairs_of_plan p ≤ 16 → keys_of_plan p ≤ 24 → Shows config board v → v.free ≡ free config h → v.leases ≡ times_leased h → v.drawn ≡ length (drawn h) →
-    TellsHeld config told (map (λ (leg : Holder). leg.pair) (held h)) → CanLease config board told p
-may_lease config h board told p v fits short room pairs keys shows free_is leases_are drawn_is opens = record {
+pub may_lease : (config : Config) (h : List BoardEntry) (board : Board) (log : Option (List PortCall)) (p : BoardPlan) (v : View) → IsFitting config h → length h ≤ 2 ^ 56 →
+    HasRoomForPlan board p → pairs_of_plan p ≤ 16 → keys_of_plan p ≤ 24 → BoardMatches config board v → v.free ≡ free config h → v.leases ≡ times_leased h → v.drawn ≡ length (drawn h) →
+    LogsHeld config log (map (λ (leg : Holder). leg.pair) (held h)) → CanLease config board log p
+may_lease config h board log p v fits short room pairs keys shows free_is leases_are drawn_is opens = record {
   room = room;
   view = v;
   shows = shows;

@@ -14,12 +14,12 @@ use Rattle.offer_answer.specs.Rounds.{Round, OfferAsk, NewLeg, KeyPlace}
 use Rattle.offer_answer.specs.Rounds as round
 use Rattle.call_board.specs.Acts as act
 use Rattle.call_board.specs.Acts.{Act, Call, Offer, BoardEntry}
-use Rattle.call_board.specs.Pairs.{held, new_keys, closed_of}
+use Rattle.call_board.specs.Pairs.{held, drawn_keys_from, closed_of}
 use Rattle.call_board.specs.Fits.{IsFitting, FitsBoard}
 use Rattle.call_board.specs.declared.board.Board.{Board}
 use Rattle.call_board.specs.declared.board_plan.BoardPlan.{BoardPlan}
-use Rattle.call_board.specs.Views.{View, view_of, at_moment, with_leases, with_returned}
-use Rattle.call_board.specs.Boards.{Shows, pairs_in}
+use Rattle.call_board.specs.Views.{View, view_of, view_at_moment, with_leases, with_returned}
+use Rattle.call_board.specs.Boards.{BoardMatches, pairs_in}
 use Rattle.call_board.specs.Returns.{leg_lease, MayReturnAll}
 use Rattle.call_board.specs.Whole.{with_draws, with_first, with_more}
 use Rattle.call_board.proofs.Entries.{draws_keep}
@@ -28,21 +28,21 @@ use Rattle.call_board.proofs.Held.{closed_of_held}
 use Rattle.call_board.proofs.Outs.{dropped_return}
 use Rattle.relay_core.specs.Entries.{board_history, box_of}
 use Rattle.relay_core.specs.Legal.{Orderly}
-use Rattle.relay_core.specs.Made.{Made}
-use Rattle.relay_core.specs.Scripts.{Owed, opening, in_cell}
+use Rattle.relay_core.specs.Records.{Made}
+use Rattle.relay_core.specs.Scripts.{Owed, open_owed, in_cell}
 use Rattle.relay_core.specs.declared.part.Part.{Part}
-use Rattle.relay_core.specs.Turning.{GainsNested, IsAbove, made_by}
+use Rattle.relay_core.specs.Turns.{GainsNested, IsAbove, made_by}
 use Rattle.relay_core.proofs.Histories.{good_history}
 use Rattle.relay_core.proofs.Holders.{same_box}
 use Rattle.relay_core.proofs.Shut.{closed_open}
-use Rattle.media_ports.specs.Held.{TellsHeld}
-use Rattle.board_turns.specs.Leaving.{AreLeasesOf}
-use Rattle.board_turns.specs.Nesting.{IsOpen}
+use Rattle.media_ports.specs.OpenPorts.{LogsHeld}
+use Rattle.board_turns.specs.Departures.{AreLeasesOf}
+use Rattle.board_turns.specs.NestedSteps.{IsTurnOpen}
 use Rattle.board_turns.specs.declared.board_turn.BoardEntryId.{BoardEntryId}
 use Rattle.board_turns.proofs.Nesting.{gains_more}
-use Rattle.board_turns.specs.Acting.{DoesAct, acted}
-use Rattle.board_turns.specs.Closing.{CanClose, leases_of, closings_of, pairs_left}
-use Rattle.board_turns.specs.Ending.{leg_pairs}
+use Rattle.board_turns.specs.Acts.{DoesAct, acted}
+use Rattle.board_turns.specs.Closings.{CanClose, leases_of_legs, closings_of, pairs_left}
+use Rattle.board_turns.specs.CallEnds.{leg_pairs}
 use Rattle.board_turns.proofs.Closed.{still_open}
 use Rattle.board_turns.proofs.Ended.{leases_are, pairs_are, closings_are, ports_are}
 use Rattle.board_turns.proofs.Lefts.{told_alike}
@@ -66,7 +66,7 @@ offer_leases false of made now v = refl
 may_return : (config : Config) (h : List BoardEntry) (e : BoardEntry) (o : Offer) (moment now count keys : ℕ) → IsFitting config h → act.act e ≡ act.Offered o →
     MayReturnAll config (with_offer o now (leased_view config h moment count keys)) (map (leg_lease config) (dropped_legs h o))
 may_return config h e o moment now count keys good acts =
-    let leased = with_leases (at_moment (view_of config h) moment) count in
+    let leased = with_leases (view_at_moment (view_of config h) moment) count in
     let drawn = draws_keep leased keys in
     let made : Round = round.Offered o.ask o.legs o.keys in
     subst (λ (legs : List Holder). MayReturnAll config (with_offer o now (with_draws leased keys)) (map (leg_lease config) legs)) (closed_dropped h e o acts)
@@ -77,9 +77,9 @@ may_return config h e o moment now count keys good acts =
 -- The boxes of dropped legs.
 
 bringing_case : (config : Config) (h : List BoardEntry) (e : BoardEntry) (o : Offer) (leg : Holder) → IsFitting config h → FitsBoard config h e → act.act e ≡ act.Offered o → o.of.cell ≤ config.max_sessions →
-    In leg (held h) → (w : Owed) → In w (map (opening config) o.legs) ⊎ In w (in_cell o.of (Prepare o.of.number o.legs o.keys o.dropped) ∷ []) → w.place ≡ box_of config leg.pair → ⊥
+    In leg (held h) → (w : Owed) → In w (map (open_owed config) o.legs) ⊎ In w (in_cell o.of (Prepare o.of.number o.legs o.keys o.dropped) ∷ []) → w.place ≡ box_of config leg.pair → ⊥
 bringing_case config h e o leg good fits acts high i w (inl j) at =
-    let m = mapped (opening config) o.legs j in
+    let m = mapped (open_owed config) o.legs j in
     let place : box_of config m.from.pair ≡ box_of config leg.pair = ap (λ (v : Owed). v.place) m.makes ∙ at in
     free_not_held config h m.from.pair leg (new_leg_free config h e o m.from fits acts m.is_in) i (sym (same_box config m.from.pair leg.pair place))
 bringing_case config h e o leg good fits acts high i w (inr (here q)) at =
@@ -91,19 +91,19 @@ bringing_case config h e o leg good fits acts high i w (inr (there j)) at = elim
 bringing_elsewhere : (config : Config) (h : List BoardEntry) (e : BoardEntry) (o : Offer) (leg : Holder) → IsFitting config h → FitsBoard config h e → act.act e ≡ act.Offered o → o.of.cell ≤ config.max_sessions →
     In leg (held h) → (w : Owed) → In w (bringing_of config o) → w.place ≡ box_of config leg.pair → ⊥
 bringing_elsewhere config h e o leg good fits acts high i w j at =
-    bringing_case config h e o leg good fits acts high i w (in_append (map (opening config) o.legs) (in_cell o.of (Prepare o.of.number o.legs o.keys o.dropped) ∷ []) j) at
+    bringing_case config h e o leg good fits acts high i w (in_append (map (open_owed config) o.legs) (in_cell o.of (Prepare o.of.number o.legs o.keys o.dropped) ∷ []) j) at
 
 module _ {M S T O : Type 0} {g : _} where
   -- the dropped legs may be closed
-  pub can_close : (config : Config) (number moment : ℕ) (old new : Hand M S Made T g) (board : Board) (told : Option (List PortCall)) (id : List ℕ) (ask : OfferAsk) (p : BoardPlan)
+  pub can_close : (config : Config) (number moment : ℕ) (old new : Hand M S Made T g) (board : Board) (log : Option (List PortCall)) (id : List ℕ) (ask : OfferAsk) (p : BoardPlan)
       (draws : List (List ℕ)) (count keys : ℕ) (gone : List (pairs.Lease × O × O)) → Orderly config (made_by old) → IsAbove (made_by old) 0 number →
       IsDue config (board_history (made_by old) number) id ask p draws →
       GainsNested number moment (bringing_of config (offer_of config (board_history (made_by old) number) id ask draws)) old new →
       AreLeasesOf config gone (dropped_legs (board_history (made_by old) number) (offer_of config (board_history (made_by old) number) id ask draws)) →
-      Shows config board (with_offer (offer_of config (board_history (made_by old) number) id ask draws) moment (leased_view config (board_history (made_by old) number) moment count keys)) →
-      TellsHeld config told (leg_pairs (offer_of config (board_history (made_by old) number) id ask draws).legs ++ leg_pairs (held (board_history (made_by old) number))) →
-      CanClose config (made_by new) board told gone
-  can_close config number moment old new board told id ask p draws count keys gone orderly above d gains went shows opens = record {
+      BoardMatches config board (with_offer (offer_of config (board_history (made_by old) number) id ask draws) moment (leased_view config (board_history (made_by old) number) moment count keys)) →
+      LogsHeld config log (leg_pairs (offer_of config (board_history (made_by old) number) id ask draws).legs ++ leg_pairs (held (board_history (made_by old) number))) →
+      CanClose config (made_by new) board log gone
+  can_close config number moment old new board log id ask p draws count keys gone orderly above d gains went shows opens = record {
     view = with_offer o moment (leased_view config h moment count keys);
     shows = shows;
     may_return = subst (λ (ls : List pairs.Lease). MayReturnAll config (with_offer o moment (leased_view config h moment count keys)) ls) (sym (leases_are config gone (dropped_legs h o) went))
@@ -112,7 +112,7 @@ module _ {M S T O : Type 0} {g : _} where
     boxes_open = λ pair i. still_open number moment (box_of config pair) (bringing_of config o) old new gains
         (λ w j at. bringing_elsewhere config h d.entry o (its pair i).from good d.fits d.acts high (was_held (its pair i).from (its pair i).is_in) w j
         (at ∙ ap (box_of config) (sym (its pair i).makes)))
-        (λ n up. subst (λ (q : ℕ). IsOpen (made_by old) (box_of config q)) (its pair i).makes (its_open (its pair i).from (its pair i).is_in) n up);
+        (λ n up. subst (λ (q : ℕ). IsTurnOpen (made_by old) (box_of config q)) (its pair i).makes (its_open (its pair i).from (its pair i).is_in) n up);
     held = leg_pairs o.legs ++ leg_pairs (held h);
     opens = opens;
     are_held = λ pair i. it_has pair (leg_pairs o.legs ++ leg_pairs (held h)) (in_right (leg_pairs o.legs) (leg_pairs (held h))
@@ -131,7 +131,7 @@ module _ {M S T O : Type 0} {g : _} where
       high : o.of.cell ≤ config.max_sessions
       high = (cell_within config h id ask p draws good d).1
 
-      its : (pair : ℕ) → In pair (pairs_in (leases_of gone)) → lists.Made (λ (leg : Holder). leg.pair) pair (dropped_legs h o)
+      its : (pair : ℕ) → In pair (pairs_in (leases_of_legs gone)) → lists.Made (λ (leg : Holder). leg.pair) pair (dropped_legs h o)
       its pair i = mapped (λ (leg : Holder). leg.pair) (dropped_legs h o) (subst (λ (ps : List ℕ). In pair ps) (pairs_are config gone (dropped_legs h o) went) i)
 
       closes : (leg : Holder) → In leg (dropped_legs h o) → In leg (closed_of h d.entry o.of)
@@ -140,12 +140,12 @@ module _ {M S T O : Type 0} {g : _} where
       was_held : (leg : Holder) → In leg (dropped_legs h o) → In leg (held h)
       was_held leg i = (closed_of_held h d.entry o.of leg (closes leg i)).0
 
-      its_open : (leg : Holder) → In leg (dropped_legs h o) → IsOpen (made_by old) (box_of config leg.pair)
+      its_open : (leg : Holder) → In leg (dropped_legs h o) → IsTurnOpen (made_by old) (box_of config leg.pair)
       its_open leg i n up = subst (λ (x : Option Holder). IsSome x) (sym (closed_open config (made_by old) orderly number n d.entry o.of leg above up (closes leg i))) refl
 
 -- What the board keeps.
 
-pub keys_length : (n : ℕ) (draws : List (List ℕ)) (places : List KeyPlace) → length draws ≡ length places → length (new_keys n draws places) ≡ length draws
+pub keys_length : (n : ℕ) (draws : List (List ℕ)) (places : List KeyPlace) → length draws ≡ length places → length (drawn_keys_from n draws places) ≡ length draws
 keys_length n [] places same = refl
 keys_length n (bytes ∷ draws) [] same = absurd (let e = same in omega (arith, e))
 keys_length n (bytes ∷ draws) (place ∷ places) same = let rest = keys_length (n + 1) draws places (let e = same in omega (arith, e)) in omega (arith, rest)
@@ -157,16 +157,16 @@ legs_length config h id ask draws =
 pub shows_acted : (config : Config) (h : List BoardEntry) (id : List ℕ) (ask : OfferAsk) (draws : List (List ℕ)) (moment count keys : ℕ) (board : Board) (e : BoardEntry) (pairs : List ℕ) →
     act.act e ≡ act.Offered (offer_of config h id ask draws) → e.moment ≡ moment → length (pairs_for config h id ask) ≡ count → length (offer_of config h id ask draws).keys ≡ keys →
     pairs ≡ leg_pairs (dropped_legs h (offer_of config h id ask draws)) →
-    Shows config board (with_returned (with_offer (offer_of config h id ask draws) moment (leased_view config h moment count keys)) pairs) →
-    Shows config board (acted h e (act.act e) (at_moment (view_of config h) moment))
+    BoardMatches config board (with_returned (with_offer (offer_of config h id ask draws) moment (leased_view config h moment count keys)) pairs) →
+    BoardMatches config board (acted h e (act.act e) (view_at_moment (view_of config h) moment))
 shows_acted config h id ask draws moment count keys board e pairs acts now legs_count keys_count closed shows =
-    subst (λ (w : View). Shows config board w) (sym same) shows
+    subst (λ (w : View). BoardMatches config board w) (sym same) shows
   where
     o : Offer
     o = offer_of config h id ask draws
 
     v : View
-    v = at_moment (view_of config h) moment
+    v = view_at_moment (view_of config h) moment
 
     taken : ℕ → ℕ → ℕ → View
     taken m n k = with_offer o m (with_draws (with_leases v n) k)
@@ -183,24 +183,24 @@ shows_acted config h id ask draws moment count keys board e pairs acts now legs_
 -- What the turn did.
 
 module _ {M I O T : Type 0} {g : _} where
-  pub does_offer : (config : Config) (old mid new : Hand M (Part I O) Made T g) (entry_id : BoardEntryId) (e : BoardEntry) (board : Board) (told : Option (List PortCall)) (id : List ℕ)
+  pub does_offer : (config : Config) (old mid new : Hand M (Part I O) Made T g) (entry_id : BoardEntryId) (e : BoardEntry) (board : Board) (log : Option (List PortCall)) (id : List ℕ)
       (ask : OfferAsk) (draws : List (List ℕ)) (count keys : ℕ) (gone : List (pairs.Lease × O × O)) → Orderly config (made_by old) →
       FitsBoard config (board_history (made_by old) entry_id.number) e → act.act e ≡ act.Offered (offer_of config (board_history (made_by old) entry_id.number) id ask draws) → e.moment ≡ entry_id.moment →
       length (pairs_for config (board_history (made_by old) entry_id.number) id ask) ≡ count → length (offer_of config (board_history (made_by old) entry_id.number) id ask draws).keys ≡ keys →
       AreLeasesOf config gone (dropped_legs (board_history (made_by old) entry_id.number) (offer_of config (board_history (made_by old) entry_id.number) id ask draws)) →
       GainsNested entry_id.number entry_id.moment (bringing_of config (offer_of config (board_history (made_by old) entry_id.number) id ask draws)) old mid →
       GainsNested entry_id.number entry_id.moment (closings_of config gone) mid new →
-      Shows config board (with_returned (with_offer (offer_of config (board_history (made_by old) entry_id.number) id ask draws) entry_id.moment
-      (leased_view config (board_history (made_by old) entry_id.number) entry_id.moment count keys)) (pairs_in (leases_of gone))) →
-      TellsHeld config told (pairs_left (pairs_in (leases_of gone)) (leg_pairs (offer_of config (board_history (made_by old) entry_id.number) id ask draws).legs
+      BoardMatches config board (with_returned (with_offer (offer_of config (board_history (made_by old) entry_id.number) id ask draws) entry_id.moment
+      (leased_view config (board_history (made_by old) entry_id.number) entry_id.moment count keys)) (pairs_in (leases_of_legs gone))) →
+      LogsHeld config log (pairs_left (pairs_in (leases_of_legs gone)) (leg_pairs (offer_of config (board_history (made_by old) entry_id.number) id ask draws).legs
       ++ leg_pairs (held (board_history (made_by old) entry_id.number)))) →
-      DoesAct config old new entry_id e board told
-  does_offer config old mid new entry_id e board told id ask draws count keys gone orderly fits acts now legs_count keys_count went brings closes shows opens = record {
+      DoesAct config old new entry_id e board log
+  does_offer config old mid new entry_id e board log id ask draws count keys gone orderly fits acts now legs_count keys_count went brings closes shows opens = record {
     gained = subst (λ (ws : List Owed). GainsNested entry_id.number entry_id.moment ws old new)
         (ap (λ (ws : List Owed). bringing_of config o ++ ws) (closings_are config gone (dropped_legs h o) went) ∙ sym (script_is config h e o acts))
         (gains_more entry_id.number entry_id.moment (bringing_of config o) (closings_of config gone) old mid new brings closes);
-    shows = shows_acted config h id ask draws entry_id.moment count keys board e (pairs_in (leases_of gone)) acts now legs_count keys_count closed shows;
-    opens = told_alike config told (pairs_left (pairs_in (leases_of gone)) (leg_pairs o.legs ++ leg_pairs (held h))) (leg_pairs (held (e ∷ h)))
+    shows = shows_acted config h id ask draws entry_id.moment count keys board e (pairs_in (leases_of_legs gone)) acts now legs_count keys_count closed shows;
+    opens = told_alike config log (pairs_left (pairs_in (leases_of_legs gone)) (leg_pairs o.legs ++ leg_pairs (held h))) (leg_pairs (held (e ∷ h)))
         (λ q. ap (λ (ps : List ℕ). has (pairs_left ps (leg_pairs o.legs ++ leg_pairs (held h))) q) closed
         ∙ held_after config h e o (good_history config (made_by old) orderly entry_id.number) fits acts q) opens;
   }
@@ -211,5 +211,5 @@ module _ {M I O T : Type 0} {g : _} where
       o : Offer
       o = offer_of config h id ask draws
 
-      closed : pairs_in (leases_of gone) ≡ leg_pairs (dropped_legs h o)
+      closed : pairs_in (leases_of_legs gone) ≡ leg_pairs (dropped_legs h o)
       closed = pairs_are config gone (dropped_legs h o) went

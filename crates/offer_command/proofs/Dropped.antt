@@ -22,9 +22,9 @@ use Rattle.call_board.proofs.Held.{held_live}
 use Rattle.call_board.proofs.Outs.{closed_of_offer}
 use Rattle.relay_core.specs.Entries.{Entry, board_history, cell_history, cell_entry, front, history}
 use Rattle.relay_core.specs.Legal.{Orderly}
-use Rattle.relay_core.specs.Made.{Made}
-use Rattle.relay_core.specs.Scripts.{opening, closing, in_cell, closings, script, script_of_act}
-use Rattle.relay_core.specs.Turning.{GainsNested, IsAbove, made_by}
+use Rattle.relay_core.specs.Records.{Made}
+use Rattle.relay_core.specs.Scripts.{open_owed, closing, in_cell, closings, script, script_of_act}
+use Rattle.relay_core.specs.Turns.{GainsNested, IsAbove, made_by}
 use Rattle.relay_core.proofs.Boxes.{below_front}
 use Rattle.relay_core.proofs.CallRounds.{no_rounds}
 use Rattle.relay_core.proofs.Fronts.{offer_cell_is}
@@ -32,7 +32,7 @@ use Rattle.relay_core.proofs.Histories.{good_history}
 use Rattle.relay_core.proofs.LegsHeld.{offer_closes}
 use Rattle.relay_core.proofs.Rounded.{entries_of}
 use Rattle.relay_core.proofs.Turns.{filter_none}
-use Rattle.board_turns.specs.Leaving.{legs_in, AreLeasesOf, DroppedWent}
+use Rattle.board_turns.specs.Departures.{legs_in, AreLeasesOf, DroppedRemoved}
 use Rattle.board_turns.proofs.After.{still}
 use Rattle.offer_command.specs.Offers.{IsDue, target_of, offer_of, dropped_legs, bringing_of}
 use Rattle.offer_command.proofs.Preparing.{cell_elsewhere}
@@ -61,7 +61,7 @@ pub closed_dropped : (h : List BoardEntry) (e : BoardEntry) (o : Offer) → act.
 closed_dropped h e o is = closed_case h e.moment e.event o is
 
 script_case : (config : Config) (h : List BoardEntry) (now : ℕ) (event : BoardEvent) (o : Offer) → act.act (entry_at now event) ≡ act.Offered o →
-    script config h (entry_at now event) ≡ map (opening config) o.legs ++ in_cell o.of (Prepare o.of.number o.legs o.keys o.dropped) ∷ closings config h (entry_at now event) o.of
+    script config h (entry_at now event) ≡ map (open_owed config) o.legs ++ in_cell o.of (Prepare o.of.number o.legs o.keys o.dropped) ∷ closings config h (entry_at now event) o.of
 script_case config h now (Turn c) o is = ap (λ (a : Act). script_of_act config h (entry_at now (Turn c)) c a) is
 script_case config h now (Tick calls) o is = absurd (let e = is in cc)
 script_case config h now (Stop calls) o is = absurd (let e = is in cc)
@@ -71,8 +71,8 @@ pub script_is : (config : Config) (h : List BoardEntry) (e : BoardEntry) (o : Of
     script config h e ≡ bringing_of config o ++ map (closing config) (dropped_legs h o)
 script_is config h e o is =
     script_case config h e.moment e.event o is
-    ∙ ap (λ (legs : List Holder). map (opening config) o.legs ++ in_cell o.of (Prepare o.of.number o.legs o.keys o.dropped) ∷ map (closing config) legs) (closed_dropped h e o is)
-    ∙ sym (append_assoc (map (opening config) o.legs) (in_cell o.of (Prepare o.of.number o.legs o.keys o.dropped) ∷ []) (map (closing config) (dropped_legs h o)))
+    ∙ ap (λ (legs : List Holder). map (open_owed config) o.legs ++ in_cell o.of (Prepare o.of.number o.legs o.keys o.dropped) ∷ map (closing config) legs) (closed_dropped h e o is)
+    ∙ sym (append_assoc (map (open_owed config) o.legs) (in_cell o.of (Prepare o.of.number o.legs o.keys o.dropped) ∷ []) (map (closing config) (dropped_legs h o)))
 
 -- The legs of its cell.
 
@@ -118,8 +118,8 @@ module _ {M S T O : Type 0} {g : _} where
   pub went_dropped : (config : Config) (number moment cell : ℕ) (holders : List Holder) (old new : Hand M S Made T g) (id : List ℕ) (ask : OfferAsk) (p : BoardPlan) (draws : List (List ℕ))
       (dropped : List ℕ) (gone : List (Lease × O × O)) → Orderly config (made_by old) → IsAbove (made_by old) 0 number → IsDue config (board_history (made_by old) number) id ask p draws →
       cell ≤ config.max_sessions → cell ≡ (target_of config (board_history (made_by old) number) id).of.cell →
-      dropped ≡ (offer_of config (board_history (made_by old) number) id ask draws).dropped → GainsNested number moment (map (opening config) holders) old new →
-      DroppedWent config (made_by new) cell dropped gone → AreLeasesOf config gone (dropped_legs (board_history (made_by old) number) (offer_of config (board_history (made_by old) number) id ask draws))
+      dropped ≡ (offer_of config (board_history (made_by old) number) id ask draws).dropped → GainsNested number moment (map (open_owed config) holders) old new →
+      DroppedRemoved config (made_by new) cell dropped gone → AreLeasesOf config gone (dropped_legs (board_history (made_by old) number) (offer_of config (board_history (made_by old) number) id ask draws))
   went_dropped config number moment cell holders old new id ask p draws dropped gone orderly above_board d high cell_is dropped_are gains went =
       subst (λ (ls : List Holder). AreLeasesOf config gone ls) same (went n above)
     where

@@ -8,12 +8,12 @@ use Rattle.port_pool.specs.Signals.{NewKey}
 use Rattle.offer_answer.specs.Rounds.{KeyPlace, Round, OfferAsk}
 use Rattle.offer_answer.specs.Demands.{is_dropped}
 use Rattle.offer_answer.specs.Plan.{demand}
-use Rattle.call_board.specs.Pairs.{new_keys}
+use Rattle.call_board.specs.Pairs.{drawn_keys_from}
 use Rattle.call_cell.specs.declared.prepare.Prepare as prepared
 use Rattle.call_cell.specs.declared.prepare.PreparedKey.{PreparedKey}
-use Rattle.call_cell.specs.Preparing.{PrepareFor, IsPrepared, key_of, keys_of, drops_of}
+use Rattle.call_cell.specs.Preparations.{PrepareFor, IsPrepared, place_key, prepared_keys, drops_of}
 use Rattle.relay_core.proofs.Turns.{filter_append, nothing_more}
-use Rattle.offer_command.specs.Filling.{SameLegs, SectionsFor}
+use Rattle.offer_command.specs.PreparedLegs.{SameLegs, SectionsFor}
 
 -- Keys.
 
@@ -22,7 +22,7 @@ abbrev pub key_at : (number : ℕ) → List ℕ → KeyPlace → NewKey
 key_at number bytes place = record { number = number; section = place.section; side = place.side; suite = place.suite; bytes = bytes }
 
 keys_push : (n : ℕ) (draws : List (List ℕ)) (i : ℕ) (places : List KeyPlace) (bytes : List ℕ) (place : KeyPlace) → slice_get draws i ≡ Some bytes → slice_get places i ≡ Some place
-    → new_keys n (take (suc i) draws) places ≡ new_keys n (take i draws) places ++ key_at (n + i) bytes place ∷ []
+    → drawn_keys_from n (take (suc i) draws) places ≡ drawn_keys_from n (take i draws) places ++ key_at (n + i) bytes place ∷ []
 keys_push n [] i places bytes place q p = absurd (let e : None ≡ Some bytes = q in cc)
 keys_push n (d ∷ draws) i [] bytes place q p = absurd (let e : None ≡ Some place = p in cc)
 keys_push n (d ∷ draws) zero (x ∷ places) bytes place q p =
@@ -33,15 +33,15 @@ keys_push n (d ∷ draws) zero (x ∷ places) bytes place q p =
 keys_push n (d ∷ draws) (suc i) (x ∷ places) bytes place q p =
     let z : (n + 1) + i ≡ n + suc i = omega arith in
     ap (λ (ks : List NewKey). key_at n d x ∷ ks) (keys_push (n + 1) draws i places bytes place q p
-    ∙ ap (λ (m : ℕ). new_keys (n + 1) (take i draws) places ++ key_at m bytes place ∷ []) z)
+    ∙ ap (λ (m : ℕ). drawn_keys_from (n + 1) (take i draws) places ++ key_at m bytes place ∷ []) z)
 
 pub keys_more : (n : ℕ) (draws : List (List ℕ)) (i : ℕ) (places : List KeyPlace) (bytes : List ℕ) (place : KeyPlace) (before : List NewKey) → slice_get draws i ≡ Some bytes
     → slice_get places i ≡ Some place
-    → (before ++ new_keys n (take i draws) places) ++ key_at (n + i) bytes place ∷ [] ≡ before ++ new_keys n (take (i + 1) draws) places
+    → (before ++ drawn_keys_from n (take i draws) places) ++ key_at (n + i) bytes place ∷ [] ≡ before ++ drawn_keys_from n (take (i + 1) draws) places
 keys_more n draws i places bytes place before q p =
     let z : suc i ≡ i + 1 = omega arith in
-    append_assoc before (new_keys n (take i draws) places) (key_at (n + i) bytes place ∷ [])
-    ∙ ap (λ (ks : List NewKey). before ++ ks) (sym (keys_push n draws i places bytes place q p) ∙ ap (λ (k : ℕ). new_keys n (take k draws) places) z)
+    append_assoc before (drawn_keys_from n (take i draws) places) (key_at (n + i) bytes place ∷ [])
+    ∙ ap (λ (ks : List NewKey). before ++ ks) (sym (keys_push n draws i places bytes place q p) ∙ ap (λ (k : ℕ). drawn_keys_from n (take k draws) places) z)
 
 pub legs_still : {O : Type 0} (a b c : prepared.Prepare O) → SameLegs a b → SameLegs b c → SameLegs a c
 legs_still a b c p q = record {
@@ -128,8 +128,8 @@ take_whole (x ∷ xs) zero low = absurd (omega (arith, low))
 take_whole (x ∷ xs) (suc n) low = ap (λ ys. x ∷ ys) (take_whole xs n (omega (arith, low)))
 
 -- all keys
-pub keys_whole : (n i : ℕ) (draws drawn : List (List ℕ)) (places : List KeyPlace) → draws ≡ drawn → length draws ≤ i → new_keys n (take i draws) places ≡ new_keys n drawn places
-keys_whole n i draws drawn places same low = ap (λ (ds : List (List ℕ)). new_keys n ds places) (take_whole draws i low ∙ same)
+pub keys_whole : (n i : ℕ) (draws drawn : List (List ℕ)) (places : List KeyPlace) → draws ≡ drawn → length draws ≤ i → drawn_keys_from n (take i draws) places ≡ drawn_keys_from n drawn places
+keys_whole n i draws drawn places same low = ap (λ (ds : List (List ℕ)). drawn_keys_from n ds places) (take_whole draws i low ∙ same)
 
 -- what stands at an index
 pub got_at : (draws : List (List ℕ)) (i : ℕ) → i < length draws → slice_get draws i ≡ Some (get_or draws i [])
@@ -145,14 +145,14 @@ filter_numbers p q n (suc count) same =
     ap (λ (b : Bool). cond b (n ∷ filter p (numbers (suc n) count)) (filter p (numbers (suc n) count))) (same n (omega arith))
     ∙ ap (λ (ys : List ℕ). cond (q n) (n ∷ ys) ys) (filter_numbers p q (suc n) count (λ x low. same x (omega (arith, low))))
 
-zip_keys : (ps : List PreparedKey) (ks : List NewKey) → AllZip IsPrepared ps ks → map key_of ps ≡ ks
+zip_keys : (ps : List PreparedKey) (ks : List NewKey) → AllZip IsPrepared ps ks → map place_key ps ≡ ks
 zip_keys [] [] all = refl
 zip_keys [] (k ∷ ks) all = elim all [ ]
 zip_keys (p ∷ ps) [] all = elim all [ ]
-zip_keys (p ∷ ps) (k ∷ ks) all = ap (λ (x : NewKey). x ∷ map key_of ps) all.0.key_is ∙ ap (λ (xs : List NewKey). k ∷ xs) (zip_keys ps ks all.1)
+zip_keys (p ∷ ps) (k ∷ ks) all = ap (λ (x : NewKey). x ∷ map place_key ps) all.0.key_is ∙ ap (λ (xs : List NewKey). k ∷ xs) (zip_keys ps ks all.1)
 
 -- what was prepared tells its keys, and its dropped sections upwards
-pub keys_told : {O : Type 0} (signal : prepared.Prepare O) (keys : List NewKey) (dropped : List ℕ) → PrepareFor signal keys dropped → keys_of signal ≡ keys
+pub keys_told : {O : Type 0} (signal : prepared.Prepare O) (keys : List NewKey) (dropped : List ℕ) → PrepareFor signal keys dropped → prepared_keys signal ≡ keys
 keys_told signal keys dropped stands = zip_keys signal.keys.items keys stands.keys_are
 
 pub drops_upwards : {O : Type 0} (signal : prepared.Prepare O) (keys : List NewKey) (dropped : List ℕ) → PrepareFor signal keys dropped → drops_of signal ≡ filter (has dropped) (numbers 0 8)

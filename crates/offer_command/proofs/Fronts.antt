@@ -8,10 +8,10 @@ use Rattle.histories.specs.Words.{In, here, there, has}
 use Rattle.histories.proofs.Lists.{it_has, has_it}
 use Rattle.port_pool.specs.Ports.{pair_count}
 use Rattle.port_pool.specs.Pools.{AreFree, generation}
-use Rattle.media_ports.specs.Addresses.{pairs_of, HavePorts, AreLeased}
-use Rattle.media_ports.specs.Held.{AreOthers}
+use Rattle.media_ports.specs.Addresses.{pairs_of_leases, HavePorts, AreLeased}
+use Rattle.media_ports.specs.OpenPorts.{AreOthers}
 use Rattle.call_board.specs.Views.{View, with_leases}
-use Rattle.call_board.specs.Boards.{Shows, lease_at, leases_of, AreOut}
+use Rattle.call_board.specs.Boards.{BoardMatches, lease_at, front_leases, AreOut}
 use Rattle.call_board.specs.Returns.{MayReturnAll}
 use Rattle.call_board.specs.declared.board.Board.{Board}
 use Rattle.call_board.proofs.Once.{Once}
@@ -21,7 +21,7 @@ use Rattle.call_board.proofs.Leases.{counted}
 use Rattle.call_board.proofs.FreeAfter.{taken_in, once_taken}
 use Rattle.call_board.proofs.Outs.{lease_pairs, returns_out}
 use Rattle.call_board.proofs.Entries.{draws_keep}
-use Rattle.offer_command.specs.Leasing.{with_taken}
+use Rattle.offer_command.specs.Leases.{with_taken}
 
 -- Free pairs.
 
@@ -65,18 +65,18 @@ have_ports config f [] = tt
 have_ports config f (p ∷ pairs) = (refl, have_ports config f pairs)
 
 -- the leases are of different pairs of the configuration
-pub front_leased : (config : Config) (v : View) (count : ℕ) → AreFree (pair_count config) v.free → AreLeased config (leases_of config v count)
+pub front_leased : (config : Config) (v : View) (count : ℕ) → AreFree (pair_count config) v.free → AreLeased config (front_leases config v count)
 front_leased config v count free = record {
   differ = subst (AreFree (pair_count config)) (sym (lease_pairs config v.leases (take count v.free))) (free_taken (pair_count config) count v.free free);
   ports = have_ports config v.leases (take count v.free);
 }
 
 -- they are as many
-pub front_count : (config : Config) (v : View) (count : ℕ) → count ≤ length v.free → length (leases_of config v count) ≡ count
+pub front_count : (config : Config) (v : View) (count : ℕ) → count ≤ length v.free → length (front_leases config v count) ≡ count
 front_count config v count enough = length-map (take count v.free) (lease_at config v.leases) ∙ length-take-le count v.free enough
 
 -- none of them is of a pair that is held
-pub front_others : (config : Config) (v : View) (count : ℕ) (held : List ℕ) → AreOthers held v.free → AreOthers held (pairs_of (leases_of config v count))
+pub front_others : (config : Config) (v : View) (count : ℕ) (held : List ℕ) → AreOthers held v.free → AreOthers held (pairs_of_leases (front_leases config v count))
 front_others config v count held apart p among =
     let taken : has (take count v.free) p ≡ true = ap (λ (ps : List ℕ). has ps p) (sym (lease_pairs config v.leases (take count v.free))) ∙ among in
     apart p (it_has p v.free (taken_in p count v.free (has_it p (take count v.free) taken)))
@@ -92,7 +92,7 @@ leases_return config v f (p ∷ pairs) once below out last = (
 
 -- they may all be given back once they were made
 front_return : (config : Config) (v w : View) (count : ℕ) → AreFree (pair_count config) v.free → w.free ≡ drop count v.free → w.leases ≡ (with_leases v count).leases →
-    MayReturnAll config w (leases_of config v count)
+    MayReturnAll config w (front_leases config v count)
 front_return config v w count free free_is leases_are =
     let pairs = take count v.free in
     let all = once_free (pair_count config) v.free free in
@@ -106,11 +106,11 @@ front_return config v w count free free_is leases_are =
     omega (arith, most, least, same))
 
 -- also where keys were drawn since
-pub front_out : (config : Config) (board : Board) (v : View) (count keys : ℕ) → AreFree (pair_count config) v.free → Shows config board (with_taken v count keys) →
-    AreOut board.pool (leases_of config v count)
+pub front_out : (config : Config) (board : Board) (v : View) (count keys : ℕ) → AreFree (pair_count config) v.free → BoardMatches config board (with_taken v count keys) →
+    AreOut board.pool (front_leases config v count)
 front_out config board v count keys free s =
     let same = draws_keep (with_leases v count) keys in
-    returns_out config board (with_taken v count keys) (leases_of config v count) s
+    returns_out config board (with_taken v count keys) (front_leases config v count) s
     (front_return config v (with_taken v count keys) count free same.free_is same.leases_are)
 
 -- Generations.
@@ -122,12 +122,12 @@ low_or_high n m = go (nat_lt n m) refl
     go true is = inl (grind (arith, nat_tests))
     go false is = inr (grind (arith, nat_tests))
 
-generation_case : (config : Config) (board : Board) (v : View) (pair count : ℕ) → Shows config board v → v.leases pair + count ≤ 2 ^ 63 → (pair < pair_count config) ⊎ (pair_count config ≤ pair) →
+generation_case : (config : Config) (board : Board) (v : View) (pair count : ℕ) → BoardMatches config board v → v.leases pair + count ≤ 2 ^ 63 → (pair < pair_count config) ⊎ (pair_count config ≤ pair) →
     generation board.pool pair + count ≤ 2 ^ 63
 generation_case config board v pair count s low (inl below) = let is = s.pool_for.leases_are pair below in omega (arith, low, is)
 generation_case config board v pair count s low (inr past) =
     let none : generation board.pool pair ≡ 0 = get_or_past board.pool.generations pair 0 (let all = s.pool_for.count_is in omega (arith, past, all)) in omega (arith, none, low)
 
 -- the leases of no pair reach the end of their count
-pub generations_low : (config : Config) (board : Board) (v : View) (pair count : ℕ) → Shows config board v → v.leases pair + count ≤ 2 ^ 63 → generation board.pool pair + count ≤ 2 ^ 63
+pub generations_low : (config : Config) (board : Board) (v : View) (pair count : ℕ) → BoardMatches config board v → v.leases pair + count ≤ 2 ^ 63 → generation board.pool pair + count ≤ 2 ^ 63
 generations_low config board v pair count s low = generation_case config board v pair count s low (low_or_high pair (pair_count config))

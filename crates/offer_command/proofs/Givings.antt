@@ -3,12 +3,12 @@ use Rattle.std.proofs.Common.{ℕ, ◌*◌, List, Option}
 use Rattle.relay_outside.specs.declared.keys.KeyCall.{KeyCall}
 use Rattle.relay_outside.specs.declared.ports.PortCall.{PortCall}
 use Rattle.relay_outside.specs.declared.settings.Config.{Config}
-use Rattle.relay_outside.specs.Told.{Gained}
-use Rattle.media_ports.specs.Asked.{OpensAt}
+use Rattle.relay_outside.specs.DeviceLogs.{Gained}
+use Rattle.media_ports.specs.Openings.{OpensAt}
 use Rattle.offer_command.specs.declared.lease.LeaseFault.{LeaseFault}
 use Rattle.offer_command.specs.declared.lease.LeaseFault.TheVariants.{Port, Key}
-use Rattle.offer_command.specs.Undoing.{DrawsBefore, HasRisen, opens_before}
-use Rattle.board_turns.specs.Giving.{given_by, IsGivenBy}
+use Rattle.offer_command.specs.Undo.{DrawsBefore, HasRisen, opens_before}
+use Rattle.board_turns.specs.DeviceAnswers.{given_by, IsGivenBy}
 use Rattle.board_turns.proofs.Givings.{ports_given, keys_given}
 use Rattle.offer_command.specs.Commands.{undone_answers}
 

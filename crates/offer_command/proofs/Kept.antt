@@ -11,9 +11,9 @@ use Rattle.call_board.specs.Pairs.{held, closes_leg, closed_of, calls_in, signal
 use Rattle.call_board.specs.Fits.{IsFitting, FitsBoard}
 use Rattle.call_board.proofs.Free.{free_not_held, held_apart, new_leg_free}
 use Rattle.call_board.proofs.Held.{held_split, held_stays, held_new, closed_of_held, closes_held}
-use Rattle.media_ports.specs.Held.{HasBoth}
-use Rattle.board_turns.specs.Closing.{pairs_left}
-use Rattle.board_turns.specs.Ending.{leg_pairs}
+use Rattle.media_ports.specs.OpenPorts.{HasBoth}
+use Rattle.board_turns.specs.Closings.{pairs_left}
+use Rattle.board_turns.specs.CallEnds.{leg_pairs}
 use Rattle.board_turns.proofs.Lefts.{has_left}
 use Rattle.offer_command.specs.Offers.{dropped_legs}
 use Rattle.offer_command.proofs.Dropped.{closed_dropped, ends_none}

@@ -10,26 +10,26 @@ use Rattle.port_pool.specs.Pools.{AreFree}
 use Rattle.port_pool.specs.declared.pairs.Lease.{Lease}
 use Rattle.call_cell.specs.declared.leg.Leg.{Leg}
 use Rattle.call_cell.specs.declared.prepare.Prepare as prepared
-use Rattle.call_cell.specs.Ending.{parts_of}
-use Rattle.call_cell.specs.Standing.{port_by}
-use Rattle.call_cell.specs.Preparing.{PrepareFor, parts_added}
+use Rattle.call_cell.specs.CellEnds.{parts_of}
+use Rattle.call_cell.specs.LegHistories.{port_by}
+use Rattle.call_cell.specs.Preparations.{PrepareFor, parts_added}
 use Rattle.port_pool.specs.Signals.{NewKey}
 use Rattle.call_board.specs.Acts.{BoardEntry}
 use Rattle.call_board.specs.Pairs.{free}
 use Rattle.call_board.specs.Fits.{IsFitting}
 use Rattle.call_board.specs.Views.{view_of, times_leased}
-use Rattle.call_board.specs.Boards.{lease_at, leases_of}
+use Rattle.call_board.specs.Boards.{lease_at, front_leases}
 use Rattle.call_board.proofs.FreeAfter.{taken_in}
 use Rattle.call_board.proofs.Outs.{are_free, lease_pairs}
-use Rattle.media_ports.specs.Addresses.{pairs_of, HavePorts, AreLeased}
+use Rattle.media_ports.specs.Addresses.{pairs_of_leases, HavePorts, AreLeased}
 use Rattle.media_ports.specs.declared.ends.PairEnds.{PairEnds}
 use Rattle.media_ports.proofs.Held.{pair_fits}
 use Rattle.offer_command.proofs.OpensAsked.{AreFronts}
 use Rattle.relay_core.specs.Entries.{Entry, board_history}
 use Rattle.relay_core.specs.Legal.{Orderly}
-use Rattle.relay_core.specs.Turning.{IsAbove}
+use Rattle.relay_core.specs.Turns.{IsAbove}
 use Rattle.relay_core.proofs.Shut.{shut_free}
-use Rattle.offer_command.specs.Opening.{AreShut, leased_parts}
+use Rattle.offer_command.specs.LegBoxes.{AreShut, leased_parts}
 
 has_case : (k x p : ℕ) (xs : List ℕ) → (has xs p ≡ false → has (take k xs) p ≡ false) → (b : Bool) → (x == p) ≡ b → cond b true (has xs p) ≡ false →
     cond b true (has (take k xs) p) ≡ false
@@ -53,7 +53,7 @@ have_ports config f [] = tt
 have_ports config f (p ∷ pairs) = (refl, have_ports config f pairs)
 
 -- they are of different pairs of the configuration
-pub are_leased : (config : Config) (h : List BoardEntry) (count : ℕ) (leases : List Lease) → IsFitting config h → leases ≡ leases_of config (view_of config h) count → AreLeased config leases
+pub are_leased : (config : Config) (h : List BoardEntry) (count : ℕ) (leases : List Lease) → IsFitting config h → leases ≡ front_leases config (view_of config h) count → AreLeased config leases
 are_leased config h count leases good is =
     subst (λ (ls : List Lease). AreLeased config ls) (sym is) (record {
       differ = subst (AreFree (pair_count config)) (sym (lease_pairs config (times_leased h) (take count (free config h))))
@@ -62,23 +62,23 @@ are_leased config h count leases good is =
     })
 
 -- the pairs are those in front of the free ones
-pub pairs_leased : (config : Config) (h : List BoardEntry) (count : ℕ) (leases : List Lease) → leases ≡ leases_of config (view_of config h) count →
-    pairs_of leases ≡ take count (free config h)
-pairs_leased config h count leases is = ap pairs_of is ∙ lease_pairs config (times_leased h) (take count (free config h))
+pub pairs_leased : (config : Config) (h : List BoardEntry) (count : ℕ) (leases : List Lease) → leases ≡ front_leases config (view_of config h) count →
+    pairs_of_leases leases ≡ take count (free config h)
+pairs_leased config h count leases is = ap pairs_of_leases is ∙ lease_pairs config (times_leased h) (take count (free config h))
 
-pub lease_free : (config : Config) (h : List BoardEntry) (count : ℕ) (leases : List Lease) → leases ≡ leases_of config (view_of config h) count → (pair : ℕ) → In pair (pairs_of leases) →
+pub lease_free : (config : Config) (h : List BoardEntry) (count : ℕ) (leases : List Lease) → leases ≡ front_leases config (view_of config h) count → (pair : ℕ) → In pair (pairs_of_leases leases) →
     In pair (free config h)
 lease_free config h count leases is pair i = taken_in pair count (free config h) (subst (λ (ps : List ℕ). In pair ps) (pairs_leased config h count leases is) i)
 
 -- with their ports, in the order of the free ones
-pub are_fronts : (config : Config) (h : List BoardEntry) (count : ℕ) (leases : List Lease) → IsFitting config h → leases ≡ leases_of config (view_of config h) count → length leases ≡ count →
+pub are_fronts : (config : Config) (h : List BoardEntry) (count : ℕ) (leases : List Lease) → IsFitting config h → leases ≡ front_leases config (view_of config h) count → length leases ≡ count →
     AreFronts config (free config h) count leases
 are_fronts config h count leases good is many =
     record { have = (are_leased config h count leases good is).ports; fronts = pairs_leased config h count leases is; many = many }
 
 -- their boxes are shut
 pub are_shut : (config : Config) (l : List Entry) → Orderly config l → (n : ℕ) → IsAbove l 0 n → (count : ℕ) (leases : List Lease) →
-    leases ≡ leases_of config (view_of config (board_history l n)) count → AreShut config l (pairs_of leases)
+    leases ≡ front_leases config (view_of config (board_history l n)) count → AreShut config l (pairs_of_leases leases)
 are_shut config l o n above_board count leases is pair i k above =
     shut_free config l o n k pair above_board above (lease_free config (board_history l n) count leases is pair i)
 
@@ -95,7 +95,7 @@ port_in config [] lease have i = elim i [ ]
 port_in config (first ∷ leases) lease have (here q) = ap (λ (x : Lease). x.rtp_port) q ∙ have.0 ∙ ap (λ (x : Lease). pair_port config x.pair) (sym q)
 port_in config (first ∷ leases) lease have (there i) = port_in config leases lease have.1 i
 
-pair_in : (config : Config) (count : ℕ) (leases : List Lease) (lease : Lease) → AreFree count (pairs_of leases) → In lease leases → lease.pair < count
+pair_in : (config : Config) (count : ℕ) (leases : List Lease) (lease : Lease) → AreFree count (pairs_of_leases leases) → In lease leases → lease.pair < count
 pair_in config count [] lease are i = elim i [ ]
 pair_in config count (first ∷ leases) lease are (here q) = let p = ap (λ (x : Lease). x.pair) q in let b = are.0 in omega (arith, p, b)
 pair_in config count (first ∷ leases) lease are (there i) = pair_in config count leases lease are.2 i

@@ -6,14 +6,14 @@ use Rattle.relay_outside.specs.declared.address.Ip.{Ip}
 use Rattle.relay_outside.specs.declared.ports.PortCall.{PortCall}
 use Rattle.relay_outside.specs.declared.settings.Config.{Config}
 use Rattle.relay_outside.specs.Ports.{IsOpen}
-use Rattle.relay_outside.specs.Told.{Gained, WhereTold}
+use Rattle.relay_outside.specs.DeviceLogs.{Gained, WhereLogged}
 use Rattle.relay_outside.proofs.Telling.{gained_both, gained_less}
 use Rattle.port_pool.specs.declared.pairs.Lease.{Lease}
 use Rattle.std.specs.Prelude.{ℕ}
 use Rattle.media_ports.specs.Addresses.{addresses_of, AreLeased}
-use Rattle.media_ports.specs.Calls.{openings, OpensPairs, ClosesUncalled, NoneOpen, SameOpen, WhereBothTold}
-use Rattle.media_ports.specs.Given.{GivesBackUncalled}
-use Rattle.media_ports.specs.Held.{TellsHeld}
+use Rattle.media_ports.specs.Calls.{openings, OpensPairs, ClosesUncalled, NoneOpen, SameOpen, WhereBothLogged}
+use Rattle.media_ports.specs.ReturnedEnds.{GivesBackUncalled}
+use Rattle.media_ports.specs.OpenPorts.{LogsHeld}
 use Rattle.media_ports.proofs.Telling.{both_told_where}
 use Rattle.media_ports.proofs.Closed.{closes_uncalled, still_open, open_among, open_since, open_beside, not_open}
 use Rattle.media_ports.proofs.Leased.{all_from_pairs}
@@ -21,7 +21,7 @@ use Rattle.media_ports.proofs.Held.{held_same}
 use Rattle.media_ports.proofs.Given.{AreOfPairs, leased_of_pairs, uncalled_both, opened_uncalled, closed_uncalled, pairs_uncalled, upto_uncalled}
 use Rattle.offer_command.specs.declared.lease.LeaseFault.{LeaseFault}
 use Rattle.offer_command.specs.declared.lease.LeaseFault.TheVariants.{Port, Key}
-use Rattle.offer_command.specs.Undoing.{OpensAndCloses, UndoesPorts}
+use Rattle.offer_command.specs.Undo.{OpensAndCloses, UndoesPorts}
 
 pub gained_closed : (interface : Ip) (leases : List Lease) (old mid new : Option (List PortCall)) → Gained old mid (OpensPairs interface leases) →
     Gained mid new (AllZip ClosesUncalled (addresses_of interface leases)) → Gained old new (OpensAndCloses (addresses_of interface leases))
@@ -45,13 +45,13 @@ same_open ats before more none undone at =
           (open_beside ats undone.closes (before ++ opens) at closed (λ among. not_open ats before at none among o) still),
     )
 
-pub same_after : (ats : List Addr) (old new : Option (List PortCall)) → WhereTold old (NoneOpen ats) → Gained old new (OpensAndCloses ats) → WhereBothTold old new SameOpen
+pub same_after : (ats : List Addr) (old new : Option (List PortCall)) → WhereLogged old (NoneOpen ats) → Gained old new (OpensAndCloses ats) → WhereBothLogged old new SameOpen
 same_after ats old new none undone =
     both_told_where old new (OpensAndCloses ats) (NoneOpen ats) SameOpen (λ before more closed these. same_open ats before more closed these) none undone
 
 -- where the same ports are open they are those of the same pairs
-pub held_after : (config : Config) (old new : Option (List PortCall)) (P : List PortCall → Type 0) (pairs : List ℕ) → Gained old new P → WhereBothTold old new SameOpen →
-    TellsHeld config old pairs → TellsHeld config new pairs
+pub held_after : (config : Config) (old new : Option (List PortCall)) (P : List PortCall → Type 0) (pairs : List ℕ) → Gained old new P → WhereBothLogged old new SameOpen →
+    LogsHeld config old pairs → LogsHeld config new pairs
 held_after config old None P pairs gained same held = tt
 held_after config None (Some now) P pairs gained same held = absurd gained
 held_after config (Some before) (Some now) P pairs gained same held = held_same config before now pairs held same

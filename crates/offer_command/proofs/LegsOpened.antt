@@ -9,45 +9,45 @@ use Rattle.histories.proofs.Lists.{it_has}
 use Rattle.relay_outside.specs.declared.settings.Config.{Config}
 use Rattle.relay_outside.specs.declared.ports.InCall.{InCall}
 use Rattle.relay_outside.specs.declared.ports.OutCall.{OutCall}
-use Rattle.relay_outside.specs.Told.{EndTold}
+use Rattle.relay_outside.specs.DeviceLogs.{EndLog}
 use Rattle.turn_table.specs.declared.hands.Hand.{Hand}
 use Rattle.turn_table.specs.Hands.{IsSameHand, entries}
 use Rattle.port_pool.specs.declared.holder.Holder.{Holder}
 use Rattle.port_pool.specs.declared.holder.Side.{Side}
 use Rattle.port_pool.specs.declared.pairs.Lease.{Lease}
 use Rattle.offer_answer.specs.Rounds.{NewLeg, Demand}
-use Rattle.offer_answer.specs.Offering.{PlanFor, leg_asked}
+use Rattle.offer_answer.specs.Offers.{PlanFor, leg_asked}
 use Rattle.offer_answer.specs.declared.plan.Plan.{Plan}
 use Rattle.call_board.specs.Acts.{Call}
-use Rattle.call_board.specs.Whole.{legs_of, leg_of}
+use Rattle.call_board.specs.Whole.{holders_of_new_legs, holder_of_new_leg}
 use Rattle.media_ports.specs.declared.ends.PairEnds.{PairEnds}
-use Rattle.media_ports.specs.Addresses.{pairs_of}
+use Rattle.media_ports.specs.Addresses.{pairs_of_leases}
 use Rattle.relay_core.specs.declared.part.Part.{Part}
 use Rattle.relay_core.specs.Entries.{box_of}
-use Rattle.relay_core.specs.Scripts.{Owed, opening}
-use Rattle.relay_core.specs.Made.{Made}
-use Rattle.relay_core.specs.Turning.{GainsNested, made_by}
+use Rattle.relay_core.specs.Scripts.{Owed, open_owed}
+use Rattle.relay_core.specs.Records.{Made}
+use Rattle.relay_core.specs.Turns.{GainsNested, made_by}
 use Rattle.relay_core.proofs.Holders.{same_box}
 use Rattle.relay_core.proofs.Turns.{nothing_more}
 use Rattle.board_turns.proofs.Nesting.{gains_more, same_again}
 use Rattle.board_turns.proofs.After.{gained_elsewhere, still_shut}
 use Rattle.offer_command.specs.Legs.{LegsFor}
-use Rattle.offer_command.specs.Opening.{AreShut, IsOpened, leg_parts, leased_parts}
+use Rattle.offer_command.specs.LegBoxes.{AreShut, IsBoxOpened, leg_parts, leased_parts}
 
 -- The legs.
 
 legs_push : (of : Call) (done : List Lease) (lease : Lease) (asked : List NewLeg) (leg : NewLeg) → slice_get asked (length done) ≡ Some leg
-    → legs_of of (done ++ lease ∷ []) asked ≡ legs_of of done asked ++ leg_of of lease leg ∷ []
+    → holders_of_new_legs of (done ++ lease ∷ []) asked ≡ holders_of_new_legs of done asked ++ holder_of_new_leg of lease leg ∷ []
 legs_push of [] lease [] leg q = absurd (let e : None ≡ Some leg = q in cc)
-legs_push of [] lease (x ∷ asked) leg q = let e : x ≡ leg = (let f : Some x ≡ Some leg = q in cc) in ap (λ (y : NewLeg). leg_of of lease y ∷ []) e
+legs_push of [] lease (x ∷ asked) leg q = let e : x ≡ leg = (let f : Some x ≡ Some leg = q in cc) in ap (λ (y : NewLeg). holder_of_new_leg of lease y ∷ []) e
 legs_push of (d ∷ done) lease [] leg q = absurd (let e : None ≡ Some leg = q in cc)
-legs_push of (d ∷ done) lease (x ∷ asked) leg q = ap (λ (legs : List Holder). leg_of of d x ∷ legs) (legs_push of done lease asked leg q)
+legs_push of (d ∷ done) lease (x ∷ asked) leg q = ap (λ (legs : List Holder). holder_of_new_leg of d x ∷ legs) (legs_push of done lease asked leg q)
 
 -- the holder of the leg
 abbrev pub holder_for : (call cell : ℕ) → Lease → ℕ × Side → Holder
 holder_for call cell lease leg = record { cell = cell; call = call; section = leg.0; side = leg.1; pair = lease.pair; generation = lease.generation }
 
-holder_is : (of : Call) (call cell : ℕ) (lease : Lease) (leg : ℕ × Side) → of.number ≡ call → of.cell ≡ cell → leg_of of lease (leg_asked leg) ≡ holder_for call cell lease leg
+holder_is : (of : Call) (call cell : ℕ) (lease : Lease) (leg : ℕ × Side) → of.number ≡ call → of.cell ≡ cell → holder_of_new_leg of lease (leg_asked leg) ≡ holder_for call cell lease leg
 holder_is of call cell lease leg number place =
     ap (λ (n : ℕ). holder_for n of.cell lease leg) number ∙ ap (λ (n : ℕ). holder_for call n lease leg) place
 
@@ -56,7 +56,7 @@ legs_more : (plan : Plan) (call cell : ℕ) (done : List Lease) (lease : Lease) 
     → LegsFor plan call cell (done ++ lease ∷ []) (legs ++ holder_for call cell lease leg ∷ [])
 legs_more plan call cell done lease legs i leg are count says asked of demands number place =
     ap (λ (xs : List Holder). xs ++ holder_for call cell lease leg ∷ []) (are asked of demands number place)
-    ∙ ap (λ (h : Holder). legs_of of done asked.pairs ++ h ∷ []) (sym (holder_is of call cell lease leg number place))
+    ∙ ap (λ (h : Holder). holders_of_new_legs of done asked.pairs ++ h ∷ []) (sym (holder_is of call cell lease leg number place))
     ∙ sym (legs_push of done lease asked.pairs (leg_asked leg) (subst (λ (n : ℕ). slice_get asked.pairs n ≡ Some (leg_asked leg)) (sym count) (says asked demands)))
 
 -- The ends.
@@ -193,29 +193,29 @@ module _ {M S T : Type 0} {g : _} where
 
   -- one leg more
   pub gains_leg : (config : Config) (number moment : ℕ) (legs more : List Holder) (leg : Holder) (old mid new : Hand M S Made T g) → more ≡ legs ++ leg ∷ []
-      → GainsNested number moment (map (opening config) legs) old mid → GainsNested number moment (opening config leg ∷ []) mid new
-      → GainsNested number moment (map (opening config) more) old new
+      → GainsNested number moment (map (open_owed config) legs) old mid → GainsNested number moment (open_owed config leg ∷ []) mid new
+      → GainsNested number moment (map (open_owed config) more) old new
   gains_leg config number moment legs more leg old mid new is a b =
-      subst (λ (events : List Owed). GainsNested number moment events old new) (sym (ap (λ (xs : List Holder). map (opening config) xs) is ∙ map_push (opening config) legs leg))
-      (gains_more number moment (map (opening config) legs) (opening config leg ∷ []) old mid new a b)
+      subst (λ (events : List Owed). GainsNested number moment events old new) (sym (ap (λ (xs : List Holder). map (open_owed config) xs) is ∙ map_push (open_owed config) legs leg))
+      (gains_more number moment (map (open_owed config) legs) (open_owed config leg ∷ []) old mid new a b)
 
   -- the boxes of the other leases stay shut
-  pub shut_still : (config : Config) (number moment : ℕ) (leg : Holder) (rest : List ℕ) (old new : Hand M S Made T g) → GainsNested number moment (opening config leg ∷ []) old new
+  pub shut_still : (config : Config) (number moment : ℕ) (leg : Holder) (rest : List ℕ) (old new : Hand M S Made T g) → GainsNested number moment (open_owed config leg ∷ []) old new
       → AreShut config (made_by old) (leg.pair ∷ rest) → has rest leg.pair ≡ false → AreShut config (made_by new) rest
   shut_still config number moment leg rest old new gains shut apart pair i =
       still_shut (made_by old) (made_by new) (box_of config pair)
-      (gained_elsewhere number moment (opening config leg ∷ []) (box_of config pair) old new gains (λ owed j p. other owed j p)) (shut pair (there i))
+      (gained_elsewhere number moment (open_owed config leg ∷ []) (box_of config pair) old new gains (λ owed j p. other owed j p)) (shut pair (there i))
     where
-      other : (owed : Owed) → In owed (opening config leg ∷ []) → owed.place ≡ box_of config pair → ⊥
+      other : (owed : Owed) → In owed (open_owed config leg ∷ []) → owed.place ≡ box_of config pair → ⊥
       other owed (here q) p =
           let same : leg.pair ≡ pair = same_box config leg.pair pair (sym (ap (λ (o : Owed). o.place) q) ∙ p) in
           let wrong : true ≡ false = sym (it_has leg.pair rest (subst (λ (n : ℕ). In n rest) (sym same) i)) ∙ apart in cc
       other owed (there j) p = elim j [ ]
 
-module _ {M I O T : Type 0} {g : _} (it : I → EndTold InCall) (ic : I → ℕ) (ot : O → EndTold OutCall) (oc : O → ℕ) where
+module _ {M I O T : Type 0} {g : _} (it : I → EndLog InCall) (ic : I → ℕ) (ot : O → EndLog OutCall) (oc : O → ℕ) where
   -- what was opened from a later state on was opened from an earlier one on
   pub opened_since : (config : Config) (number moment : ℕ) (old mid : Hand M (Part I O) Made T g) (leg : Holder) (ends : PairEnds I O) → IsSameHand old mid
-      → IsOpened it ic ot oc config number moment mid leg ends → IsOpened it ic ot oc config number moment old leg ends
+      → IsBoxOpened it ic ot oc config number moment mid leg ends → IsBoxOpened it ic ot oc config number moment old leg ends
   opened_since config number moment old mid leg ends same opened = record { hand = opened.hand; same = same_again old mid opened.hand same opened.same; opens = opened.opens }
 
 -- The leases and the ends that are left.
@@ -223,8 +223,8 @@ module _ {M I O T : Type 0} {g : _} (it : I → EndTold InCall) (ic : I → ℕ)
 pub popped : {A : Type 0} (old rest : List A) (o : Option A) (x : A) → old ≡ option_to_list o ++ rest → o ≡ Some x → old ≡ x ∷ rest
 popped old rest o x q is = q ∙ ap (λ (p : Option _). option_to_list p ++ rest) is
 
-pub pairs_left : (left rest : List Lease) (lease : Lease) (pair : ℕ) → left ≡ lease ∷ rest → pair ≡ lease.pair → pairs_of left ≡ pair ∷ pairs_of rest
-pairs_left left rest lease pair is same = ap (λ (xs : List Lease). pairs_of xs) is ∙ ap (λ (n : ℕ). n ∷ pairs_of rest) (sym same)
+pub pairs_left : (left rest : List Lease) (lease : Lease) (pair : ℕ) → left ≡ lease ∷ rest → pair ≡ lease.pair → pairs_of_leases left ≡ pair ∷ pairs_of_leases rest
+pairs_left left rest lease pair is same = ap (λ (xs : List Lease). pairs_of_leases xs) is ∙ ap (λ (n : ℕ). n ∷ pairs_of_leases rest) (sym same)
 
 -- the holder, by what was read of the lease
 abbrev pub holder_read : (call cell : ℕ) → ℕ × Side → (pair generation : ℕ) → Holder

@@ -5,9 +5,9 @@ use Rattle.std.specs.Prelude.{replicate}
 use Rattle.std.specs.List.{filter_map, cons_option}
 use Rattle.std.proofs.lemmas.List.{length-replicate}
 use Rattle.sdp_text.specs.Lines.{lines_of}
-use Rattle.sdp_text.specs.Reading.{fault_in}
+use Rattle.sdp_text.specs.Descriptions.{fault_in}
 use Rattle.offer_answer.specs.Rounds.{OfferAsk}
-use Rattle.offer_answer.specs.Offering.{pair_count, key_count}
+use Rattle.offer_answer.specs.Offers.{pairs_demanded, key_count}
 use Rattle.call_board.specs.Acts.{BoardEvent, BoardEntry}
 use Rattle.call_board.specs.Calls.{begun}
 use Rattle.call_board.specs.Pairs.{free}
@@ -16,15 +16,15 @@ use Rattle.call_board.specs.declared.board.Board.{Board}
 use Rattle.call_board.specs.declared.board_plan.BoardPlan.{BoardPlan}
 use Rattle.call_board.specs.declared.board_plan.NewCall.{NewCall}
 use Rattle.call_board.specs.Views.{View, CallView, view_of, call_view, call_numbered}
-use Rattle.call_board.specs.Boards.{Shows, KeepsCalls}
-use Rattle.call_board.specs.Planned.{HasRoom, CallRoom, BeginsFor, OfferPlanFor, leased}
-use Rattle.call_board.specs.Applied.{MayApply}
+use Rattle.call_board.specs.Boards.{BoardMatches, KeepsCalls}
+use Rattle.call_board.specs.Plans.{HasRoomForPlan, CallRoom, BeginsFor, OfferPlanFor, leased}
+use Rattle.call_board.specs.NextBoards.{MayApply}
 use Rattle.call_board.proofs.Bounds.{offer_sound, may_begin}
 use Rattle.call_board.proofs.Dues.{goes_on_with}
 use Rattle.call_board.proofs.Found.{found_by_number, found_is_live}
 use Rattle.call_board.proofs.Tells.{offer_told}
 use Rattle.relay_core.specs.Entries.{Entry, is_at, history, board_entry, board_history}
-use Rattle.relay_core.specs.Turning.{Numbered}
+use Rattle.relay_core.specs.Turns.{Numbered}
 use Rattle.relay_core.proofs.Asks.{control_offers}
 use Rattle.relay_core.proofs.Histories.{Step, nothing, single, step}
 use Rattle.offer_command.specs.Offers.{IsDue, CanOffer, target_of, offer_of}
@@ -34,9 +34,9 @@ pub sound_of : (config : Config) (h : List BoardEntry) (id : List ℕ) (ask : Of
     fault_in (lines_of ask.sdp) ≡ None
 sound_of config h id ask p draws d =
     let o = offer_of config h id ask draws in
-    let told = offer_told config h d.entry o d.fits d.acts in
-    let control = told.turn.control in
-    let s = control_offers config h d.entry.moment control o (subst (λ (x : BoardEvent). FitsAt config h d.entry.moment x) told.turn.is_turn d.fits) told.turn.acts in
+    let shown = offer_told config h d.entry o d.fits d.acts in
+    let control = shown.turn.control in
+    let s = control_offers config h d.entry.moment control o (subst (λ (x : BoardEvent). FitsAt config h d.entry.moment x) shown.turn.is_turn d.fits) shown.turn.acts in
     subst (λ (a : OfferAsk). fault_in (lines_of a.sdp) ≡ None) (sym s.ask_is) (offer_sound config control.too_long control.pairs s.id s.from_tag s.sdp s.options s.asks)
 
 -- it is due for some keys
@@ -51,14 +51,14 @@ taken_length (suc k) [] low = absurd (omega (arith, low))
 taken_length (suc k) (x ∷ xs) low = let rest = taken_length k xs (omega (arith, low)) in omega (arith, rest)
 
 -- there are as many free pairs as it demands
-pub enough_free : (config : Config) (h : List BoardEntry) (board : Board) (p : BoardPlan) (v : View) → Shows config board v → v.free ≡ free config h → HasRoom board p →
-    length (take (pair_count p.plan) (free config h)) ≡ pair_count p.plan
+pub enough_free : (config : Config) (h : List BoardEntry) (board : Board) (p : BoardPlan) (v : View) → BoardMatches config board v → v.free ≡ free config h → HasRoomForPlan board p →
+    length (take (pairs_demanded p.plan) (free config h)) ≡ pairs_demanded p.plan
 enough_free config h board p v shows same room =
     let pairs = room.pairs in
     let count : length board.pool.free ≡ length (free config h) = ap length (shows.pool_for.free_is ∙ same) in
-    taken_length (pair_count p.plan) (free config h) (omega (arith, pairs, count))
+    taken_length (pairs_demanded p.plan) (free config h) (omega (arith, pairs, count))
 
-apply_case : (config : Config) (h : List BoardEntry) (id : List ℕ) (ask : OfferAsk) (p : BoardPlan) (old board : Board) (v : View) → IsFitting config h → Shows config board v →
+apply_case : (config : Config) (h : List BoardEntry) (id : List ℕ) (ask : OfferAsk) (p : BoardPlan) (old board : Board) (v : View) → IsFitting config h → BoardMatches config board v →
     v.calls ≡ (view_of config h).calls → v.begun ≡ length (begun h) → length h < 2 ^ 56 → KeepsCalls old board → p.call ≡ (target_of config h id).of.number →
     (new : Option NewCall) → BeginsFor config (target_of config h id) ask.from_tag new → CallRoom old new → MayApply board p new
 apply_case config h id ask p old board v good shows calls_are begun_is short keeps call_is None goes room =
@@ -73,7 +73,7 @@ apply_case config h id ask p old board v good shows calls_are begun_is short kee
     (subst (λ calls. 0 < calls.spare) (sym keeps.calls_are) room, may_begin config h board v shows begun_is short)
 
 -- the board may take its plan in, when its pairs were leased and its keys drawn
-pub may_apply : (config : Config) (h : List BoardEntry) (id : List ℕ) (ask : OfferAsk) (p : BoardPlan) (old board : Board) (v : View) → IsFitting config h → Shows config board v →
+pub may_apply : (config : Config) (h : List BoardEntry) (id : List ℕ) (ask : OfferAsk) (p : BoardPlan) (old board : Board) (v : View) → IsFitting config h → BoardMatches config board v →
     v.calls ≡ (view_of config h).calls → v.begun ≡ length (begun h) → length h < 2 ^ 56 → KeepsCalls old board → OfferPlanFor config (target_of config h id) ask p → CallRoom old p.begun →
     MayApply board p p.begun
 may_apply config h id ask p old board v good shows calls_are begun_is short keeps planned room =

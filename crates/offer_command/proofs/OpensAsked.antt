@@ -3,28 +3,28 @@ use Rattle.std.proofs.Common.{◌≡◌, ◌∙◌, sym, ap, refl, ℕ, ◌+◌,
 use Rattle.std.proofs.lemmas.List.{length-append, length-replicate}
 use Rattle.relay_outside.specs.declared.ports.PortCall.{PortCall}
 use Rattle.relay_outside.specs.declared.settings.Config.{Config}
-use Rattle.relay_outside.specs.Told.{Gained}
+use Rattle.relay_outside.specs.DeviceLogs.{Gained}
 use Rattle.relay_outside.proofs.Telling.{gained_less}
 use Rattle.port_pool.specs.declared.pairs.Lease.{Lease}
-use Rattle.media_ports.specs.Addresses.{addresses_of, pairs_of, HavePorts}
-use Rattle.media_ports.specs.Asked.{OpensNone, OpensAt}
+use Rattle.media_ports.specs.Addresses.{addresses_of, pairs_of_leases, HavePorts}
+use Rattle.media_ports.specs.Openings.{NoneOpened, OpensAt}
 use Rattle.media_ports.specs.Calls.{openings, OpensPairs}
 use Rattle.media_ports.proofs.Asked.{opens_front, uncalled_opens_none}
 use Rattle.media_ports.proofs.Leased.{length-addresses_of}
 use Rattle.offer_command.specs.declared.lease.LeaseFault.{LeaseFault}
 use Rattle.offer_command.specs.declared.lease.LeaseFault.TheVariants.{Port, Key}
-use Rattle.offer_command.specs.Undoing.{ComesEarly, UndoesPorts, opens_before}
+use Rattle.offer_command.specs.Undo.{ComesEarly, UndoesPorts, opens_before}
 
 -- the leases of that many pairs in front of these
 pub record AreFronts (config : Config) (free : List ℕ) (pairs : ℕ) (leases : List Lease) : Type 0 where
   pub have : HavePorts config leases
-  pub fronts : pairs_of leases ≡ take pairs free
+  pub fronts : pairs_of_leases leases ≡ take pairs free
   pub many : length leases ≡ pairs
 
 module _ (config : Config) (free : List ℕ) (pairs : ℕ) (leases : List Lease) (are : AreFronts config free pairs leases) where
   -- openings of their ports, as many as there are results, and then calls that open none
   fronts_opened : (answers : List Bool) (closes calls : List PortCall) → length answers ≤ 2 * pairs → calls ≡ openings (addresses_of config.interface leases) answers ++ closes →
-      OpensNone closes → OpensAt config free answers calls
+      NoneOpened closes → OpensAt config free answers calls
   fronts_opened answers closes calls few opens none =
       opens_front config free pairs leases answers closes calls are.have are.fronts (let many = are.many in omega (arith, few, many)) opens none
 

@@ -10,42 +10,42 @@ use Rattle.port_pool.specs.Signals.{NewKey}
 use Rattle.offer_answer.specs.Rounds.{OfferAsk}
 use Rattle.call_cell.specs.declared.prepare.Prepare as prepared
 use Rattle.call_cell.specs.Cells.{since_end, Prepare}
-use Rattle.call_cell.specs.Preparing.{PrepareFor, CanCome, added, parts_added}
+use Rattle.call_cell.specs.Preparations.{PrepareFor, CanCome, added, parts_added}
 use Rattle.call_board.specs.Acts.{Offer, BoardEntry}
 use Rattle.call_board.specs.declared.board_plan.BoardPlan.{BoardPlan}
 use Rattle.media_ports.specs.Addresses.{AreLeased}
 use Rattle.media_ports.specs.declared.ends.PairEnds.{PairEnds}
 use Rattle.relay_core.specs.Entries.{board_history, cell_history, box_of}
 use Rattle.relay_core.specs.Legal.{Orderly}
-use Rattle.relay_core.specs.Made.{Made}
-use Rattle.relay_core.specs.Scripts.{Owed, opening, in_cell}
-use Rattle.relay_core.specs.Turning.{GainsNested, IsAbove, made_by}
+use Rattle.relay_core.specs.Records.{Made}
+use Rattle.relay_core.specs.Scripts.{Owed, open_owed, in_cell}
+use Rattle.relay_core.specs.Turns.{GainsNested, IsAbove, made_by}
 use Rattle.relay_core.proofs.Coming.{offer_can_come}
 use Rattle.relay_core.proofs.KeysOnce.{keys_once}
 use Rattle.board_turns.specs.InCells.{CanPrepare, HasNewKeys, in_cell_of, preparing}
 use Rattle.board_turns.proofs.After.{IsElsewhere, gained_elsewhere, still_new, still_comes}
 use Rattle.board_turns.proofs.Nesting.{gains_more}
-use Rattle.offer_command.specs.Opening.{leased_parts}
+use Rattle.offer_command.specs.LegBoxes.{leased_parts}
 use Rattle.offer_command.specs.Offers.{IsDue, offer_of, bringing_of}
 use Rattle.offer_command.proofs.Leased.{ports_of_legs}
 
 -- the boxes of legs come after the cells
-pub not_cell : (config : Config) (cell : ℕ) (legs : List Holder) → cell ≤ config.max_sessions → (w : Owed) → In w (map (opening config) legs) → w.place ≡ cell → ⊥
+pub not_cell : (config : Config) (cell : ℕ) (legs : List Holder) → cell ≤ config.max_sessions → (w : Owed) → In w (map (open_owed config) legs) → w.place ≡ cell → ⊥
 not_cell config cell legs high w i at =
-    let m = mapped (opening config) legs i in
+    let m = mapped (open_owed config) legs i in
     let place : box_of config m.from.pair ≡ cell = ap (λ (v : Owed). v.place) m.makes ∙ at in
     omega (arith, place, high)
 
 module _ {M S T : Type 0} {g : _} where
   -- the list gained at other places than the cell
   pub cell_elsewhere : (config : Config) (number moment cell : ℕ) (legs : List Holder) (old new : Hand M S Made T g) → cell ≤ config.max_sessions →
-      GainsNested number moment (map (opening config) legs) old new → IsElsewhere (made_by old) cell (made_by new)
+      GainsNested number moment (map (open_owed config) legs) old new → IsElsewhere (made_by old) cell (made_by new)
   cell_elsewhere config number moment cell legs old new high gains =
-      gained_elsewhere number moment (map (opening config) legs) cell old new gains (not_cell config cell legs high)
+      gained_elsewhere number moment (map (open_owed config) legs) cell old new gains (not_cell config cell legs high)
 
   -- its keys are new still
   pub keys_new : (config : Config) (number moment cell : ℕ) (legs : List Holder) (old new : Hand M S Made T g) → Orderly config (made_by old) → cell ≤ config.max_sessions →
-      GainsNested number moment (map (opening config) legs) old new → HasNewKeys (made_by new) cell
+      GainsNested number moment (map (open_owed config) legs) old new → HasNewKeys (made_by new) cell
   keys_new config number moment cell legs old new orderly high gains =
       still_new (made_by old) (made_by new) cell (cell_elsewhere config number moment cell legs old new high gains)
       (λ n above. keys_once config (made_by old) orderly cell n)
@@ -60,7 +60,7 @@ module _ {M S T : Type 0} {g : _} where
       keys ≡ (offer_of config (board_history (made_by old) number) id ask draws).keys →
       dropped ≡ (offer_of config (board_history (made_by old) number) id ask draws).dropped →
       AreLeased config leases → parts_added signal ≡ leased_parts leases opened → PrepareFor signal keys dropped →
-      GainsNested number moment (map (opening config) legs) old new → CanPrepare config (made_by new) cell signal call keys dropped
+      GainsNested number moment (map (open_owed config) legs) old new → CanPrepare config (made_by new) cell signal call keys dropped
   can_prepare {I} {O} config number moment old new id ask p draws signal leases opened legs call cell keys dropped orderly above_board most d high cell_is call_is legs_are keys_are dropped_are leased parts stands gains =
       still_comes config (made_by old) (made_by new) cell signal call keys dropped (cell_elsewhere config number moment cell legs old new high gains) comes
     where
@@ -82,11 +82,11 @@ module _ {M S T : Type 0} {g : _} where
   -- what was opened and prepared is what the offer brings
   pub brought : (config : Config) (number moment : ℕ) (old mid new : Hand M S Made T g) (o : Offer) (legs : List Holder) (call cell : ℕ) (holders : List Holder) (keys : List NewKey) (dropped : List ℕ) →
       legs ≡ o.legs → cell ≡ o.of.cell → call ≡ o.of.number → holders ≡ o.legs → keys ≡ o.keys → dropped ≡ o.dropped →
-      GainsNested number moment (map (opening config) legs) old mid → GainsNested number moment (in_cell_of cell (preparing call holders keys dropped) ∷ []) mid new →
+      GainsNested number moment (map (open_owed config) legs) old mid → GainsNested number moment (in_cell_of cell (preparing call holders keys dropped) ∷ []) mid new →
       GainsNested number moment (bringing_of config o) old new
   brought config number moment old mid new o legs call cell holders keys dropped legs_are cell_is call_is holders_are keys_are dropped_are first second =
-      gains_more number moment (map (opening config) o.legs) (in_cell o.of (Prepare o.of.number o.legs o.keys o.dropped) ∷ []) old mid new
-      (subst (λ (ls : List Holder). GainsNested number moment (map (opening config) ls) old mid) legs_are first)
+      gains_more number moment (map (open_owed config) o.legs) (in_cell o.of (Prepare o.of.number o.legs o.keys o.dropped) ∷ []) old mid new
+      (subst (λ (ls : List Holder). GainsNested number moment (map (open_owed config) ls) old mid) legs_are first)
       (subst (λ (w : Owed). GainsNested number moment (w ∷ []) mid new) same second)
     where
       same : in_cell_of cell (preparing call holders keys dropped) ≡ in_cell o.of (Prepare o.of.number o.legs o.keys o.dropped)

@@ -10,27 +10,27 @@ use Rattle.offer_answer.specs.Demands as demands
 use Rattle.offer_answer.specs.Laws.{new_leg_place}
 use Rattle.offer_answer.specs.Plan.{demand}
 use Rattle.offer_answer.specs.Plans.{OfferFilled}
-use Rattle.offer_answer.specs.Filled.{AreLeased}
+use Rattle.offer_answer.specs.PortsAndKeys.{AreDemandedLegs}
 use Rattle.offer_answer.specs.Nexts.{numbered_keys}
 use Rattle.call_board.specs.Acts.{Call, BoardEntry}
-use Rattle.call_board.specs.Pairs.{free, new_keys, new_legs}
+use Rattle.call_board.specs.Pairs.{free, drawn_keys_from, leased_new_legs}
 use Rattle.call_board.specs.Fits.{IsFitting}
 use Rattle.call_board.specs.Views.{View, CallView, call_view, view_of, call_numbered}
-use Rattle.call_board.specs.Boards.{lease_at, leases_of}
-use Rattle.call_board.specs.Planned.{BeginsFor, refusal}
-use Rattle.call_board.specs.Applied.{IsNext, IsPlanOf, TakesIn, taken_in}
+use Rattle.call_board.specs.Boards.{lease_at, front_leases}
+use Rattle.call_board.specs.Plans.{BeginsFor, refusal}
+use Rattle.call_board.specs.NextBoards.{IsNext, IsPlanOf, TakesRoundIn, taken_in}
 use Rattle.call_board.specs.declared.board_plan.BoardPlan.{BoardPlan}
 use Rattle.call_board.specs.declared.board_plan.NewCall.{NewCall}
 use Rattle.call_board.proofs.Dues.{goes_on_with, begins_new, next_is, taken_is}
 use Rattle.call_board.proofs.Found.{found_by_number, live_is_begun}
 use Rattle.relay_core.proofs.CallRounds.{offer_round}
-use Rattle.offer_command.specs.Offers.{IsDue, next_key, target_of, demand_of, pairs_for, offer_of, ports_of_legs, with_offer}
+use Rattle.offer_command.specs.Offers.{IsDue, next_key_number, target_of, demand_of, pairs_for, offer_of, ports_of_legs, with_offer}
 use Rattle.offer_command.specs.Brings.{rtp_ports}
 use Rattle.offer_command.proofs.Targets.{rounds_are, keys_numbered}
 
 -- The ports of the legs are those of the leases.
 
-legs_pairs : (h : List BoardEntry) (c : Call) (ps : List ℕ) (legs : List NewLeg) → length ps ≤ length legs → map (λ (leg : Holder). leg.pair) (new_legs h c ps legs) ≡ ps
+legs_pairs : (h : List BoardEntry) (c : Call) (ps : List ℕ) (legs : List NewLeg) → length ps ≤ length legs → map (λ (leg : Holder). leg.pair) (leased_new_legs h c ps legs) ≡ ps
 legs_pairs h c [] legs less = refl
 legs_pairs h c (p ∷ ps) [] less = absurd (omega (arith, less))
 legs_pairs h c (p ∷ ps) (leg ∷ legs) less = ap (λ (qs : List ℕ). p ∷ qs) (legs_pairs h c ps legs (omega (arith, less)))
@@ -56,7 +56,7 @@ ports_at config [] = refl
 ports_at config (leg ∷ legs) = ap (λ (qs : List ℕ). pair_port config leg.pair ∷ qs) (ports_at config legs)
 
 pub ports_are : (config : Config) (h : List BoardEntry) (id : List ℕ) (ask : OfferAsk) (draws : List (List ℕ)) (count : ℕ) (leases : List pairs.Lease) →
-    leases ≡ leases_of config (view_of config h) count → count ≡ length (demand_of config h id ask).pairs → rtp_ports leases ≡ ports_of_legs config (offer_of config h id ask draws)
+    leases ≡ front_leases config (view_of config h) count → count ≡ length (demand_of config h id ask).pairs → rtp_ports leases ≡ ports_of_legs config (offer_of config h id ask draws)
 ports_are config h id ask draws count leases is same =
     ap rtp_ports is
     ∙ ports_by config (view_of config h).leases (take count (free config h))
@@ -71,7 +71,7 @@ unfolding demand
 demanded_legs rs ask = refl
 
 module _ (config : Config) (h : List BoardEntry) (id : List ℕ) (ask : OfferAsk) (draws : List (List ℕ)) (good : IsFitting config h) (p : BoardPlan) (d : IsDue config h id ask p draws) where
-  leased : AreLeased config (target_of config h id).rounds ask (ports_of_legs config (offer_of config h id ask draws)) (offer_of config h id ask draws).legs
+  leased : AreDemandedLegs config (target_of config h id).rounds ask (ports_of_legs config (offer_of config h id ask draws)) (offer_of config h id ask draws).legs
   leased = record {
     places_are = (offer_round config h d.entry (offer_of config h id ask draws) good d.fits d.acts).comes.leased
         ∙ ap (λ (rs : List Round). map new_leg_place (demand rs ask).pairs) (sym (rounds_are config h id good))
@@ -79,10 +79,10 @@ module _ (config : Config) (h : List BoardEntry) (id : List ℕ) (ask : OfferAsk
     ports_are = refl;
   }
 
-  pub keys_filled : (first : ℕ) → first ≡ next_key h →
+  pub keys_filled : (first : ℕ) → first ≡ next_key_number h →
       numbered_keys first draws (demand_of config h id ask).keys ≡ (offer_of config h id ask draws).keys
   keys_filled first is =
-      keys_numbered first draws (demand_of config h id ask).keys ∙ ap (λ (n : ℕ). new_keys n draws (demand_of config h id ask).keys) is
+      keys_numbered first draws (demand_of config h id ask).keys ∙ ap (λ (n : ℕ). drawn_keys_from n draws (demand_of config h id ask).keys) is
 
   is_plan : (filled : BoardPlan) → OfferFilled config (target_of config h id).rounds ask (ports_of_legs config (offer_of config h id ask draws)) (offer_of config h id ask draws).keys filled.plan.next →
       IsPlanOf config (target_of config h id).rounds (round.Offered ask (offer_of config h id ask draws).legs (offer_of config h id ask draws).keys) filled.plan
@@ -102,7 +102,7 @@ module _ (config : Config) (h : List BoardEntry) (id : List ℕ) (ask : OfferAsk
       filled.cell ≡ (target_of config h id).of.cell →
       OfferFilled config (target_of config h id).rounds ask (ports_of_legs config (offer_of config h id ask draws)) (offer_of config h id ask draws).keys filled.plan.next →
       (new : Option NewCall) → BeginsFor config (target_of config h id) ask.from_tag new →
-      TakesIn config v (target_of config h id).of (round.Offered ask (offer_of config h id ask draws).legs (offer_of config h id ask draws).keys) filled new
+      TakesRoundIn config v (target_of config h id).of (round.Offered ask (offer_of config h id ask draws).legs (offer_of config h id ask draws).keys) filled new
   takes_case v filled calls_are begun_is call_is cell_is is None old =
       let g = goes_on_with config h id old in
       let t = target_of config h id in
@@ -130,7 +130,7 @@ module _ (config : Config) (h : List BoardEntry) (id : List ℕ) (ask : OfferAsk
   pub takes_in : (v : View) (filled : BoardPlan) → v.calls ≡ (view_of config h).calls → v.begun ≡ (view_of config h).begun →
       filled ≡ record p { plan = filled.plan } →
       OfferFilled config (target_of config h id).rounds ask (ports_of_legs config (offer_of config h id ask draws)) (offer_of config h id ask draws).keys filled.plan.next →
-      TakesIn config v (target_of config h id).of (round.Offered ask (offer_of config h id ask draws).legs (offer_of config h id ask draws).keys) filled filled.begun
+      TakesRoundIn config v (target_of config h id).of (round.Offered ask (offer_of config h id ask draws).legs (offer_of config h id ask draws).keys) filled filled.begun
   takes_in v filled calls_are begun_is rest is =
       takes_case v filled calls_are begun_is (ap (λ (x : BoardPlan). x.call) rest ∙ d.plans.1.call_is) (ap (λ (x : BoardPlan). x.cell) rest ∙ d.plans.1.cell_is) is filled.begun
       (subst (λ (new : Option NewCall). BeginsFor config (target_of config h id) ask.from_tag new) (sym (ap (λ (x : BoardPlan). x.begun) rest)) d.plans.1.begins)

@@ -7,15 +7,15 @@ use Rattle.port_pool.specs.declared.holder.Holder.{Holder}
 use Rattle.port_pool.specs.Signals.{NewKey}
 use Rattle.offer_answer.specs.Rounds.{OfferAsk, KeyPlace}
 use Rattle.offer_answer.specs.Nexts.{numbered_keys}
-use Rattle.offer_answer.specs.Offering.{pair_count, key_count, leg_asked, key_asked}
+use Rattle.offer_answer.specs.Offers.{pairs_demanded, key_count, leg_asked, key_asked}
 use Rattle.call_board.specs.Acts.{Call, BoardEntry}
 use Rattle.call_board.specs.Calls.{begun, rounds}
-use Rattle.call_board.specs.Pairs.{drawn, new_keys}
+use Rattle.call_board.specs.Pairs.{drawn, drawn_keys_from}
 use Rattle.call_board.specs.Fits.{IsFitting}
 use Rattle.call_board.specs.Views.{view_of}
-use Rattle.call_board.specs.Boards.{leases_of}
-use Rattle.call_board.specs.Planned.{OfferPlanFor}
-use Rattle.call_board.specs.Whole.{legs_of}
+use Rattle.call_board.specs.Boards.{front_leases}
+use Rattle.call_board.specs.Plans.{OfferPlanFor}
+use Rattle.call_board.specs.Whole.{holders_of_new_legs}
 use Rattle.call_board.specs.declared.board_plan.BoardPlan.{BoardPlan}
 use Rattle.call_board.proofs.Calls.{offered_live}
 use Rattle.call_board.proofs.Cells.{live_cell}
@@ -44,7 +44,7 @@ cell_within config h id ask p draws good d =
 
 -- it demands as many pairs and keys as its plan
 pub pairs_count : (config : Config) (h : List BoardEntry) (id : List ℕ) (ask : OfferAsk) (p : BoardPlan) → OfferPlanFor config (target_of config h id) ask p →
-    pair_count p.plan ≡ length (demand_of config h id ask).pairs
+    pairs_demanded p.plan ≡ length (demand_of config h id ask).pairs
 pairs_count config h id ask p planned = sym (length-map p.plan.legs.items leg_asked) ∙ ap length planned.plan_for.demands.pairs_are
 
 pub keys_count : (config : Config) (h : List BoardEntry) (id : List ℕ) (ask : OfferAsk) (p : BoardPlan) → OfferPlanFor config (target_of config h id) ask p →
@@ -53,22 +53,22 @@ keys_count config h id ask p planned = sym (length-map p.plan.key_places.items k
 
 -- its legs are those that the leases give
 pub legs_are : (config : Config) (h : List BoardEntry) (id : List ℕ) (ask : OfferAsk) (p : BoardPlan) (draws : List (List ℕ)) (leases : List pairs.Lease) (legs : List Holder) →
-    OfferPlanFor config (target_of config h id) ask p → leases ≡ leases_of config (view_of config h) (pair_count p.plan) → LegsFor p.plan p.call p.cell leases legs →
+    OfferPlanFor config (target_of config h id) ask p → leases ≡ front_leases config (view_of config h) (pairs_demanded p.plan) → LegsFor p.plan p.call p.cell leases legs →
     legs ≡ (offer_of config h id ask draws).legs
 legs_are config h id ask p draws leases legs planned is made =
     let of = (target_of config h id).of in
     let asked = demand_of config h id ask in
     made asked of planned.plan_for.demands (sym planned.call_is) (sym planned.cell_is)
-    ∙ ap (λ (ls : List pairs.Lease). legs_of of ls asked.pairs) (is ∙ ap (leases_of config (view_of config h)) (pairs_count config h id ask p planned))
+    ∙ ap (λ (ls : List pairs.Lease). holders_of_new_legs of ls asked.pairs) (is ∙ ap (front_leases config (view_of config h)) (pairs_count config h id ask p planned))
     ∙ sym (legs_leased_are config h of (length asked.pairs) asked.pairs)
 
 -- its keys are those that were drawn
 pub keys_are : (config : Config) (h : List BoardEntry) (id : List ℕ) (ask : OfferAsk) (p : BoardPlan) (draws : List (List ℕ)) (first : ℕ) (keys : List NewKey) →
-    first ≡ length (drawn h) → keys ≡ new_keys first draws (demand_of config h id ask).keys → keys ≡ (offer_of config h id ask draws).keys
-keys_are config h id ask p draws first keys is made = made ∙ ap (λ (n : ℕ). new_keys n draws (demand_of config h id ask).keys) is
+    first ≡ length (drawn h) → keys ≡ drawn_keys_from first draws (demand_of config h id ask).keys → keys ≡ (offer_of config h id ask draws).keys
+keys_are config h id ask p draws first keys is made = made ∙ ap (λ (n : ℕ). drawn_keys_from n draws (demand_of config h id ask).keys) is
 
 -- the keys that a plan is filled with
-pub keys_numbered : (first : ℕ) (draws : List (List ℕ)) (places : List KeyPlace) → numbered_keys first draws places ≡ new_keys first draws places
+pub keys_numbered : (first : ℕ) (draws : List (List ℕ)) (places : List KeyPlace) → numbered_keys first draws places ≡ drawn_keys_from first draws places
 keys_numbered first [] places = refl
 keys_numbered first (bytes ∷ draws) [] = refl
 keys_numbered first (bytes ∷ draws) (place ∷ places) =

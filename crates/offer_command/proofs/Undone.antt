@@ -11,23 +11,23 @@ use Rattle.offer_answer.specs.Rounds.{OfferAsk}
 use Rattle.call_board.specs.Acts as act
 use Rattle.call_board.specs.Acts.{Act, Call, Lease, BoardEvent, Turn, Tick, Stop, BoardEntry}
 use Rattle.call_board.specs.Calls.{ended_by_act}
-use Rattle.call_board.specs.Pairs.{held, free, lease_of, closes_leg_act, legs_of_act}
+use Rattle.call_board.specs.Pairs.{held, free, next_lease, closes_leg_act, legs_of_act}
 use Rattle.call_board.specs.declared.board.Board.{Board}
-use Rattle.call_board.specs.Views.{View, view_of, at_moment, with_leases, with_returned}
-use Rattle.call_board.specs.Boards.{Shows}
+use Rattle.call_board.specs.Views.{View, view_of, view_at_moment, with_leases, with_returned}
+use Rattle.call_board.specs.Boards.{BoardMatches}
 use Rattle.call_board.specs.Whole.{with_draws}
 use Rattle.call_board.proofs.FreeAfter.{pairs_leased}
 use Rattle.relay_core.specs.Entries.{board_history}
-use Rattle.relay_core.specs.Made.{Made}
+use Rattle.relay_core.specs.Records.{Made}
 use Rattle.relay_core.specs.Scripts.{Owed, script, script_of_act}
-use Rattle.relay_core.specs.Turning.{GainsNested, made_by}
+use Rattle.relay_core.specs.Turns.{GainsNested, made_by}
 use Rattle.relay_core.specs.declared.part.Part.{Part}
-use Rattle.media_ports.specs.Held.{TellsHeld}
+use Rattle.media_ports.specs.OpenPorts.{LogsHeld}
 use Rattle.board_turns.specs.declared.board_turn.BoardEntryId.{BoardEntryId}
 use Rattle.board_turns.proofs.Nesting.{gains_nothing}
-use Rattle.board_turns.specs.Acting.{DoesAct, acted}
-use Rattle.board_turns.specs.Ending.{leg_pairs}
-use Rattle.offer_command.specs.Undoing.{with_undone}
+use Rattle.board_turns.specs.Acts.{DoesAct, acted}
+use Rattle.board_turns.specs.CallEnds.{leg_pairs}
+use Rattle.offer_command.specs.Undo.{with_undone}
 use Rattle.offer_command.specs.Offers.{pairs_for, undone_leases}
 
 abbrev entry_at : ℕ → BoardEvent → BoardEntry
@@ -52,27 +52,27 @@ script_case config h now (Tick calls) code leases draws is = absurd (let e = is 
 script_case config h now (Stop calls) code leases draws is = absurd (let e = is in cc)
 
 module _ {M I O T : Type 0} {g : _} where
-  pub does_undone : (config : Config) (hand : Hand M (Part I O) Made T g) (entry_id : BoardEntryId) (e : BoardEntry) (board : Board) (told : Option (List PortCall)) (id : List ℕ) (ask : OfferAsk) (code : ErrorCode)
+  pub does_undone : (config : Config) (hand : Hand M (Part I O) Made T g) (entry_id : BoardEntryId) (e : BoardEntry) (board : Board) (log : Option (List PortCall)) (id : List ℕ) (ask : OfferAsk) (code : ErrorCode)
       (draws : List (List ℕ)) (count : ℕ) → act.act e ≡ act.Undone code (undone_leases config (board_history (made_by hand) entry_id.number) id ask) draws →
       pairs_for config (board_history (made_by hand) entry_id.number) id ask ≡ take count (free config (board_history (made_by hand) entry_id.number)) →
       length (take count (free config (board_history (made_by hand) entry_id.number))) ≡ count →
-      Shows config board (with_undone (at_moment (view_of config (board_history (made_by hand) entry_id.number)) entry_id.moment) count (length draws)) →
-      TellsHeld config told (leg_pairs (held (board_history (made_by hand) entry_id.number))) → DoesAct config hand hand entry_id e board told
-  does_undone config hand entry_id e board told id ask code draws count acts pairs_are enough shows opens = record {
+      BoardMatches config board (with_undone (view_at_moment (view_of config (board_history (made_by hand) entry_id.number)) entry_id.moment) count (length draws)) →
+      LogsHeld config log (leg_pairs (held (board_history (made_by hand) entry_id.number))) → DoesAct config hand hand entry_id e board log
+  does_undone config hand entry_id e board log id ask code draws count acts pairs_are enough shows opens = record {
     gained = subst (λ (ws : List Owed). GainsNested entry_id.number entry_id.moment ws hand hand)
         (sym (script_case config h e.moment e.event code (undone_leases config h id ask) draws acts)) (gains_nothing entry_id.number entry_id.moment hand);
-    shows = subst (λ (w : View). Shows config board w) (sym same) shows;
-    opens = subst (λ (legs : List Holder). TellsHeld config told (leg_pairs legs)) (sym (held_case h e.moment e.event code (undone_leases config h id ask) draws acts)) opens;
+    shows = subst (λ (w : View). BoardMatches config board w) (sym same) shows;
+    opens = subst (λ (legs : List Holder). LogsHeld config log (leg_pairs legs)) (sym (held_case h e.moment e.event code (undone_leases config h id ask) draws acts)) opens;
   }
     where
       h : List BoardEntry
       h = board_history (made_by hand) entry_id.number
 
       v : View
-      v = at_moment (view_of config h) entry_id.moment
+      v = view_at_moment (view_of config h) entry_id.moment
 
       leases_count : length (undone_leases config h id ask) ≡ count
-      leases_count = length-map (pairs_for config h id ask) (lease_of h) ∙ ap length pairs_are ∙ enough
+      leases_count = length-map (pairs_for config h id ask) (next_lease h) ∙ ap length pairs_are ∙ enough
 
       leases_pairs : map (λ (lease : Lease). lease.pair) (undone_leases config h id ask) ≡ take count (free config h)
       leases_pairs = pairs_leased h (pairs_for config h id ask) ∙ pairs_are

@@ -4,14 +4,14 @@ use Rattle.relay_outside.specs.declared.settings.Config.{Config}
 use Rattle.ng_bencode.specs.Room.{Room}
 use Rattle.ng_bencode.specs.Tree.{Entries}
 use Rattle.ng_command.specs.declared.command.OfferIn.{OfferIn}
-use Rattle.ng_command.specs.Said.{Said, Offer}
+use Rattle.ng_command.specs.Meanings.{Said, Offer}
 use Rattle.ng_reply.specs.declared.code.ErrorCode.{ErrorCode}
 use Rattle.ng_reply.specs.declared.code.ErrorCode.TheVariants.{E15, E16}
 use Rattle.sdes_lines.specs.declared.crypto_line.CryptoLine.{CryptoLine}
 use Rattle.offer_answer.specs.Rounds.{OfferAsk}
 use Rattle.call_board.specs.Acts.{BoardEntry}
 use Rattle.call_board.specs.Answers.{offer_ask}
-use Rattle.call_board.specs.Asked.{sdp_error}
+use Rattle.call_board.specs.Requests.{sdp_error}
 use Rattle.call_board.specs.Replies.{Reply, reply_datagram}
 use Rattle.offer_command.specs.declared.lease.LeaseFault.{LeaseFault}
 use Rattle.offer_command.specs.declared.lease.LeaseFault.TheVariants.{Port, Key}
@@ -19,34 +19,34 @@ use Rattle.board_turns.specs.declared.command_outcome.CommandOutcome.{CommandOut
 use Rattle.board_turns.specs.declared.device_answers.DeviceAnswers.{DeviceAnswers}
 use Rattle.board_turns.specs.declared.device_answers.DeviceAnswers.TheVariants.{PortFault, KeyFault}
 use Rattle.control_messages.specs.declared.request.Request.{Request}
-use Rattle.board_turns.specs.Telling.{IsAnew, IsAsking}
+use Rattle.board_turns.specs.PlainReplies.{IsAnew, IsAsking}
 
 -- what the command says
-abbrev pub says_of : OfferIn → Said
-says_of input = Offer input.call_id.list input.from_tag.list input.sdp.list input.options
+abbrev pub offer_says : OfferIn → Said
+offer_says input = Offer input.call_id.list input.from_tag.list input.sdp.list input.options
 
 -- what the offer asks, in whose description these crypto lines were chosen
-abbrev pub ask_of : OfferIn → List (Option CryptoLine) → OfferAsk
-ask_of input chosen = offer_ask input.from_tag.list input.sdp.list input.options chosen
+abbrev pub ask_of_offer : OfferIn → List (Option CryptoLine) → OfferAsk
+ask_of_offer input chosen = offer_ask input.from_tag.list input.sdp.list input.options chosen
 
 -- no reply is kept for the datagram, by its dictionary it asks for this offer, and the description of that has no error
-pub record AsksFor (config : Config) (h : List BoardEntry) (moment : ℕ) (request : Request) (pairs : Option Entries) (input : OfferIn) : Type 0 where
+pub record AsksForOffer (config : Config) (h : List BoardEntry) (moment : ℕ) (request : Request) (pairs : Option Entries) (input : OfferIn) : Type 0 where
   pub anew : IsAnew h moment request
-  pub asking : IsAsking request pairs (says_of input)
+  pub asking : IsAsking request pairs (offer_says input)
   pub fine : sdp_error config input.sdp.list ≡ None
 
 -- How it is carried out.
 
 -- the reply that is made is these bytes
-abbrev pub IsReply : List ℕ → Option (Room ℕ) → Type 0
-IsReply bytes None = ⊥
-IsReply bytes (Some text) = text.list ≡ bytes
+abbrev pub IsReplyMade : List ℕ → Option (Room ℕ) → Type 0
+IsReplyMade bytes None = ⊥
+IsReplyMade bytes (Some text) = text.list ≡ bytes
 
 -- where these crypto lines were chosen, the devices returned this, and the reply is made
-pub record Gives (cookie body : List ℕ) (chosen : List (Option CryptoLine)) (device_answers : DeviceAnswers) (reply : Reply) (done : CommandOutcome) : Type 0 where
+pub record GivesOutcome (cookie body : List ℕ) (chosen : List (Option CryptoLine)) (device_answers : DeviceAnswers) (reply : Reply) (done : CommandOutcome) : Type 0 where
   pub chosen_are : done.chosen_lines ≡ chosen
   pub answers_are : done.device_answers ≡ device_answers
-  pub replies : (config : Config) → IsReply (reply_datagram config cookie body reply) done.reply
+  pub replies : (config : Config) → IsReplyMade (reply_datagram config cookie body reply) done.reply
 
 -- the error of an offer that is undone
 abbrev pub undone_code : LeaseFault → ErrorCode

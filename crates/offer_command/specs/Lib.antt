@@ -1,8 +1,8 @@
-pub mod Leasing
-pub mod Undoing
+pub mod Leases
+pub mod Undo
 pub mod Legs
-pub mod Opening
-pub mod Filling
+pub mod LegBoxes
+pub mod PreparedLegs
 pub mod Offers
 pub mod Brings
 pub mod Doings

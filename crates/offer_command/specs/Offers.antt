@@ -9,19 +9,19 @@ use Rattle.call_cell.specs.Cells.{Prepare}
 use Rattle.offer_answer.specs.Rounds.{Round, OfferAsk, Demand}
 use Rattle.offer_answer.specs.Rounds as round
 use Rattle.offer_answer.specs.Plan.{demand, offer_text}
-use Rattle.offer_answer.specs.Offering.{key_count}
+use Rattle.offer_answer.specs.Offers.{key_count}
 use Rattle.call_board.specs.Acts.{Lease, Offer, Offered, BoardEntry, act}
-use Rattle.call_board.specs.Pairs.{drawn, free, held, lease_of, new_keys, new_legs}
+use Rattle.call_board.specs.Pairs.{drawn, free, held, next_lease, drawn_keys_from, leased_new_legs}
 use Rattle.call_board.specs.Fits.{FitsBoard}
-use Rattle.call_board.specs.Views.{View, view_of, at_moment, with_leases}
+use Rattle.call_board.specs.Views.{View, view_of, view_at_moment, with_leases}
 use Rattle.call_board.specs.Whole.{with_draws, with_first, with_more}
-use Rattle.call_board.specs.Planned.{Target, target, PlansOffer}
+use Rattle.call_board.specs.Plans.{Target, target, PlansOffer}
 use Rattle.call_board.specs.declared.board_plan.BoardPlan.{BoardPlan}
-use Rattle.relay_core.specs.Scripts.{Owed, in_cell, opening}
+use Rattle.relay_core.specs.Scripts.{Owed, in_cell, open_owed}
 
 -- the number that the next drawn key has
-abbrev pub next_key : List BoardEntry → ℕ
-next_key h = length (drawn h)
+abbrev pub next_key_number : List BoardEntry → ℕ
+next_key_number h = length (drawn h)
 
 -- the call that an offer of this call-id is of: the live one, or else the one that it begins
 abbrev pub target_of : Config → List BoardEntry → (id : List ℕ) → Target
@@ -44,14 +44,14 @@ offer_of config h id ask draws =
       of = t.of;
       begins = t.begins;
       ask = ask;
-      legs = new_legs h t.of (pairs_for config h id ask) asked.pairs;
-      keys = new_keys (next_key h) draws asked.keys;
+      legs = leased_new_legs h t.of (pairs_for config h id ask) asked.pairs;
+      keys = drawn_keys_from (next_key_number h) draws asked.keys;
       dropped = asked.dropped;
     }
 
 -- the leases of the offer, where it is undone
 abbrev pub undone_leases : Config → List BoardEntry → (id : List ℕ) → OfferAsk → List Lease
-undone_leases config h id ask = map (lease_of h) (pairs_for config h id ask)
+undone_leases config h id ask = map (next_lease h) (pairs_for config h id ask)
 
 -- The board planned this offer so, and after that history an entry is due by which the offer is accepted, where these keys are
 -- drawn for it
@@ -73,19 +73,19 @@ dropped_legs h o = filter (λ leg. (leg.call == o.of.number) && has o.dropped le
 
 -- what an accepted offer opens and prepares, in order
 abbrev pub bringing_of : Config → Offer → List Owed
-bringing_of config o = map (opening config) o.legs ++ in_cell o.of (Prepare o.of.number o.legs o.keys o.dropped) ∷ []
+bringing_of config o = map (open_owed config) o.legs ++ in_cell o.of (Prepare o.of.number o.legs o.keys o.dropped) ∷ []
 
 -- the ports for RTP of its legs, in order
 abbrev pub ports_of_legs : Config → Offer → List ℕ
 ports_of_legs config o = map (λ leg. pair_port config leg.pair) o.legs
 
 -- the description that the other side gets by it
-abbrev pub text_of : Config → List BoardEntry → (id : List ℕ) → Offer → List ℕ
-text_of config h id o = offer_text config (target_of config h id).rounds o.ask (ports_of_legs config o) o.keys
+abbrev pub offered_text : Config → List BoardEntry → (id : List ℕ) → Offer → List ℕ
+offered_text config h id o = offer_text config (target_of config h id).rounds o.ask (ports_of_legs config o) o.keys
 
 -- what the board keeps at that moment, once that many pairs were leased and that many keys drawn
 abbrev pub leased_view : Config → List BoardEntry → (moment pairs keys : ℕ) → View
-leased_view config h moment pairs keys = with_draws (with_leases (at_moment (view_of config h) moment) pairs) keys
+leased_view config h moment pairs keys = with_draws (with_leases (view_at_moment (view_of config h) moment) pairs) keys
 
 -- the offer is taken in at that moment, as the first one of its call or as one more
 abbrev pub with_offer : Offer → ℕ → View → View

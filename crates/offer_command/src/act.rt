@@ -1,19 +1,19 @@
 //! A planned offer, from its first lease to its last close.
 ghost use Rattle.std.specs.Prelude.{◌≡◌, ◌≤◌, ◌*◌, ℕ, true, List, [], length, replicate, IfOk, IfErr};
-ghost use Rattle.relay_outside.specs.Told.{Gained};
+ghost use Rattle.relay_outside.specs.DeviceLogs.{Gained};
 ghost use Rattle.offer_answer.specs.Rounds.{OfferAsk};
-ghost use Rattle.offer_answer.specs.Offering.{pair_count, key_count};
+ghost use Rattle.offer_answer.specs.Offers.{pairs_demanded, key_count};
 ghost use Rattle.offer_answer.specs.Widths.{WritesFrom};
-ghost use Rattle.call_board.specs.Planned.{HasRoom};
+ghost use Rattle.call_board.specs.Plans.{HasRoomForPlan};
 ghost use Rattle.call_board.specs.Pairs.{free};
-ghost use Rattle.media_ports.specs.Asked.{OpensAt};
-ghost use Rattle.media_ports.specs.Draws.{DrawsAll};
+ghost use Rattle.media_ports.specs.Openings.{OpensAt};
+ghost use Rattle.media_ports.specs.Draws.{AreDrawn};
 ghost use Rattle.board_turns.specs.BoardTurns.{Begins, Works, past_of};
-ghost use Rattle.offer_command.specs.Leasing.{pairs_of_plan, keys_of_plan};
-ghost use Rattle.offer_command.specs.Undoing.{ComesEarly, DrawsBefore, HasRisen, opens_before};
+ghost use Rattle.offer_command.specs.Leases.{pairs_of_plan, keys_of_plan};
+ghost use Rattle.offer_command.specs.Undo.{ComesEarly, DrawsBefore, HasRisen, opens_before};
 ghost use Rattle.offer_command.specs.Offers.{CanOffer};
 ghost use Rattle.offer_command.specs.Brings.{HasOfferRoom};
-ghost use Rattle.offer_command.specs.Doings.{Accepts, Describes, Undoes};
+ghost use Rattle.offer_command.specs.Doings.{TurnAccepts, Describes, Undoes};
 
 use crate::cell::prepare_offer;
 use crate::description::apply_offer;
@@ -57,29 +57,29 @@ pub fn offer_act<P: PortMaker, K: KeySource, R: Wait>(
     keys: &mut K,
     offer: PlannedOffer<P::In, P::Out>,
 ) -> Result<AcceptedOffer, LeaseFault>
-    requires begins { Begins P.told turn.old }
+    requires begins { Begins P.log turn.old }
     requires due { (id : List ℕ) × (ask : OfferAsk) × CanOffer turn.old.main.config.now (past_of turn.old.main) id ask offer.sdp.now offer.plan }
-    requires planned { HasRoom turn.old.board.now offer.plan }
+    requires planned { HasRoomForPlan turn.old.board.now offer.plan }
     requires made { WritesFrom offer.plan.plan offer.sdp.now }
     requires room { HasOfferRoom offer.plan.plan offer.room }
-    ensures works { Works P.told P.faults turn.old turn.new }
+    ensures works { Works P.log P.faults turn.old turn.new }
     ensures later { K.faults keys.old ≤ K.faults keys.new }
 
     // An accepted offer does what its entry owes, and its description is the one that is due.
-    ensures does { IfOk result (λ accepted. Accepts P.told turn.old turn.new offer.entry.sdp.now offer.entry.plan accepted.drawn.list) }
+    ensures does { IfOk result (λ accepted. TurnAccepts P.log turn.old turn.new offer.entry.sdp.now offer.entry.plan accepted.drawn.list) }
     ensures text { IfOk result (λ accepted. Describes turn.old.main offer.entry.sdp.now offer.entry.plan accepted.drawn.list accepted.text.list) }
     ensures within { IfOk result (λ accepted. length accepted.text.list ≤ offer.entry.plan.plan.reply_len) }
     ensures count { IfOk result (λ accepted. length accepted.drawn.list ≡ key_count offer.entry.plan.plan) }
     ensures opens { let config = turn.old.main.config.now in
-        IfOk result (λ accepted. Gained (P.told turn.old.ports.now) (P.told turn.new.ports.now) (OpensAt config (free config (past_of turn.old.main)) (replicate (2 * pair_count offer.entry.plan.plan) true))) }
-    ensures draws { IfOk result (λ accepted. Gained (K.told keys.old) (K.told keys.new) (DrawsAll accepted.drawn.list)) }
+        IfOk result (λ accepted. Gained (P.log turn.old.ports.now) (P.log turn.new.ports.now) (OpensAt config (free config (past_of turn.old.main)) (replicate (2 * pairs_demanded offer.entry.plan.plan) true))) }
+    ensures draws { IfOk result (λ accepted. Gained (K.log keys.old) (K.log keys.new) (AreDrawn accepted.drawn.list)) }
 
     // One that is undone does what its entry owes.
-    ensures undoes { IfErr result (Undoes P.told turn.old turn.new offer.entry.sdp.now offer.entry.plan) }
+    ensures undoes { IfErr result (Undoes P.log turn.old turn.new offer.entry.sdp.now offer.entry.plan) }
     ensures early { IfErr result (ComesEarly (pairs_of_plan offer.entry.plan) (keys_of_plan offer.entry.plan)) }
     ensures opens_before { let config = turn.old.main.config.now in
-        IfErr result (λ fault. Gained (P.told turn.old.ports.now) (P.told turn.new.ports.now) (OpensAt config (free config (past_of turn.old.main)) (opens_before (pair_count offer.entry.plan.plan) fault))) }
-    ensures draws_before { IfErr result (λ fault. DrawsBefore fault (K.told keys.old) (K.told keys.new)) }
+        IfErr result (λ fault. Gained (P.log turn.old.ports.now) (P.log turn.new.ports.now) (OpensAt config (free config (past_of turn.old.main)) (opens_before (pairs_demanded offer.entry.plan.plan) fault))) }
+    ensures draws_before { IfErr result (λ fault. DrawsBefore fault (K.log keys.old) (K.log keys.new)) }
     ensures cause { IfErr result (λ fault. HasRisen fault (P.faults turn.old.ports.now) (P.faults turn.new.ports.now) (K.faults keys.old) (K.faults keys.new)) }
 {
     let PlannedOffer { plan, sdp, room } = offer;

@@ -5,21 +5,21 @@ ghost use Rattle.turn_table.specs.Hands.{entries};
 ghost use Rattle.port_pool.specs.Signals.{NewKey};
 ghost use Rattle.offer_answer.specs.Rounds.{Round, OfferAsk, Demand};
 ghost use Rattle.offer_answer.specs.Plan.{demand};
-ghost use Rattle.offer_answer.specs.Offering.{PlanFor, pair_count, key_count};
-ghost use Rattle.call_board.specs.Boards.{leases_of};
-ghost use Rattle.call_board.specs.Pairs.{new_keys};
+ghost use Rattle.offer_answer.specs.Offers.{PlanFor, pairs_demanded, key_count};
+ghost use Rattle.call_board.specs.Boards.{front_leases};
+ghost use Rattle.call_board.specs.Pairs.{drawn_keys_from};
 ghost use Rattle.call_board.specs.Views.{view_of};
-ghost use Rattle.call_cell.specs.Preparing.{PrepareFor, key_room};
-ghost use Rattle.media_ports.specs.Ends.{AreOpened};
+ghost use Rattle.call_cell.specs.Preparations.{PrepareFor, key_room};
+ghost use Rattle.media_ports.specs.Ends.{ArePairsOpened};
 ghost use Rattle.relay_core.specs.Legal.{Orderly};
-ghost use Rattle.relay_core.specs.Standing.{GoneHome};
-ghost use Rattle.relay_core.specs.Turning.{IsAbove};
-ghost use Rattle.board_turns.specs.BoardTurns.{CanNest, Makes, Nests, list_in, past_of};
-ghost use Rattle.board_turns.specs.Leaving.{AreLeasesOf};
+ghost use Rattle.relay_core.specs.PlaceHistories.{GoneHome};
+ghost use Rattle.relay_core.specs.Turns.{IsAbove};
+ghost use Rattle.board_turns.specs.BoardTurns.{CanNest, MakesNested, Nests, hand_list, past_of};
+ghost use Rattle.board_turns.specs.Departures.{AreLeasesOf};
 ghost use Rattle.board_turns.specs.Ties.{LegsLeave};
 ghost use Rattle.offer_command.specs.Brings.{HasLegRoom};
-ghost use Rattle.offer_command.specs.Filling.{SameLegs, drawn_key};
-ghost use Rattle.offer_command.specs.Offers.{IsDue, next_key, offer_of, dropped_legs, bringing_of};
+ghost use Rattle.offer_command.specs.PreparedLegs.{SameLegs, drawn_key};
+ghost use Rattle.offer_command.specs.Offers.{IsDue, next_key_number, offer_of, dropped_legs, bringing_of};
 
 use crate::lease::{LeasedPairs, LeasedPlan, last_port};
 use crate::legs::open_legs;
@@ -52,7 +52,7 @@ fn add_keys<O>(plan: &Plan, first_key: u64, drawn: &DrawnList, prepare: &mut Pre
     requires first { first_key ≤ 2 ^ 63 }
     requires room { key_count plan.now ≤ key_room prepare.old }
     ensures stands { (asked : Demand) (keys : List NewKey) (dropped : List ℕ) → PlanFor plan.now asked → PrepareFor prepare.old keys dropped →
-        PrepareFor prepare.new (keys ++ new_keys first_key drawn.now.list asked.keys) dropped }
+        PrepareFor prepare.new (keys ++ drawn_keys_from first_key drawn.now.list asked.keys) dropped }
     ensures legs { SameLegs prepare.old prepare.new }
 {
     let keys = drawn.as_slice();
@@ -94,7 +94,7 @@ fn bring_keys<O>(plan: &Plan, first_key: u64, drawn: &DrawnList, prepare: &mut P
     requires first { first_key ≤ 2 ^ 63 }
     requires room { key_count plan.now ≤ key_room prepare.old }
     ensures stands { (rounds : List Round) (ask : OfferAsk) → PlanFor plan.now (demand rounds ask) → PrepareFor prepare.old [] [] →
-        PrepareFor prepare.new (new_keys first_key drawn.now.list (demand rounds ask).keys) (demand rounds ask).dropped }
+        PrepareFor prepare.new (drawn_keys_from first_key drawn.now.list (demand rounds ask).keys) (demand rounds ask).dropped }
     ensures legs { SameLegs prepare.old prepare.new }
 {
     add_keys(plan, first_key, drawn, prepare);
@@ -112,25 +112,25 @@ pub(crate) fn prepare_offer<I: InEnd, O: OutEnd, R: Wait>(
     gone: &mut Gone<O>,
 )
     requires may { CanNest main.old }
-    requires above { IsAbove (list_in main.old) 0 main.old.entry_id.number }
-    requires orderly { Orderly main.old.config.now (list_in main.old) }
+    requires above { IsAbove (hand_list main.old) 0 main.old.entry_id.number }
+    requires orderly { Orderly main.old.config.now (hand_list main.old) }
     requires due { (id : List ℕ) × (ask : OfferAsk) × IsDue main.old.config.now (past_of main.old) id ask taken.now.plan taken.now.drawn.list }
-    requires leases { pairs.leases.list ≡ leases_of main.old.config.now (view_of main.old.config.now (past_of main.old)) (pair_count taken.now.plan.plan) }
-    requires count { length pairs.leases.list ≡ pair_count taken.now.plan.plan }
-    requires opened { length pairs.opened.list ≡ pair_count taken.now.plan.plan }
-    requires ends { AreOpened I.told O.told main.old.config.now.interface pairs.leases.list pairs.opened.list }
-    requires first { taken.now.first_key ≡ next_key (past_of main.old) }
+    requires leases { pairs.leases.list ≡ front_leases main.old.config.now (view_of main.old.config.now (past_of main.old)) (pairs_demanded taken.now.plan.plan) }
+    requires count { length pairs.leases.list ≡ pairs_demanded taken.now.plan.plan }
+    requires opened { length pairs.opened.list ≡ pairs_demanded taken.now.plan.plan }
+    requires ends { ArePairsOpened I.log O.log main.old.config.now.interface pairs.leases.list pairs.opened.list }
+    requires first { taken.now.first_key ≡ next_key_number (past_of main.old) }
     requires low { taken.now.first_key ≤ 2 ^ 63 }
     requires keys { length taken.now.drawn.list ≡ key_count taken.now.plan.plan }
     requires room { HasLegRoom taken.now.plan.plan prepare }
     requires empty { gone.old ≡ [] }
     ensures nests { Nests main.old main.new }
     ensures gained { (id : List ℕ) (ask : OfferAsk) → IsDue main.old.config.now (past_of main.old) id ask taken.now.plan taken.now.drawn.list →
-        Makes (bringing_of main.old.config.now (offer_of main.old.config.now (past_of main.old) id ask taken.now.drawn.list)) main.old main.new }
+        MakesNested (bringing_of main.old.config.now (offer_of main.old.config.now (past_of main.old) id ask taken.now.drawn.list)) main.old main.new }
     ensures went { (id : List ℕ) (ask : OfferAsk) → IsDue main.old.config.now (past_of main.old) id ask taken.now.plan taken.now.drawn.list →
         AreLeasesOf main.old.config.now gone.new (dropped_legs (past_of main.old) (offer_of main.old.config.now (past_of main.old) id ask taken.now.drawn.list)) }
-    ensures home { GoneHome O.told main.old.config.now gone.new }
-    ensures leave { LegsLeave O.told gone.new (entries main.old.hand.now) (entries main.new.hand.now) }
+    ensures home { GoneHome O.log main.old.config.now gone.new }
+    ensures leave { LegsLeave O.log gone.new (entries main.old.hand.now) (entries main.new.hand.now) }
 {
     let mut prepare = prepare;
     let last = last_port(main.config);

@@ -1,12 +1,12 @@
 //! An offer.
 ghost use Rattle.std.specs.Prelude.{◌≤◌, ◌<◌, ◌^◌, Option, length};
 ghost use Rattle.ng_bencode.specs.Tree.{Entries};
-ghost use Rattle.ng_command.specs.Said.{Offer};
+ghost use Rattle.ng_command.specs.Meanings.{Offer};
 ghost use Rattle.call_board.specs.Pairs.{free};
 ghost use Rattle.board_turns.specs.BoardTurns.{Begins, CarriesOut, Works, past_of};
-ghost use Rattle.board_turns.specs.Carrying.{hearing_by};
-ghost use Rattle.board_turns.specs.Giving.{given_by, IsGivenBy};
-ghost use Rattle.board_turns.specs.Telling.{IsAnew, IsAsking};
+ghost use Rattle.board_turns.specs.Commands.{record_by};
+ghost use Rattle.board_turns.specs.DeviceAnswers.{given_by, IsGivenBy};
+ghost use Rattle.board_turns.specs.PlainReplies.{IsAnew, IsAsking};
 
 use crate::act::{PlannedOffer, offer_act};
 use crate::memory::{OfferMemory, offer_memory};
@@ -26,16 +26,16 @@ pub fn offer<P: PortMaker, K: KeySource, R: Wait>(
     keys: &mut K,
     asked: &AskedCommand<OfferIn>,
 ) -> CommandOutcome
-    requires begins { Begins P.told turn.old }
+    requires begins { Begins P.log turn.old }
     requires anew { IsAnew (past_of turn.old.main) turn.old.main.entry_id.moment asked.now.request.now }
     requires small { length asked.now.input.now.sdp.list < 2 ^ 31 }
     requires asked { (pairs : Option Entries) × IsAsking asked.now.request.now pairs (Offer asked.now.input.now.call_id.list asked.now.input.now.from_tag.list asked.now.input.now.sdp.list asked.now.input.now.options) }
-    ensures works { Works P.told P.faults turn.old turn.new }
+    ensures works { Works P.log P.faults turn.old turn.new }
     ensures carries { (pairs : Option Entries) → IsAsking asked.now.request.now pairs (Offer asked.now.input.now.call_id.list asked.now.input.now.from_tag.list asked.now.input.now.sdp.list asked.now.input.now.options) →
-        CarriesOut P.told turn.old turn.new (hearing_by asked.now.request.now pairs result) result.reply }
+        CarriesOut P.log turn.old turn.new (record_by asked.now.request.now pairs result) result.reply }
     ensures later { K.faults keys.old ≤ K.faults keys.new }
     ensures given { IsGivenBy turn.old.main.config.now (free turn.old.main.config.now (past_of turn.old.main)) (given_by result.device_answers) (P.faults turn.old.ports.now) (P.faults turn.new.ports.now)
-        (K.faults keys.old) (K.faults keys.new) (P.told turn.old.ports.now) (P.told turn.new.ports.now) (K.told keys.old) (K.told keys.new) }
+        (K.faults keys.old) (K.faults keys.new) (P.log turn.old.ports.now) (P.log turn.new.ports.now) (K.log keys.old) (K.log keys.new) }
 {
     let AskedCommand {
         request,

@@ -5,16 +5,16 @@ ghost use Rattle.sdp_text.specs.Lines.{lines_of};
 ghost use Rattle.offer_answer.specs.Rounds.{Round, OfferAsk};
 ghost use Rattle.offer_answer.specs.Plan.{demand, offer_text};
 ghost use Rattle.offer_answer.specs.Plans.{OfferPlan, OfferFilled};
-ghost use Rattle.offer_answer.specs.Offering.{pair_count, key_count};
+ghost use Rattle.offer_answer.specs.Offers.{pairs_demanded, key_count};
 ghost use Rattle.offer_answer.specs.Nexts.{numbered_keys};
 ghost use Rattle.offer_answer.specs.Widths.{WritesFrom};
 ghost use Rattle.call_board.specs.Acts.{BoardEntry};
 ghost use Rattle.call_board.specs.Fits.{IsFitting};
 ghost use Rattle.call_board.specs.Views.{View, view_of};
-ghost use Rattle.call_board.specs.Boards.{Shows, KeepsReplies};
-ghost use Rattle.call_board.specs.Applied.{MayApply};
+ghost use Rattle.call_board.specs.Boards.{BoardMatches, KeepsReplies};
+ghost use Rattle.call_board.specs.NextBoards.{MayApply};
 ghost use Rattle.offer_command.specs.Brings.{rtp_ports};
-ghost use Rattle.offer_command.specs.Offers.{IsDue, next_key, offer_of, ports_of_legs, text_of, with_offer};
+ghost use Rattle.offer_command.specs.Offers.{IsDue, next_key_number, offer_of, ports_of_legs, offered_text, with_offer};
 
 use crate::lease::LeasedPlan;
 use call_board::{Board, BoardPlan};
@@ -43,7 +43,7 @@ fn fill_plan(
     drawn: &DrawnList,
     out: &mut Bytes,
 )
-    requires ports { length numbers.now ≡ pair_count plan.old.plan }
+    requires ports { length numbers.now ≡ pairs_demanded plan.old.plan }
     requires keys { length drawn.now.list ≡ key_count plan.old.plan }
     requires first { first_key ≤ 2 ^ 63 }
     requires made { WritesFrom plan.old.plan sdp.now }
@@ -68,19 +68,19 @@ pub(crate) fn apply_offer(
     now: u64,
     out: &mut Bytes,
 ) -> DrawnList
-    requires ports { length taken.numbers.items ≡ pair_count taken.plan.plan }
+    requires ports { length taken.numbers.items ≡ pairs_demanded taken.plan.plan }
     requires keys { length taken.drawn.list ≡ key_count taken.plan.plan }
     requires first { taken.first_key ≤ 2 ^ 63 }
     requires made { WritesFrom taken.plan.plan sdp.now }
     requires room { taken.plan.plan.reply_len ≤ out.old.spare }
     requires may { MayApply board.old taken.plan taken.plan.begun }
     ensures taken { (config : Config) (h : List BoardEntry) (id : List ℕ) (ask : OfferAsk) (v : View) → IsFitting config h → IsDue config h id ask taken.plan taken.drawn.list →
-        taken.first_key ≡ next_key h → taken.numbers.items ≡ ports_of_legs config (offer_of config h id ask taken.drawn.list) →
-        Shows config board.old v → v.calls ≡ (view_of config h).calls → v.begun ≡ (view_of config h).begun →
-        Shows config board.new (with_offer (offer_of config h id ask taken.drawn.list) now v) }
+        taken.first_key ≡ next_key_number h → taken.numbers.items ≡ ports_of_legs config (offer_of config h id ask taken.drawn.list) →
+        BoardMatches config board.old v → v.calls ≡ (view_of config h).calls → v.begun ≡ (view_of config h).begun →
+        BoardMatches config board.new (with_offer (offer_of config h id ask taken.drawn.list) now v) }
     ensures text { (config : Config) (h : List BoardEntry) (id : List ℕ) (ask : OfferAsk) → IsFitting config h → IsDue config h id ask taken.plan taken.drawn.list →
-        taken.first_key ≡ next_key h → taken.numbers.items ≡ ports_of_legs config (offer_of config h id ask taken.drawn.list) → lines_of ask.sdp ≡ sdp.now →
-        out.new.list ≡ out.old.list ++ text_of config h id (offer_of config h id ask taken.drawn.list) }
+        taken.first_key ≡ next_key_number h → taken.numbers.items ≡ ports_of_legs config (offer_of config h id ask taken.drawn.list) → lines_of ask.sdp ≡ sdp.now →
+        out.new.list ≡ out.old.list ++ offered_text config h id (offer_of config h id ask taken.drawn.list) }
     ensures within { length out.new.list ≤ length out.old.list + taken.plan.plan.reply_len }
     ensures replies { KeepsReplies board.old board.new }
     ensures keys { result ≡ taken.drawn }

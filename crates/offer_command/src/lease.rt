@@ -1,20 +1,20 @@
 //! What an offer takes by its plan: pairs, ports and keys, all of them or none.
 ghost use Rattle.std.specs.Prelude.{◌≡◌, ◌≤◌, ◌<◌, ◌+◌, ◌*◌, ◌^◌, ℕ, List, [], length, IfOk, IfErr, OnOk, OnErr};
 ghost use Rattle.relay_outside.specs.declared.settings.Config.{Config};
-ghost use Rattle.relay_outside.specs.Told.{Gained, WhereTold};
+ghost use Rattle.relay_outside.specs.DeviceLogs.{Gained, WhereLogged};
 ghost use Rattle.media_ports.specs.Addresses.{addresses_of, ports_of, ArePorts};
-ghost use Rattle.media_ports.specs.Calls.{OpensPairs, NoneOpen, SameOpen, WhereBothTold};
-ghost use Rattle.media_ports.specs.Draws.{DrawsAll};
-ghost use Rattle.media_ports.specs.Ends.{AreOpened};
-ghost use Rattle.media_ports.specs.Given.{GivesBackUncalled};
-ghost use Rattle.media_ports.specs.Held.{TellsHeld, HasBoth};
-ghost use Rattle.call_board.specs.Boards.{Shows, KeepsCalls, KeepsReplies, leases_of, pairs_in};
-ghost use Rattle.call_board.specs.Planned.{leased};
+ghost use Rattle.media_ports.specs.Calls.{OpensPairs, NoneOpen, SameOpen, WhereBothLogged};
+ghost use Rattle.media_ports.specs.Draws.{AreDrawn};
+ghost use Rattle.media_ports.specs.Ends.{ArePairsOpened};
+ghost use Rattle.media_ports.specs.ReturnedEnds.{GivesBackUncalled};
+ghost use Rattle.media_ports.specs.OpenPorts.{LogsHeld, HasBoth};
+ghost use Rattle.call_board.specs.Boards.{BoardMatches, KeepsCalls, KeepsReplies, front_leases, pairs_in};
+ghost use Rattle.call_board.specs.Plans.{leased};
 ghost use Rattle.call_board.specs.Views.{View};
 ghost use Rattle.call_board.specs.Whole.{with_draws};
 ghost use Rattle.offer_command.specs.Brings.{HasLeaseRoom, rtp_ports};
-ghost use Rattle.offer_command.specs.Leasing.{CanLease, pairs_of_plan, keys_of_plan, with_taken};
-ghost use Rattle.offer_command.specs.Undoing.{ComesEarly, DrawsBefore, HasRisen, UndoesPorts, keys_before, with_undone};
+ghost use Rattle.offer_command.specs.Leases.{CanLease, pairs_of_plan, keys_of_plan, with_taken};
+ghost use Rattle.offer_command.specs.Undo.{ComesEarly, DrawsBefore, HasRisen, UndoesPorts, keys_before, with_undone};
 
 use crate::description::list_ports;
 use call_board::{Board, BoardPlan};
@@ -100,8 +100,8 @@ pub(crate) fn last_port(config: &Config) -> u16
 
 /// Numbers this many drawn keys.
 fn count_draws(board: &mut Board, count: usize)
-    requires { (config : Config) × (v : View) × Shows config board.old v × (v.drawn + count ≤ 2 ^ 63) }
-    ensures drawn { (config : Config) (v : View) → Shows config board.old v → Shows config board.new (with_draws v count) }
+    requires { (config : Config) × (v : View) × BoardMatches config board.old v × (v.drawn + count ≤ 2 ^ 63) }
+    ensures drawn { (config : Config) (v : View) → BoardMatches config board.old v → BoardMatches config board.new (with_draws v count) }
     ensures calls { KeepsCalls board.old board.new }
     ensures replies { KeepsReplies board.old board.new }
 {
@@ -123,19 +123,19 @@ fn open_and_draw<P: PortMaker, K: KeySource>(
     requires opened { (room.opened.list ≡ []) × (length leases.now.list ≤ room.opened.room) }
     requires drawn { (room.drawn.list ≡ []) × (count ≤ room.drawn.room) }
     requires ports { ArePorts (ports_of leases.now.list) }
-    requires closed { WhereTold (P.told ports.old) (NoneOpen (addresses_of interface leases.now.list)) }
+    requires closed { WhereLogged (P.log ports.old) (NoneOpen (addresses_of interface leases.now.list)) }
 
-    ensures opens { OnOk result (Gained (P.told ports.old) (P.told ports.new) (OpensPairs interface leases.now.list)) }
+    ensures opens { OnOk result (Gained (P.log ports.old) (P.log ports.new) (OpensPairs interface leases.now.list)) }
     ensures pairs { IfOk result (λ taken. length taken.opened.list ≡ length leases.now.list) }
-    ensures are_opened { IfOk result (λ taken. AreOpened P.In.told P.Out.told interface leases.now.list taken.opened.list) }
-    ensures draws { IfOk result (λ taken. Gained (K.told keys.old) (K.told keys.new) (DrawsAll taken.drawn.list)) }
+    ensures are_opened { IfOk result (λ taken. ArePairsOpened P.In.log P.Out.log interface leases.now.list taken.opened.list) }
+    ensures draws { IfOk result (λ taken. Gained (K.log keys.old) (K.log keys.new) (AreDrawn taken.drawn.list)) }
     ensures count { IfOk result (λ taken. length taken.drawn.list ≡ count) }
     ensures rest { IfOk result (λ taken. taken.numbers ≡ room.numbers) }
 
-    ensures closes { IfErr result (λ fault. Gained (P.told ports.old) (P.told ports.new) (UndoesPorts (addresses_of interface leases.now.list) fault)) }
+    ensures closes { IfErr result (λ fault. Gained (P.log ports.old) (P.log ports.new) (UndoesPorts (addresses_of interface leases.now.list) fault)) }
     ensures early { IfErr result (ComesEarly (length leases.now.list) count) }
-    ensures same { OnErr result (WhereBothTold (P.told ports.old) (P.told ports.new) SameOpen) }
-    ensures draws_before { IfErr result (λ fault. DrawsBefore fault (K.told keys.old) (K.told keys.new)) }
+    ensures same { OnErr result (WhereBothLogged (P.log ports.old) (P.log ports.new) SameOpen) }
+    ensures draws_before { IfErr result (λ fault. DrawsBefore fault (K.log keys.old) (K.log keys.new)) }
     ensures cause { IfErr result (λ fault. HasRisen fault (P.faults ports.old) (P.faults ports.new) (K.faults keys.old) (K.faults keys.new)) }
     ensures later { (P.faults ports.old ≤ P.faults ports.new) × (K.faults keys.old ≤ K.faults keys.new) }
 {
@@ -176,36 +176,36 @@ pub fn lease_offer<P: PortMaker, K: KeySource>(
     plan: BoardPlan,
     room: LeaseRoom<P::In, P::Out>,
 ) -> Result<LeasedOffer<P::In, P::Out>, LeaseFault>
-    requires can { CanLease config.now board.old (P.told ports.old) plan }
+    requires can { CanLease config.now board.old (P.log ports.old) plan }
     requires room { HasLeaseRoom plan.plan room }
 
     // What the plan demands is leased, opened, drawn and numbered.
-    ensures taken { IfOk result (λ took. (v : View) → Shows config.now board.old v → Shows config.now board.new (with_taken v (pairs_of_plan plan) (length took.plan.drawn.list))) }
+    ensures taken { IfOk result (λ took. (v : View) → BoardMatches config.now board.old v → BoardMatches config.now board.new (with_taken v (pairs_of_plan plan) (length took.plan.drawn.list))) }
     ensures plan { IfOk result (λ took. took.plan.plan ≡ leased plan) }
-    ensures leases { IfOk result (λ took. (v : View) → Shows config.now board.old v → took.pairs.leases.list ≡ leases_of config.now v (pairs_of_plan plan)) }
+    ensures leases { IfOk result (λ took. (v : View) → BoardMatches config.now board.old v → took.pairs.leases.list ≡ front_leases config.now v (pairs_of_plan plan)) }
     ensures pairs { IfOk result (λ took. length took.pairs.leases.list ≡ pairs_of_plan plan) }
     ensures ports { IfOk result (λ took. took.plan.numbers.items ≡ rtp_ports took.pairs.leases.list) }
     ensures opened { IfOk result (λ took. length took.pairs.opened.list ≡ length took.pairs.leases.list) }
-    ensures are_opened { IfOk result (λ took. AreOpened P.In.told P.Out.told config.now.interface took.pairs.leases.list took.pairs.opened.list) }
-    ensures opens { IfOk result (λ took. Gained (P.told ports.old) (P.told ports.new) (OpensPairs config.now.interface took.pairs.leases.list)) }
-    ensures are_open { IfOk result (λ took. (held now : List ℕ) → TellsHeld config.now (P.told ports.old) held → HasBoth held (pairs_in took.pairs.leases.list) now → TellsHeld config.now (P.told ports.new) now) }
+    ensures are_opened { IfOk result (λ took. ArePairsOpened P.In.log P.Out.log config.now.interface took.pairs.leases.list took.pairs.opened.list) }
+    ensures opens { IfOk result (λ took. Gained (P.log ports.old) (P.log ports.new) (OpensPairs config.now.interface took.pairs.leases.list)) }
+    ensures are_open { IfOk result (λ took. (held now : List ℕ) → LogsHeld config.now (P.log ports.old) held → HasBoth held (pairs_in took.pairs.leases.list) now → LogsHeld config.now (P.log ports.new) now) }
     ensures keys { IfOk result (λ took. length took.plan.drawn.list ≡ keys_of_plan plan) }
-    ensures draws { IfOk result (λ took. Gained (K.told keys.old) (K.told keys.new) (DrawsAll took.plan.drawn.list)) }
-    ensures first { IfOk result (λ took. (v : View) → Shows config.now board.old v → took.plan.first_key ≡ v.drawn) }
+    ensures draws { IfOk result (λ took. Gained (K.log keys.old) (K.log keys.new) (AreDrawn took.plan.drawn.list)) }
+    ensures first { IfOk result (λ took. (v : View) → BoardMatches config.now board.old v → took.plan.first_key ≡ v.drawn) }
     ensures low { IfOk result (λ took. took.plan.first_key ≤ 2 ^ 63) }
 
     // After a fault all of it is undone, but for the keys that were drawn.
-    ensures undone { IfErr result (λ fault. (v : View) → Shows config.now board.old v → Shows config.now board.new (with_undone v (pairs_of_plan plan) (length (keys_before fault)))) }
+    ensures undone { IfErr result (λ fault. (v : View) → BoardMatches config.now board.old v → BoardMatches config.now board.new (with_undone v (pairs_of_plan plan) (length (keys_before fault)))) }
     ensures early { IfErr result (ComesEarly (pairs_of_plan plan) (keys_of_plan plan)) }
-    ensures closes { IfErr result (λ fault. (v : View) → Shows config.now board.old v →
-        Gained (P.told ports.old) (P.told ports.new) (UndoesPorts (addresses_of config.now.interface (leases_of config.now v (pairs_of_plan plan))) fault)) }
-    ensures same { OnErr result (WhereBothTold (P.told ports.old) (P.told ports.new) SameOpen) }
-    ensures still_open { OnErr result ((held : List ℕ) → TellsHeld config.now (P.told ports.old) held → TellsHeld config.now (P.told ports.new) held) }
-    ensures draws_before { IfErr result (λ fault. DrawsBefore fault (K.told keys.old) (K.told keys.new)) }
+    ensures closes { IfErr result (λ fault. (v : View) → BoardMatches config.now board.old v →
+        Gained (P.log ports.old) (P.log ports.new) (UndoesPorts (addresses_of config.now.interface (front_leases config.now v (pairs_of_plan plan))) fault)) }
+    ensures same { OnErr result (WhereBothLogged (P.log ports.old) (P.log ports.new) SameOpen) }
+    ensures still_open { OnErr result ((held : List ℕ) → LogsHeld config.now (P.log ports.old) held → LogsHeld config.now (P.log ports.new) held) }
+    ensures draws_before { IfErr result (λ fault. DrawsBefore fault (K.log keys.old) (K.log keys.new)) }
     ensures cause { IfErr result (λ fault. HasRisen fault (P.faults ports.old) (P.faults ports.new) (K.faults keys.old) (K.faults keys.new)) }
 
     // Either way no end that is given back was called, and no address called for but those of the configuration.
-    ensures gives_back { Gained (P.told ports.old) (P.told ports.new) (GivesBackUncalled config.now) }
+    ensures gives_back { Gained (P.log ports.old) (P.log ports.new) (GivesBackUncalled config.now) }
     ensures later { (P.faults ports.old ≤ P.faults ports.new) × (K.faults keys.old ≤ K.faults keys.new) }
     ensures calls { KeepsCalls board.old board.new }
     ensures replies { KeepsReplies board.old board.new }

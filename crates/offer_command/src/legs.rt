@@ -3,20 +3,20 @@ ghost use Rattle.std.specs.Prelude.{◌≡◌, ◌≤◌, ◌<◌, ◌+◌, ◌+
 ghost use Rattle.std.specs.List.{AllZip};
 ghost use Rattle.port_pool.specs.Ports.{pair_count, pair_port};
 ghost use Rattle.port_pool.specs.Signals.{NewKey};
-ghost use Rattle.offer_answer.specs.Offering as offering;
-ghost use Rattle.offer_answer.specs.Offering.{PlanFor};
+ghost use Rattle.offer_answer.specs.Offers as offering;
+ghost use Rattle.offer_answer.specs.Offers.{PlanFor};
 ghost use Rattle.offer_answer.specs.Rounds.{Demand};
 ghost use Rattle.call_board.specs.Acts.{Call};
-ghost use Rattle.call_board.specs.Whole.{legs_of};
-ghost use Rattle.call_cell.specs.Preparing.{IsReady, PrepareFor, added, parts_added, leg_room, key_room};
-ghost use Rattle.media_ports.specs.Addresses.{AreLeased, pairs_of};
+ghost use Rattle.call_board.specs.Whole.{holders_of_new_legs};
+ghost use Rattle.call_cell.specs.Preparations.{IsReady, PrepareFor, added, parts_added, leg_room, key_room};
+ghost use Rattle.media_ports.specs.Addresses.{AreLeased, pairs_of_leases};
 ghost use Rattle.media_ports.specs.Ends as pair_ends;
 ghost use Rattle.relay_core.specs.Entries.{box_of};
-ghost use Rattle.relay_core.specs.Scripts.{opening};
-ghost use Rattle.board_turns.specs.BoardTurns.{CanNest, Makes, Nests, list_in};
-ghost use Rattle.board_turns.specs.Nesting.{IsShut};
+ghost use Rattle.relay_core.specs.Scripts.{open_owed};
+ghost use Rattle.board_turns.specs.BoardTurns.{CanNest, MakesNested, Nests, hand_list};
+ghost use Rattle.board_turns.specs.NestedSteps.{IsShut};
 ghost use Rattle.offer_command.specs.Legs.{LegsFor};
-ghost use Rattle.offer_command.specs.Opening.{AreShut, IsOpened, leased_parts, leg_parts};
+ghost use Rattle.offer_command.specs.LegBoxes.{AreShut, IsBoxOpened, leased_parts, leg_parts};
 
 use crate::lease::LeasedPairs;
 use board_turns::{MainHand, open_box};
@@ -40,13 +40,13 @@ fn open_leg<I: InEnd, O: OutEnd, R: Wait>(
     requires pair { (holder.pair < pair_count main.old.config.now) × (lease.pair ≡ holder.pair) }
     requires generation { lease.generation ≡ holder.generation }
     requires cell { (1 ≤ holder.cell) × (holder.cell ≤ main.old.config.now.max_sessions) }
-    requires shut { IsShut (list_in main.old) (box_of main.old.config.now holder.pair) }
+    requires shut { IsShut (hand_list main.old) (box_of main.old.config.now holder.pair) }
     requires port { lease.rtp_port ≡ pair_port main.old.config.now holder.pair }
-    requires ends { pair_ends.IsOpened I.told O.told main.old.config.now.interface lease ends }
+    requires ends { pair_ends.IsPairOpened I.log O.log main.old.config.now.interface lease ends }
     requires room { 0 < leg_room prepare.old }
     ensures nests { Nests main.old main.new }
-    ensures gained { Makes (opening main.old.config.now holder ∷ []) main.old main.new }
-    ensures opened { IsOpened I.told I.faults O.told O.faults main.old.config.now main.old.entry_id.number main.old.entry_id.moment main.old.hand.now holder ends }
+    ensures gained { MakesNested (open_owed main.old.config.now holder ∷ []) main.old main.new }
+    ensures opened { IsBoxOpened I.log I.faults O.log O.faults main.old.config.now main.old.entry_id.number main.old.entry_id.moment main.old.hand.now holder ends }
     ensures added { added prepare.new ≡ added prepare.old ++ holder ∷ [] }
     ensures parts { parts_added prepare.new ≡ parts_added prepare.old ++ leg_parts lease ends ∷ [] }
     ensures stands { (keys : List NewKey) (dropped : List ℕ) → PrepareFor prepare.old keys dropped → PrepareFor prepare.new keys dropped }
@@ -75,12 +75,12 @@ pub fn open_legs<I: InEnd, O: OutEnd, R: Wait>(
 )
     requires may { CanNest main.old }
     requires cell { (1 ≤ plan.now.cell) × (plan.now.cell ≤ main.old.config.now.max_sessions) }
-    requires leases { length pairs.leases.list ≡ offering.pair_count plan.now.plan }
-    requires pairs { length pairs.opened.list ≡ offering.pair_count plan.now.plan }
+    requires leases { length pairs.leases.list ≡ offering.pairs_demanded plan.now.plan }
+    requires pairs { length pairs.opened.list ≡ offering.pairs_demanded plan.now.plan }
     requires leased { AreLeased main.old.config.now pairs.leases.list }
-    requires shut { AreShut main.old.config.now (list_in main.old) (pairs_of pairs.leases.list) }
-    requires opened { pair_ends.AreOpened I.told O.told main.old.config.now.interface pairs.leases.list pairs.opened.list }
-    requires room { offering.pair_count plan.now.plan ≤ leg_room prepare.old }
+    requires shut { AreShut main.old.config.now (hand_list main.old) (pairs_of_leases pairs.leases.list) }
+    requires opened { pair_ends.ArePairsOpened I.log O.log main.old.config.now.interface pairs.leases.list pairs.opened.list }
+    requires room { offering.pairs_demanded plan.now.plan ≤ leg_room prepare.old }
     requires none { added prepare.old ≡ [] }
 
     // The legs are those that the plan demands, with these leases.
@@ -88,13 +88,13 @@ pub fn open_legs<I: InEnd, O: OutEnd, R: Wait>(
 
     // Their boxes are opened, in order, with these ends.
     ensures nests { Nests main.old main.new }
-    ensures gained { Makes (map (opening main.old.config.now) (added prepare.new)) main.old main.new }
-    ensures opened { AllZip (IsOpened I.told I.faults O.told O.faults main.old.config.now main.old.entry_id.number main.old.entry_id.moment main.old.hand.now) (added prepare.new) pairs.opened.list }
+    ensures gained { MakesNested (map (open_owed main.old.config.now) (added prepare.new)) main.old main.new }
+    ensures opened { AllZip (IsBoxOpened I.log I.faults O.log O.faults main.old.config.now main.old.entry_id.number main.old.entry_id.moment main.old.hand.now) (added prepare.new) pairs.opened.list }
 
     // They are prepared, in order, with their leases and these ends.
     ensures parts { parts_added prepare.new ≡ parts_added prepare.old ++ leased_parts pairs.leases.list pairs.opened.list }
     ensures stands { (keys : List NewKey) (dropped : List ℕ) → PrepareFor prepare.old keys dropped → PrepareFor prepare.new keys dropped }
-    ensures room { (leg_room prepare.new + offering.pair_count plan.now.plan ≡ leg_room prepare.old) × (key_room prepare.new ≡ key_room prepare.old) }
+    ensures room { (leg_room prepare.new + offering.pairs_demanded plan.now.plan ≡ leg_room prepare.old) × (key_room prepare.new ≡ key_room prepare.old) }
     ensures ready { IsReady prepare.old → IsReady prepare.new }
 {
     let LeasedPairs {

@@ -7,9 +7,9 @@
 //! `description` puts ports and keys into the plan, writes its description, and gives the plan to the board; and the legs that it drops
 //! are closed. `reply` makes the replies to an accepted and to an undone offer. What comes after the first lease takes no memory.
 //!
-//! `specs/Commands.antt` says what the command asks and what it gives, `specs/Doings.antt` what its turn does; `specs/Leasing.antt` when
-//! an offer may take what its plan demands, `specs/Undoing.antt` what is left of one that was undone; `specs/Legs.antt`,
-//! `specs/Opening.antt` and `specs/Filling.antt` which legs are new and what opened their boxes; `specs/Offers.antt` which offer the
+//! `specs/Commands.antt` says what the command asks and what it gives, `specs/Doings.antt` what its turn does; `specs/Leases.antt` when
+//! an offer may take what its plan demands, `specs/Undo.antt` what is left of one that was undone; `specs/Legs.antt`,
+//! `specs/LegBoxes.antt` and `specs/PreparedLegs.antt` which legs are new and what opened their boxes; `specs/Offers.antt` which offer the
 //! board's next entry accepts, `specs/Brings.antt` which room there is.
 #![tactic(auto)]
 

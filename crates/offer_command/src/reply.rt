@@ -4,7 +4,7 @@ ghost use Rattle.cookie_cache.specs.Keepings.{IsCookie};
 ghost use Rattle.call_board.specs.Replies.{Described, Fault};
 ghost use Rattle.control_messages.specs.Rooms.{described_room};
 ghost use Rattle.board_turns.specs.declared.device_answers.DeviceAnswers.TheVariants as device_answers;
-ghost use Rattle.offer_command.specs.Commands.{Gives, undone_code, undone_answers};
+ghost use Rattle.offer_command.specs.Commands.{GivesOutcome, undone_code, undone_answers};
 
 use crate::act::AcceptedOffer;
 use crate::lease::LeaseFault;
@@ -25,7 +25,7 @@ pub(crate) fn accepted(
     requires small { length offered.text.list < 2 ^ 40 }
     requires empty { reply.list ≡ [] }
     requires room { described_room request.now.cookie.now request.now.body.now offered.text.list ≤ reply.spare }
-    ensures { Gives request.now.cookie.now request.now.body.now chosen_lines (device_answers.Offered opened offered.drawn) (Described offered.text.list) result }
+    ensures { GivesOutcome request.now.cookie.now request.now.body.now chosen_lines (device_answers.Offered opened offered.drawn) (Described offered.text.list) result }
 {
     let AcceptedOffer { drawn, text } = offered;
     let mut reply = reply;
@@ -58,7 +58,7 @@ pub(crate) fn undone(
     requires cookie { IsCookie request.now.cookie.now }
     requires empty { reply.list ≡ [] }
     requires room { 512 ≤ reply.spare }
-    ensures { Gives request.now.cookie.now request.now.body.now chosen_lines (undone_answers ports fault) (Fault (undone_code fault)) result }
+    ensures { GivesOutcome request.now.cookie.now request.now.body.now chosen_lines (undone_answers ports fault) (Fault (undone_code fault)) result }
 {
     let mut reply = reply;
     let (code, device_answers) = undone_by(fault, ports);

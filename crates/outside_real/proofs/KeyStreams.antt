@@ -6,10 +6,10 @@ use Rattle.std.specs.Int.{to_le_bytes, w32}
 use Rattle.std.specs.List.{flat_map, range_with_len}
 use Rattle.rand_core.specs.Steps.{word_bytes, fill_via_u32}
 use Rattle.rand_chacha.specs.ChaCha.{ChaCha, next_word}
-use Rattle.relay_outside.specs.Told.{Gains, where_told}
+use Rattle.relay_outside.specs.DeviceLogs.{Gains, where_logged}
 use Rattle.relay_outside.specs.Failures.{next_count}
 use Rattle.relay_outside.specs.declared.keys.KeyCall.TheVariants.{Drawn}
-use Rattle.outside_real.specs.KeyStream.{stream_word, stream_bytes, drawn_key, draws, told_draws}
+use Rattle.outside_real.specs.KeyStream.{stream_word, stream_bytes, key_of_draw, draws, logged_draws}
 
 -- one more place
 range_more : (f : ℕ → List ℕ) (i k : ℕ) → flat_map f (range_with_len i (suc k)) ≡ flat_map f (range_with_len i k) ++ f (i + k)
@@ -44,14 +44,14 @@ fill_keeps g after bytes e =
 
 -- the thirty bytes that a generator gives, which has given n keys
 module _ (g after : ChaCha) (bytes : List ℕ) (n : ℕ) (zeroth : g.stream ≡ 0) (at : g.word_pos ≡ 8 * n) (few : n < 2 ^ 64) (e : (bytes, after) ≡ fill_via_u32 (next_word 10) 30 g) where
-  gives : ◌≡◌ {A = List ℕ × ChaCha} (bytes, after) (drawn_key g.key n, record { key = g.key; stream = 0; word_pos = 8 * n + 8 })
-  unfolding drawn_key
+  gives : ◌≡◌ {A = List ℕ × ChaCha} (bytes, after) (key_of_draw g.key n, record { key = g.key; stream = 0; word_pos = 8 * n + 8 })
+  unfolding key_of_draw
   gives =
       let same : g ≡ record { key = g.key; stream = 0; word_pos = 8 * n } = λ i. record { key = g.key; stream = zeroth i; word_pos = at i } in
       e ∙ ap (λ (from : ChaCha). fill_via_u32 (next_word 10) 30 from) same
       ∙ ap (λ (p : List ℕ × ChaCha). (take 30 p.0, p.1)) (words_of g.key (8 * n) 8 (omega arith))
 
-  pub gives_key : bytes ≡ drawn_key g.key n
+  pub gives_key : bytes ≡ key_of_draw g.key n
   gives_key = ap (λ (p : List ℕ × ChaCha). p.0) gives
 
   pub moves_on : after.word_pos ≡ 8 * n + 8
@@ -60,17 +60,17 @@ module _ (g after : ChaCha) (bytes : List ℕ) (n : ℕ) (zeroth : g.stream ≡ 
 -- one more draw is told, unless the draws are told no more
 told_so : (before now : Bool) (words : List ℕ) (n m : ℕ) (key : List ℕ)
     → (now ≡ true → (before ≡ true) × (draws words m ≡ draws words n ++ Drawn key ∷ []))
-    → Gains (where_told before (draws words n)) (where_told now (draws words m)) (Drawn key)
+    → Gains (where_logged before (draws words n)) (where_logged now (draws words m)) (Drawn key)
 told_so before false words n m key more = tt
 told_so false true words n m key more = absurd (cc (more refl).0)
 told_so true true words n m key more = (more refl).1
 
-pub told_more : (words : List ℕ) (n m : ℕ) (key : List ℕ) → m ≡ next_count n → (n < 2 ^ 64 - 1 → key ≡ drawn_key words n)
-    → Gains (told_draws (record { seed_words = words; drawn = n })) (told_draws (record { seed_words = words; drawn = m })) (Drawn key)
+pub told_more : (words : List ℕ) (n m : ℕ) (key : List ℕ) → m ≡ next_count n → (n < 2 ^ 64 - 1 → key ≡ key_of_draw words n)
+    → Gains (logged_draws (record { seed_words = words; drawn = n })) (logged_draws (record { seed_words = words; drawn = m })) (Drawn key)
 told_more words n m key next is =
     told_so (nat_lt n (2 ^ 64 - 1)) (nat_lt m (2 ^ 64 - 1)) words n m key λ few.
     let low : m < 2 ^ 64 - 1 = grind (arith, nat_tests) in
     let one : m ≡ n + 1 = omega arith in
-    let told : nat_lt n (2 ^ 64 - 1) ≡ true = grind (arith, nat_tests) in
-    let more : draws words (n + 1) ≡ draws words n ++ Drawn (drawn_key words n) ∷ [] = map-range_with_len_more (λ k. Drawn (drawn_key words k)) 0 n n (omega arith) in
-    (told, ap (draws words) one ∙ more ∙ ap (λ (k : List ℕ). draws words n ++ Drawn k ∷ []) (sym (is (omega arith))))
+    let shown : nat_lt n (2 ^ 64 - 1) ≡ true = grind (arith, nat_tests) in
+    let more : draws words (n + 1) ≡ draws words n ++ Drawn (key_of_draw words n) ∷ [] = map-range_with_len_more (λ k. Drawn (key_of_draw words k)) 0 n n (omega arith) in
+    (shown, ap (draws words) one ∙ more ∙ ap (λ (k : List ℕ). draws words n ++ Drawn k ∷ []) (sym (is (omega arith))))

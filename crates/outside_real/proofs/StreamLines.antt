@@ -9,34 +9,34 @@ use Rattle.std.specs.List.{All}
 use Rattle.std.specs.Io.BufRead.{drop_through}
 use Rattle.relay_outside.specs.declared.answers.LineRead.TheVariants as read
 use Rattle.outside_real.specs.declared.lines.Stop.TheVariants as stop
-use Rattle.outside_real.specs.Lines.{from_next_line, line_of, GivesLine, ReadsLine, Filled}
+use Rattle.outside_real.specs.Lines.{from_next_line, first_line, GivesFirstLine, ReadsLine, Filled}
 
 -- bytes that are no line feed stand at the front of the line
-line_of-append : (front rest : List ℕ) → All (λ byte. byte ≢ 10) front → line_of (front ++ rest) ≡ front ++ line_of rest
+line_of-append : (front rest : List ℕ) → All (λ byte. byte ≢ 10) front → first_line (front ++ rest) ≡ front ++ first_line rest
 line_of-append [] rest none = refl
 line_of-append (x ∷ front) rest none =
     let other : not (x == 10) ≡ true = ap not (ne_eqb x 10 (All-head (λ byte. byte ≢ 10) x front none)) in
     take_while-cons (λ byte. not (byte == 10)) x (front ++ rest)
-    ∙ ap (λ (b : Bool). cond b (x ∷ line_of (front ++ rest)) []) other
+    ∙ ap (λ (b : Bool). cond b (x ∷ first_line (front ++ rest)) []) other
     ∙ ap (λ (l : List ℕ). x ∷ l) (line_of-append front rest (All-tail (λ byte. byte ≢ 10) x front none))
 
-line_of-fed : (rest : List ℕ) → line_of (10 ∷ rest) ≡ []
+line_of-fed : (rest : List ℕ) → first_line (10 ∷ rest) ≡ []
 line_of-fed rest = take_while-cons (λ byte. not (byte == 10)) 10 rest
 
 -- a line whose front stands in the buffer, and all of it where there is room for more
 module _ (bytes rest buf : List ℕ) (len : ℕ) (room : len ≤ length buf) (within : All (λ byte. byte ≢ 10) (take len buf)) (is : bytes ≡ take len buf ++ rest) where
-  line_is : line_of bytes ≡ take len buf ++ line_of rest
-  line_is = ap line_of is ∙ line_of-append (take len buf) rest within
+  line_is : first_line bytes ≡ take len buf ++ first_line rest
+  line_is = ap first_line is ∙ line_of-append (take len buf) rest within
 
-  long : length (line_of bytes) ≡ len + length (line_of rest)
-  long = ap length line_is ∙ length-append (take len buf) (line_of rest) ∙ ap (λ (n : ℕ). n + length (line_of rest)) (length-take-le len buf room)
+  long : length (first_line bytes) ≡ len + length (first_line rest)
+  long = ap length line_is ∙ length-append (take len buf) (first_line rest) ∙ ap (λ (n : ℕ). n + length (first_line rest)) (length-take-le len buf room)
 
-  pub cut_there : (len < length buf → length (line_of rest) ≡ 0) → len ≡ min (length (line_of bytes)) (length buf)
+  pub cut_there : (len < length buf → length (first_line rest) ≡ 0) → len ≡ min (length (first_line bytes)) (length buf)
   cut_there whole = grind (arith, long)
 
-  pub same_front : take len buf ≡ take len (line_of bytes)
+  pub same_front : take len buf ≡ take len (first_line bytes)
   same_front =
-      let front : take (length (take len buf)) (take len buf ++ line_of rest) ≡ take len buf = take-append_seam (take len buf) (line_of rest) in
+      let front : take (length (take len buf)) (take len buf ++ first_line rest) ≡ take len buf = take-append_seam (take len buf) (first_line rest) in
       rw (line_is) (sym (rw (length-take-le len buf room) at front))
 
   pub left_behind : drop_through 10 bytes ≡ drop_through 10 rest
@@ -45,7 +45,7 @@ module _ (bytes rest buf : List ℕ) (len : ℕ) (room : len ≤ length buf) (wi
   pub has_some : 0 < len + length rest → bytes ≢ []
   has_some some none = omega (arith, ap length (sym none ∙ is), length-append (take len buf) rest, length-take-le len buf room)
 
-  pub gives_text : (left : Option (List ℕ)) → 0 < len + length rest → (len < length buf → length (line_of rest) ≡ 0) → left ≡ Some (drop_through 10 rest) → GivesLine bytes left (read.Text len) buf
+  pub gives_text : (left : Option (List ℕ)) → 0 < len + length rest → (len < length buf → length (first_line rest) ≡ 0) → left ≡ Some (drop_through 10 rest) → GivesFirstLine bytes left (read.Text len) buf
   gives_text left some whole behind = (has_some some, cut_there whole, same_front, behind ∙ ap Some (sym left_behind))
 
 pub gives_fed : (before after : Option (List ℕ)) (len : ℕ) (buf : List ℕ) → Filled before after len stop.LineFeed buf → ReadsLine before (from_next_line false after) (read.Text len) buf

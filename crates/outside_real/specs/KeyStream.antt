@@ -4,7 +4,7 @@ use Rattle.std.specs.Prelude.{ℕ, ◌*◌, ◌-◌, ◌^◌, ◌++◌, nat_lt, 
 use Rattle.std.specs.Int.{to_le_bytes, w32, w64}
 use Rattle.std.specs.List.{flat_map, range_with_len}
 use Rattle.rand_chacha.specs.ChaCha.{key_of, word_at}
-use Rattle.relay_outside.specs.Told.{where_told}
+use Rattle.relay_outside.specs.DeviceLogs.{where_logged}
 use Rattle.relay_outside.specs.declared.keys.KeyCall.{KeyCall}
 use Rattle.relay_outside.specs.declared.keys.KeyCall.TheVariants.{Drawn}
 
@@ -31,13 +31,13 @@ stream_bytes seed_words i count =
     flat_map (λ j. to_le_bytes w32 (stream_word seed_words j)) (range_with_len i count)
 
 -- the master key and salt of draw n, from 0: the first thirty bytes of the words 8n to 8n + 7
-unfoldable pub drawn_key : List ℕ → ℕ → List ℕ
-drawn_key seed_words n = take 30 (stream_bytes seed_words (8 * n) 8)
+unfoldable pub key_of_draw : List ℕ → ℕ → List ℕ
+key_of_draw seed_words n = take 30 (stream_bytes seed_words (8 * n) 8)
 
 -- the first `count` draws
 abbrev pub draws : List ℕ → ℕ → List KeyCall
-draws seed_words count = map (λ n. Drawn (drawn_key seed_words n)) (range_with_len 0 count)
+draws seed_words count = map (λ n. Drawn (key_of_draw seed_words n)) (range_with_len 0 count)
 
 -- the draws, which are told as long as they are fewer than 2 ^ 64 - 1
-abbrev pub told_draws : KeyStream → Option (List KeyCall)
-told_draws keys = where_told (nat_lt keys.drawn (2 ^ 64 - 1)) (draws keys.seed_words keys.drawn)
+abbrev pub logged_draws : KeyStream → Option (List KeyCall)
+logged_draws keys = where_logged (nat_lt keys.drawn (2 ^ 64 - 1)) (draws keys.seed_words keys.drawn)

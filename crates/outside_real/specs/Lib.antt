@@ -1,3 +1,3 @@
 pub mod KeyStream
 pub mod Lines
-pub mod Written
+pub mod Streams

@@ -20,22 +20,22 @@ from_next_line true left = option_map (drop_through 10) left
 from_next_line false left = left
 
 -- the bytes before the first line feed, or all where there is none
-abbrev pub line_of : List ℕ → List ℕ
-line_of bytes = take_while (λ byte. not (byte == 10)) bytes
+abbrev pub first_line : List ℕ → List ℕ
+first_line bytes = take_while (λ byte. not (byte == 10)) bytes
 
 -- where these bytes are left, a read gives their first line, cut at the room of the buffer, and leaves what stands
 -- after its line feed; where no byte is left it gives the end
-abbrev pub GivesLine : List ℕ → Option (List ℕ) → LineRead → List ℕ → Type 0
-GivesLine bytes left read.End buf = (bytes ≡ []) × (left ≡ Some [])
-GivesLine bytes left (read.Text len) buf =
+abbrev pub GivesFirstLine : List ℕ → Option (List ℕ) → LineRead → List ℕ → Type 0
+GivesFirstLine bytes left read.End buf = (bytes ≡ []) × (left ≡ Some [])
+GivesFirstLine bytes left (read.Text len) buf =
     (bytes ≢ [])
-    × (len ≡ min (length (line_of bytes)) (length buf))
-    × (take len buf ≡ take len (line_of bytes))
+    × (len ≡ min (length (first_line bytes)) (length buf))
+    × (take len buf ≡ take len (first_line bytes))
     × (left ≡ Some (drop_through 10 bytes))
 
 -- the same, where it is known which bytes are left
 abbrev pub ReadsLine : Option (List ℕ) → Option (List ℕ) → LineRead → List ℕ → Type 0
-ReadsLine before after answer buf = IfSome before (λ bytes. GivesLine bytes after answer buf)
+ReadsLine before after answer buf = IfSome before (λ bytes. GivesFirstLine bytes after answer buf)
 
 -- a stream gives its next byte, and none where it has no byte left
 abbrev pub GivesByte : Option (List ℕ) → Option (List ℕ) → Option ℕ → Type 0

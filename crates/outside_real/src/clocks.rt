@@ -34,7 +34,7 @@ impl<'a, R: rt::Clock> SystemTimer<'a, R> {
 impl<'a, R: rt::Clock> Timer for SystemTimer<'a, R> {
     ghost use Rattle.std.specs.Prelude.{None};
 
-    ghost told = { λ timer. None };
+    ghost log = { λ timer. None };
 
     fn now(&mut self) -> u64 {
         millis_since(self.clock, &self.start)

@@ -1,5 +1,5 @@
 ghost use Rattle.std.specs.Prelude.{◌≡◌, ◌≤◌};
-ghost use Rattle.relay_outside.specs.Told.{Rose};
+ghost use Rattle.relay_outside.specs.DeviceLogs.{Rose};
 ghost use Rattle.relay_outside.specs.Failures.{next_count};
 
 use relay_outside::Failed;

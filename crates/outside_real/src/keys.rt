@@ -68,20 +68,20 @@ fn bytes_of_seed(seed: u64) -> [u8; 32]
 
 impl KeySource for ChaChaKeys {
     ghost use Rattle.std.specs.Prelude.{◌≡◌, ◌-◌, ◌^◌, ◌<◌, IfOk, IsOk};
-    ghost use Rattle.relay_outside.specs.Told.{Gains, HasCause};
+    ghost use Rattle.relay_outside.specs.DeviceLogs.{Gains, HasCause};
     ghost use Rattle.relay_outside.specs.Keys.{drawn_as};
     ghost use Rattle.relay_outside.specs.Failures.{next_count};
-    ghost use Rattle.outside_real.specs.KeyStream.{drawn_key, told_draws};
+    ghost use Rattle.outside_real.specs.KeyStream.{key_of_draw, logged_draws};
 
-    ghost told = { told_draws };
+    ghost log = { logged_draws };
 
     ghost faults = { λ keys. 0 };
 
     fn draw(&mut self) -> Result<KeyAndSalt, Failed>
-        ensures told { Gains (told_draws self.old) (told_draws self.new) (drawn_as result) }
+        ensures log { Gains (logged_draws self.old) (logged_draws self.new) (drawn_as result) }
         ensures cause { HasCause 0 0 result }
         ensures done { IsOk result }
-        ensures key { self.old.drawn < 2 ^ 64 - 1 → IfOk result (λ key. key ≡ drawn_key self.old.seed_words self.old.drawn) }
+        ensures key { self.old.drawn < 2 ^ 64 - 1 → IfOk result (λ key. key ≡ key_of_draw self.old.seed_words self.old.drawn) }
         ensures counted { self.new ≡ record self.old { drawn = next_count self.old.drawn } }
     {
         let mut key = [0; 30];

@@ -129,17 +129,17 @@ impl<R: BufRead + Drop> StdLines<R> {
 
 impl<R: BufRead + Drop> LineSource for StdLines<R> {
     ghost use Rattle.std.specs.Prelude.{None, IfOk, length};
-    ghost use Rattle.relay_outside.specs.Told.{Gains, HasCause};
+    ghost use Rattle.relay_outside.specs.DeviceLogs.{Gains, HasCause};
     ghost use Rattle.relay_outside.specs.Lines.{FitsLine, line_given};
     ghost use Rattle.outside_real.specs.Lines.{ReadsLine};
 
-    ghost told = { λ lines. None };
+    ghost log = { λ lines. None };
 
     ghost faults = { λ lines. lines.faults };
 
     fn line(&mut self, buf: &mut [u8]) -> Result<LineRead, Failed>
         ensures within { FitsLine result (length buf.old) }
-        ensures told { Gains None None (LineCall.Line (length buf.old) (line_given result buf.new)) }
+        ensures log { Gains None None (LineCall.Line (length buf.old) (line_given result buf.new)) }
         ensures cause { HasCause self.old.faults self.new.faults result }
         ensures gives { IfOk result (λ answer. ReadsLine self.old.bytes self.new.bytes answer buf.new) }
     {

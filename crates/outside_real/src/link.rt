@@ -132,7 +132,7 @@ fn announce(err: &impl Eprint, socket: &UdpSocket, at: Addr) {
 impl<'a, R: Net + Eprint> ControlLink for UdpLink<'a, R> {
     ghost use Rattle.std.specs.Prelude.{None};
 
-    ghost told = { λ link. None };
+    ghost log = { λ link. None };
 
     ghost faults = { λ link. link.faults };
 

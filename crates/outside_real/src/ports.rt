@@ -25,7 +25,7 @@ pub struct UdpIn {
 impl InEnd for UdpIn {
     ghost use Rattle.std.specs.Prelude.{None};
 
-    ghost told = { λ end. record { at = end.at; calls = None } };
+    ghost log = { λ end. record { at = end.at; calls = None } };
 
     ghost faults = { λ end. end.faults };
 
@@ -55,7 +55,7 @@ pub struct UdpOut {
 impl OutEnd for UdpOut {
     ghost use Rattle.std.specs.Prelude.{None};
 
-    ghost told = { λ end. record { at = end.at; calls = None } };
+    ghost log = { λ end. record { at = end.at; calls = None } };
 
     ghost faults = { λ end. end.faults };
 
@@ -121,7 +121,7 @@ impl<'a, R: Net> PortMaker for UdpMaker<'a, R> {
 
     ghost use Rattle.std.specs.Prelude.{None};
 
-    ghost told = { λ maker. None };
+    ghost log = { λ maker. None };
 
     ghost faults = { λ maker. maker.faults };
 

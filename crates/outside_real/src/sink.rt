@@ -13,7 +13,7 @@ pub struct StdSink<W: Write + Drop> {
 }
 
 impl<W: Write + Drop> Model for StdSink<W> {
-    ghost use Rattle.outside_real.specs.Written.{Written};
+    ghost use Rattle.outside_real.specs.Streams.{Written};
 
     ghost Value = { Written };
 
@@ -35,14 +35,14 @@ impl<W: Write + Drop> StdSink<W> {
 impl<W: Write + Drop> LineSink for StdSink<W> {
     ghost use Rattle.std.specs.Prelude.{None, OnOk};
     ghost use Rattle.std.specs.Io.KnownBytes.{Appends};
-    ghost use Rattle.relay_outside.specs.Told.{Gains, HasCause, is_done};
+    ghost use Rattle.relay_outside.specs.DeviceLogs.{Gains, HasCause, is_done};
 
-    ghost told = { λ sink. None };
+    ghost log = { λ sink. None };
 
     ghost faults = { λ sink. sink.faults };
 
     fn write(&mut self, line: &[u8]) -> Result<(), Failed>
-        ensures told { Gains None None (WriteCall.Write line.now (is_done result)) }
+        ensures log { Gains None None (WriteCall.Write line.now (is_done result)) }
         ensures cause { HasCause self.old.faults self.new.faults result }
         ensures written { OnOk result (Appends self.old.bytes self.new.bytes line.now) }
     {

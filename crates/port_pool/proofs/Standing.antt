@@ -5,10 +5,10 @@ use Rattle.std.proofs.lemmas.List.{get_or-set_same, get_or-set_other, get_or-rep
 use Rattle.relay_outside.specs.declared.settings.Config.{Config}
 use Rattle.histories.specs.Words.{numbers}
 use Rattle.port_pool.specs.Ports.{pair_count}
-use Rattle.port_pool.specs.Pools.{Pairs, IsFresh, StandsFor, after_return}
+use Rattle.port_pool.specs.Pools.{Pairs, IsFresh, PoolStandsFor, after_return}
 
 -- a new pool: all pairs are free, upwards, and none was leased
-pub fresh_stands : (config : Config) (pool : Pairs) → IsFresh config pool → StandsFor config (numbers 0 (pair_count config)) (λ pair. 0) pool
+pub fresh_stands : (config : Config) (pool : Pairs) → IsFresh config pool → PoolStandsFor config (numbers 0 (pair_count config)) (λ pair. 0) pool
 fresh_stands config pool fresh = record {
   first_is = fresh.first_is;
   count_is = ap length fresh.none_leased ∙ length-replicate (pair_count config) 0;
@@ -27,8 +27,8 @@ leased_by generations leases pair other false is within last there =
     get_or-set_other generations pair other (slice_index_or generations pair 0 + 1) 0 (λ e. eqb-false pair other is (sym e)) ∙ there
 
 -- a return: the pair stands after the others that are free
-pub returned_stands : (config : Config) (free : List ℕ) (leases : ℕ → ℕ) (pool : Pairs) (pair : ℕ) → StandsFor config free leases pool
-    → StandsFor config (free ++ pair ∷ []) leases (after_return pool pair)
+pub returned_stands : (config : Config) (free : List ℕ) (leases : ℕ → ℕ) (pool : Pairs) (pair : ℕ) → PoolStandsFor config free leases pool
+    → PoolStandsFor config (free ++ pair ∷ []) leases (after_return pool pair)
 returned_stands config free leases pool pair stands = record {
   first_is = stands.first_is;
   count_is = stands.count_is;
@@ -37,9 +37,9 @@ returned_stands config free leases pool pair stands = record {
 }
 
 -- the same numbers of leases, told in another way
-pub stands_alike : (config : Config) (free : List ℕ) (leases told : ℕ → ℕ) (pool : Pairs) → StandsFor config free leases pool
-    → ((pair : ℕ) → pair < pair_count config → leases pair ≡ told pair) → StandsFor config free told pool
-stands_alike config free leases told pool stands alike = record {
+pub stands_alike : (config : Config) (free : List ℕ) (leases log : ℕ → ℕ) (pool : Pairs) → PoolStandsFor config free leases pool
+    → ((pair : ℕ) → pair < pair_count config → leases pair ≡ log pair) → PoolStandsFor config free log pool
+stands_alike config free leases log pool stands alike = record {
   first_is = stands.first_is;
   count_is = stands.count_is;
   free_is = stands.free_is;

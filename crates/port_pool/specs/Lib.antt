@@ -4,6 +4,6 @@ pub mod Reports
 pub mod Ports
 pub mod Pools
 pub mod Leases
-pub mod Taking
+pub mod Takes
 pub mod PairBoxes
 pub mod LeaseLists

@@ -11,9 +11,9 @@ module _ {I : Type 0} where
   holder_of None = None
   holder_of (Some opened) = Some opened.holder
 
-  abbrev pub ends_of : Option (Opened I) → Option (I × I)
-  ends_of None = None
-  ends_of (Some opened) = Some (opened.rtp, opened.rtcp)
+  abbrev pub pair_ends : Option (Opened I) → Option (I × I)
+  pair_ends None = None
+  pair_ends (Some opened) = Some (opened.rtp, opened.rtcp)
 
   -- the leg that holds the box, where it is open
   abbrev pub holder_in : PairBox I → Option Holder
@@ -21,7 +21,7 @@ module _ {I : Type 0} where
 
   -- the ends for RTP and for RTCP, where it is open
   abbrev pub ends_in : PairBox I → Option (I × I)
-  ends_in box = ends_of box.opened
+  ends_in box = pair_ends box.opened
 
   -- the address of the pair's port for RTP
   abbrev pub at_of : PairBox I → Addr

@@ -34,12 +34,12 @@ abbrev pub after_return : Pairs → ℕ → Pairs
 after_return pool pair = record { first_port = pool.first_port; free = pool.free ++ pair ∷ []; generations = pool.generations }
 
 -- The pool stands for this queue and these numbers of leases, over the ports of the configuration.
-pub record StandsFor (config : Config) (free : List ℕ) (leases : ℕ → ℕ) (pool : Pairs) : Type 0 where
+pub record PoolStandsFor (config : Config) (free : List ℕ) (leases : ℕ → ℕ) (pool : Pairs) : Type 0 where
   pub first_is : pool.first_port ≡ first_port config
   pub count_is : length pool.generations ≡ pair_count config
   pub free_is : pool.free ≡ free
   pub leases_are : (pair : ℕ) → pair < pair_count config → generation pool pair ≡ leases pair
 
 -- one lease of the pair more
-abbrev pub one_more : (ℕ → ℕ) → ℕ → ℕ → ℕ
-one_more leases pair other = if pair == other then leases other + 1 else leases other
+abbrev pub one_lease_more : (ℕ → ℕ) → ℕ → ℕ → ℕ
+one_lease_more leases pair other = if pair == other then leases other + 1 else leases other

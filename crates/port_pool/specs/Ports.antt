@@ -7,7 +7,7 @@ use Rattle.relay_outside.specs.declared.address.Ip.{Ip}
 use Rattle.relay_outside.specs.declared.settings.Config.{Config}
 pub use Rattle.relay_outside.specs.Settings.{first_port}
 unfoldable pub use Rattle.relay_outside.specs.Settings.{pair_count}
-use Rattle.relay_outside.specs.Told.{EndTold}
+use Rattle.relay_outside.specs.DeviceLogs.{EndLog}
 
 -- the even port of a pair, which takes RTP (RFC 3550 section 11)
 abbrev pub pair_port : Config → ℕ → ℕ
@@ -31,6 +31,6 @@ abbrev pub rtcp_address : Addr → Addr
 rtcp_address at = port_at at.ip (at.port + 1)
 
 -- the two ends, for RTP and for RTCP, were opened for the ports of the pair whose port for RTP has this address
-pub record AreOfPair {E C : Type 0} (told : E → EndTold C) (at : Addr) (rtp rtcp : E) : Type 0 where
-  pub rtp_at : (told rtp).at ≡ at
-  pub rtcp_at : (told rtcp).at ≡ rtcp_address at
+pub record AreOfPair {E C : Type 0} (log : E → EndLog C) (at : Addr) (rtp rtcp : E) : Type 0 where
+  pub rtp_at : (log rtp).at ≡ at
+  pub rtcp_at : (log rtcp).at ≡ rtcp_address at

@@ -1,6 +1,6 @@
 ghost use Rattle.std.specs.Prelude.{◌≡◌, ◌≤◌, ◌↔◌, [], ◌∷◌, List, Some, None, IsSome};
 ghost use Rattle.port_pool.specs.Boxes.{BoxEvent, Open, Take, Close, FitsTaken, FitsBox};
-ghost use Rattle.port_pool.specs.Taking.{taken_of, IsTaken, IsTakenFrom, EndsTaken};
+ghost use Rattle.port_pool.specs.Takes.{taken_within, IsTaken, IsTakenFrom, EndsTaken};
 ghost use Rattle.port_pool.specs.PairBoxes.{holder_in, ends_in, at_of, cells_of, BoxFor};
 
 use crate::holder::Holder;
@@ -62,8 +62,8 @@ pub struct PairBox<I> {
 
 /// Takes one datagram of an end, for the leg that holds its pair.
 fn take_from<I: InEnd>(end: &mut I, holder: Holder, buf: &mut TakeBuffer) -> BoxTake
-    ensures fits { FitsTaken (Some holder) (taken_of result buf.new) }
-    ensures end { IsTaken I.told I.faults end.old end.new (taken_of result buf.new) }
+    ensures fits { FitsTaken (Some holder) (taken_within result buf.new) }
+    ensures end { IsTaken I.log I.faults end.old end.new (taken_within result buf.new) }
 {
     match end.take(buf) {
         Ok(Some((source, len))) => {
@@ -85,9 +85,9 @@ fn take_from<I: InEnd>(end: &mut I, holder: Holder, buf: &mut TakeBuffer) -> Box
 impl<I: InEnd> Opened<I> {
     /// Takes one datagram of the end of a half.
     fn take(&mut self, half: Half, buf: &mut TakeBuffer) -> BoxTake
-        ensures fits { FitsTaken (Some self.old.holder) (taken_of result buf.new) }
+        ensures fits { FitsTaken (Some self.old.holder) (taken_within result buf.new) }
         ensures holder { self.new.holder ≡ self.old.holder }
-        ensures ends { IsTakenFrom I.told I.faults half (self.old.rtp, self.old.rtcp) (self.new.rtp, self.new.rtcp) (taken_of result buf.new) }
+        ensures ends { IsTakenFrom I.log I.faults half (self.old.rtp, self.old.rtcp) (self.new.rtp, self.new.rtcp) (taken_within result buf.new) }
     {
         match half {
             Half::Rtp => take_from(&mut self.rtp, self.holder, buf),
@@ -135,8 +135,8 @@ impl<I: InEnd> PairBox<I> {
     /// Takes one datagram of the end of a half, into the front of the buffer. A closed box asks no end.
     pub fn take(&mut self, half: Half, buf: &mut TakeBuffer) -> BoxTake
         ensures history { (h : List BoxEvent) → BoxFor self.old h →
-            FitsBox h (Take half (taken_of result buf.new)) × BoxFor self.new (Take half (taken_of result buf.new) ∷ h) }
-        ensures ends { EndsTaken I.told I.faults half (ends_in self.old) (ends_in self.new) (taken_of result buf.new) }
+            FitsBox h (Take half (taken_within result buf.new)) × BoxFor self.new (Take half (taken_within result buf.new) ∷ h) }
+        ensures ends { EndsTaken I.log I.faults half (ends_in self.old) (ends_in self.new) (taken_within result buf.new) }
         ensures cells { cells_of self.new ≡ cells_of self.old }
         ensures at { at_of self.new ≡ at_of self.old }
     {

@@ -5,7 +5,7 @@
 //! `sections` for all, and `reports` what is told of legs.
 //!
 //! `specs/Pools.antt` says what a pool holds, `specs/Ports.antt` has the ports of a pair, `specs/Boxes.antt` the history of
-//! a box and `specs/Taking.antt` what a take tells of it, `specs/Signals.antt` the questions to a signal, `specs/Reports.antt`
+//! a box and `specs/Takes.antt` what a take tells of it, `specs/Signals.antt` the questions to a signal, `specs/Reports.antt`
 //! that the counts of a report fit.
 #![tactic(auto)]
 

@@ -42,15 +42,15 @@ impl Model for LegReports {
 
     ghost Value = { List LegReport };
 
-    ghost view = { λ told. told.reports.items };
+    ghost view = { λ all. all.reports.items };
 
-    ghost invariant = { λ told. 16 ≤ vec_capacity told.reports };
+    ghost invariant = { λ all. 16 ≤ vec_capacity all.reports };
 }
 
 impl LegReports {
     /// An empty list with capacity for 16 reports.
     pub fn new(alloc: Global) -> Result<LegReports, OutOfMemory>
-        ensures { IfOk result (λ told. told ≡ []) }
+        ensures { IfOk result (λ all. all ≡ []) }
     {
         let reports = Vec::with_capacity(alloc, MOST_LEGS)?;
         Ok(LegReports { reports })

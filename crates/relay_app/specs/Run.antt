@@ -11,20 +11,20 @@ use Rattle.command_line.specs.declared.settings.LoadSettings.{LoadSettings}
 use Rattle.relay_outside.specs.declared.lines.LineCall.{LineCall}
 use Rattle.replay_steps.specs.declared.ended.Ended.{Ended}
 use Rattle.replay_steps.specs.declared.ended.Ended.TheVariants as ended
-use Rattle.replay_steps.specs.Written.{Replays}
+use Rattle.replay_steps.specs.Output.{Replays}
 use Rattle.relay_runs.specs.Loads.{IsLoaded}
 use Rattle.relay_runs.specs.Run.{is_printed, IsServed}
 
 -- a line was written with this answer, or with success, and then, with this answer, a text
-abbrev pub TellsLine : (line : List ℕ) → Bool → List WriteCall → Type 0
-TellsLine line answer writes =
+abbrev pub PrintsLine : (line : List ℕ) → Bool → List WriteCall → Type 0
+PrintsLine line answer writes =
     (writes ≡ put.Write line answer ∷ [])
     ⊎ ((text : List ℕ) × (writes ≡ put.Write line true ∷ put.Write text answer ∷ []))
 
 -- the usage: a line, and then, where the reader of options refused the words, its text; nothing where it is out of memory
 abbrev pub PrintsUsage : Status → List WriteCall → Type 0
 PrintsUsage status.OutOfMemory writes = writes ≡ []
-PrintsUsage answer writes = (line : List ℕ) × TellsLine line (is_printed answer) writes × (starts_with nat_eq line (codes "usage: rtpengine") ≡ true)
+PrintsUsage answer writes = (line : List ℕ) × PrintsLine line (is_printed answer) writes × (starts_with nat_eq line (codes "usage: rtpengine") ≡ true)
 
 -- how a run of `replay` may end
 abbrev pub IsReplayed : Status → Type 0

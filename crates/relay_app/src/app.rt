@@ -1,11 +1,11 @@
 ghost use Rattle.std.specs.Prelude.{◌≡◌, None, map};
-ghost use Rattle.relay_outside.specs.Told.{Gained, Rose};
+ghost use Rattle.relay_outside.specs.DeviceLogs.{Gained, Rose};
 ghost use Rattle.command_line.specs.Words.{settings, replay_settings, load_settings};
 ghost use Rattle.relay_runs.specs.Loads.{Loads};
-ghost use Rattle.relay_runs.specs.Run.{Serves, TellsNone};
+ghost use Rattle.relay_runs.specs.Run.{Serves, LogsNone};
 ghost use Rattle.relay_app.specs.Run.{PrintsUsage, StatusByWords, ReplayedBy, AreOfReplay};
 
-use crate::replaying::replay_script;
+use crate::replay_command::replay_script;
 use crate::usage::print_usage;
 use command_line::{Refusal, Task, read_words};
 use relay_outside::{Clock, ControlLink, Gate, KeySource, LineSink, LineSource, PortMaker, Timer};
@@ -62,33 +62,33 @@ where
     G: Gate + Sync,
     S: LineSource,
     O: LineSink,
-    requires open { TellsNone (settings (map (λ word. word.now) words.now)) (P.told ports.old) }
+    requires open { LogsNone (settings (map (λ word. word.now) words.now)) (P.log ports.old) }
     ensures served { Serves (settings (map (λ word. word.now) words.now)) (C.range clock.now) (G.passed gate.now)
         (record {
-          link = N.told control.old;
-          link_now = N.told control.new;
-          timer = T.told timer.old;
-          timer_now = T.told timer.new;
-          opened = P.told ports.old;
-          opened_now = P.told ports.new;
-          drew = K.told keys.old;
-          drew_now = K.told keys.new;
+          link = N.log control.old;
+          link_now = N.log control.new;
+          timer = T.log timer.old;
+          timer_now = T.log timer.new;
+          opened = P.log ports.old;
+          opened_now = P.log ports.new;
+          drew = K.log keys.old;
+          drew_now = K.log keys.new;
           port_faults = P.faults ports.old;
           port_faults_now = P.faults ports.new;
           key_faults = K.faults keys.old;
           key_faults_now = K.faults keys.new;
         })
-        (O.told out.old) (O.told out.new) result }
-    ensures usage { settings (map (λ word. word.now) words.now) ≡ None → replay_settings (map (λ word. word.now) words.now) ≡ None → load_settings (map (λ word. word.now) words.now) ≡ None → Gained (O.told out.old) (O.told out.new) (PrintsUsage result) }
+        (O.log out.old) (O.log out.new) result }
+    ensures usage { settings (map (λ word. word.now) words.now) ≡ None → replay_settings (map (λ word. word.now) words.now) ≡ None → load_settings (map (λ word. word.now) words.now) ≡ None → Gained (O.log out.old) (O.log out.new) (PrintsUsage result) }
     ensures status { StatusByWords (settings (map (λ word. word.now) words.now)) (replay_settings (map (λ word. word.now) words.now)) (load_settings (map (λ word. word.now) words.now)) result }
-    ensures replayed { ReplayedBy (settings (map (λ word. word.now) words.now)) (replay_settings (map (λ word. word.now) words.now)) result (S.told script.old) (S.told script.new) (O.told out.old) (O.told out.new) }
-    ensures loads { Loads (load_settings (map (λ word. word.now) words.now)) (G.passed gate.now) (O.told out.old) (O.told out.new) result }
+    ensures replayed { ReplayedBy (settings (map (λ word. word.now) words.now)) (replay_settings (map (λ word. word.now) words.now)) result (S.log script.old) (S.log script.new) (O.log out.old) (O.log out.new) }
+    ensures loads { Loads (load_settings (map (λ word. word.now) words.now)) (G.passed gate.now) (O.log out.old) (O.log out.new) result }
     ensures control_fault { result ≡ Status.ControlFault → Rose (N.faults control.old) (N.faults control.new) }
     ensures print_fault { result ≡ Status.PrintFault → Rose (O.faults out.old) (O.faults out.new) }
     ensures script_read { result ≡ Status.ScriptRead → Rose (S.faults script.old) (S.faults script.new) }
     ensures memory { result ≡ Status.OutOfMemory → (AreOfReplay (settings (map (λ word. word.now) words.now)) (replay_settings (map (λ word. word.now) words.now)) → ⊥)
         → (control.new ≡ control.old) × (ports.new ≡ ports.old) × (keys.new ≡ keys.old) × (timer.new ≡ timer.old) × (out.new ≡ out.old) }
-    ensures shut { TellsNone (settings (map (λ word. word.now) words.now)) (P.told ports.new) }
+    ensures shut { LogsNone (settings (map (λ word. word.now) words.now)) (P.log ports.new) }
     ensures unasked { settings (map (λ word. word.now) words.now) ≡ None → (control.new ≡ control.old) × (timer.new ≡ timer.old) × (ports.new ≡ ports.old) × (keys.new ≡ keys.old) }
     ensures unused { (AreOfReplay (settings (map (λ word. word.now) words.now)) (replay_settings (map (λ word. word.now) words.now)) → ⊥) → script.new ≡ script.old }
 {

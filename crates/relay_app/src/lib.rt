@@ -4,7 +4,7 @@
 #![tactic(auto)]
 
 mod app;
-mod replaying;
+mod replay_command;
 mod usage;
 
 pub use app::run;

@@ -1,5 +1,5 @@
 ghost use Rattle.std.specs.Prelude.{◌≡◌, ◌≢◌, ◌≤◌, None, true};
-ghost use Rattle.relay_outside.specs.Told.{Gained, Rose};
+ghost use Rattle.relay_outside.specs.DeviceLogs.{Gained, Rose};
 ghost use Rattle.command_line.specs.Refusals.{begins_usage};
 ghost use Rattle.relay_app.specs.Run.{PrintsUsage, StatusByWords};
 
@@ -11,8 +11,8 @@ use relay_runs::Status;
 pub(crate) fn print_usage<O: LineSink>(usage: &Usage, out: &mut O) -> Status
     requires begins { begins_usage usage.now.line.bytes.items ≡ true }
     ensures status { StatusByWords None None None result }
-    ensures told { result ≢ Status.OutOfMemory }
-    ensures printed { Gained (O.told out.old) (O.told out.new) (PrintsUsage result) }
+    ensures log { result ≢ Status.OutOfMemory }
+    ensures printed { Gained (O.log out.old) (O.log out.new) (PrintsUsage result) }
     ensures later { O.faults out.old ≤ O.faults out.new }
     ensures print_fault { result ≡ Status.PrintFault → Rose (O.faults out.old) (O.faults out.new) }
     ensures script_read { result ≢ Status.ScriptRead }

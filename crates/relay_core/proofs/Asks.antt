@@ -6,10 +6,10 @@ use Rattle.std.specs.List.{list_any}
 use Rattle.relay_outside.specs.declared.settings.Config.{Config}
 use Rattle.ng_bencode.specs.Tree.{Entries}
 use Rattle.sdp_text.specs.Lines.{lines_of}
-use Rattle.sdp_text.specs.Reading.{fault_in, v6_line_in}
+use Rattle.sdp_text.specs.Descriptions.{fault_in, v6_line_in}
 use Rattle.sdp_text.specs.declared.fault.SdpFault.{SdpFault}
-use Rattle.ng_command.specs.Said as said
-use Rattle.ng_command.specs.Said.{Said}
+use Rattle.ng_command.specs.Meanings as said
+use Rattle.ng_command.specs.Meanings.{Said}
 use Rattle.ng_command.specs.declared.command.Options.{Options}
 use Rattle.ng_reply.specs.declared.code.ErrorCode.{ErrorCode}
 use Rattle.ng_reply.specs.declared.code.ErrorCode.TheVariants.{E9, E10, E13, E14, E17}
@@ -22,10 +22,10 @@ use Rattle.call_board.specs.Acts as act
 use Rattle.call_board.specs.Acts.{Call, Act, Given, Control, BoardEvent, Turn, Tick, Stop, BoardEntry}
 use Rattle.call_board.specs.Calls.{live, find_call, new_call, rounds, rounds_of_call}
 use Rattle.call_board.specs.Pairs.{free_in, is_short}
-use Rattle.call_board.specs.Kept.{kept}
-use Rattle.call_board.specs.Asked.{asked, asked_by, command_in, sdp_error, description_error, unless, code_if, v6_error}
+use Rattle.call_board.specs.KeptReplies.{kept_reply}
+use Rattle.call_board.specs.Requests.{asked, asked_by, command_in, sdp_error, description_error, unless, code_if, v6_error}
 use Rattle.call_board.specs.Replies.{Fault, Done, reply_datagram}
-use Rattle.call_board.specs.Answers.{failing, offer_ask, answer_ask, leased_pairs, offer_leased, offer_unless, offer_to, answer_unless, answer_to, delete_of, missing, names_side, query_of, answering_command, answering_asked, answering, answering_unless, spelled, Answered}
+use Rattle.call_board.specs.Answers.{failing, offer_ask, answer_ask, leased_pairs, offer_leased, offer_unless, offer_to, answer_unless, answer_to, delete_of, nothing_to_end, names_side, query_of, answering_command, answering_asked, answering, answering_unless, spelled, Answered}
 use Rattle.call_board.specs.Fits.{FitsControl}
 use Rattle.call_board.proofs.Tells.{leased_case}
 
@@ -144,13 +144,13 @@ to_no_answer config h given id ask (Some of) = unless_no_answer config h given a
 
 -- Deletes and queries are neither.
 
-missing_neither : (fatal : Bool) (code : ErrorCode) → (offer_in (missing fatal code).act ≡ None) × (answer_in (missing fatal code).act ≡ None)
+missing_neither : (fatal : Bool) (code : ErrorCode) → (offer_in (nothing_to_end fatal code).act ≡ None) × (answer_in (nothing_to_end fatal code).act ≡ None)
 missing_neither true code = (refl, refl)
 missing_neither false code = (refl, refl)
 
 named_neither : (names fatal : Bool) (of : Call)
-    → (offer_in (cond names (record { reply = Done; act = act.Deleted of }) (missing fatal E10)).act ≡ None)
-    × (answer_in (cond names (record { reply = Done; act = act.Deleted of }) (missing fatal E10)).act ≡ None)
+    → (offer_in (cond names (record { reply = Done; act = act.Deleted of }) (nothing_to_end fatal E10)).act ≡ None)
+    × (answer_in (cond names (record { reply = Done; act = act.Deleted of }) (nothing_to_end fatal E10)).act ≡ None)
 named_neither true fatal of = (refl, refl)
 named_neither false fatal of = missing_neither fatal E10
 
@@ -262,7 +262,7 @@ kept_is f x config h c none also None q = out_of_memory_is f x config h c none c
 asks_it : {X : Type 0} (f : Act → Option X) (x : X) (config : Config) (h : List BoardEntry) (now : ℕ) (c : Control) → FitsControl config h now c → f act.OutOfMemory ≡ None
     → f act.Repeated ≡ None → f c.act ≡ Some x → f (answering config h c).act ≡ Some x
 asks_it f x config h now c fits none also q =
-    kept_is f x config h c none also (kept h c.source c.cookie now) (ap f (sym (ap (λ (a : Answered). a.act) fits.answers)) ∙ q)
+    kept_is f x config h c none also (kept_reply h c.source c.cookie now) (ap f (sym (ap (λ (a : Answered). a.act) fits.answers)) ∙ q)
 
 pub control_offers : (config : Config) (h : List BoardEntry) (now : ℕ) (c : Control) (o : act.Offer) → FitsControl config h now c → c.act ≡ act.Offered o
     → SaysOffer config h c (o.of, o.ask)

@@ -9,7 +9,7 @@ use Rattle.relay_core.specs.declared.part.Part.TheVariants as part
 use Rattle.relay_core.proofs.Turns.{filter_every}
 use Rattle.relay_outside.specs.declared.settings.Config.{Config}
 use Rattle.relay_core.specs.declared.part.Part.{Part}
-use Rattle.relay_core.specs.Beginning.{IsCell, IsBox, AreCells, AreBoxes, AddsCells, AddsBoxes, AreParts}
+use Rattle.relay_core.specs.FirstPlaces.{IsCell, IsBox, AreCells, AreBoxes, AddsCells, AddsBoxes, AreParts}
 
 nothing_behind : {A : Type 0} (xs : List A) → xs ++ [] ≡ xs
 nothing_behind [] = refl

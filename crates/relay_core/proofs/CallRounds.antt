@@ -17,9 +17,9 @@ use Rattle.call_cell.proofs.Joined.{map_map}
 use Rattle.call_board.specs.Acts as act
 use Rattle.call_board.specs.Acts.{Call, Act, Control, BoardEvent, Turn, BoardEntry}
 use Rattle.call_board.specs.Calls.{begun, begun_by_act, find_call, rounds, rounds_of_call, round_of}
-use Rattle.call_board.specs.Pairs.{next_generation, new_keys, drawn}
+use Rattle.call_board.specs.Pairs.{next_generation, drawn_keys_from, drawn}
 use Rattle.call_board.specs.Answers.{answer_ask}
-use Rattle.call_board.specs.Fits.{FitsBoard, FitsAt, FitsControl, IsFitting, Hears, HearsAnswer, is_heard}
+use Rattle.call_board.specs.Fits.{FitsBoard, FitsAt, FitsControl, IsFitting, ReadsRequest, ReadsAnswerOf, is_request_read}
 use Rattle.call_board.proofs.Moments.{now, after}
 use Rattle.call_board.proofs.Told.{IsTurn, IsCallOf, begins, goes_on, IsOffer}
 use Rattle.call_board.proofs.Tells.{offer_told, answer_told}
@@ -89,8 +89,8 @@ no_case config h x number good fits low rest (by_offer p q m s) =
     let below = begun_below config (x ∷ h) p.of (fits, good) (live_begun (x ∷ h) p.of (offered_live config h x p good fits q)) in
     absurd (omega (arith, below, low, m))
 no_case config h x number good fits low rest (by_answer a q m s) =
-    let told = answer_told config h x a fits q in
-    let below = begun_below config h a.of good (live_begun h a.of told.is_live) in
+    let shown = answer_told config h x a fits q in
+    let below = begun_below config h a.of good (live_begun h a.of shown.is_live) in
     let grows = begun_grows h x in
     absurd (omega (arith, below, low, m, grows))
 
@@ -112,7 +112,7 @@ its_rounds config h id of good (is_new q is) =
 abbrev turn_fits : (config : Config) (h : List BoardEntry) (x : BoardEntry) (a : Act) → FitsBoard config h x → (t : IsTurn x a) → FitsControl config h x.moment t.control
 turn_fits config h x a fits t = subst (λ (v : BoardEvent). FitsAt config h x.moment v) t.is_turn fits
 
-keys_placed : (n : ℕ) (draws : List (List ℕ)) (places : List KeyPlace) → length draws ≡ length places → map key_place (new_keys n draws places) ≡ places
+keys_placed : (n : ℕ) (draws : List (List ℕ)) (places : List KeyPlace) → length draws ≡ length places → map key_place (drawn_keys_from n draws places) ≡ places
 keys_placed n [] [] same = refl
 keys_placed n [] (place ∷ places) same = absurd (let e = same in omega (arith, e))
 keys_placed n (bytes ∷ draws) [] same = absurd (let e = same in omega (arith, e))
@@ -122,11 +122,11 @@ keys_placed n (bytes ∷ draws) (place ∷ places) same =
 as_pair : Place → ℕ × Side
 as_pair p = (p.section, p.side)
 
-legs_placed : (config : Config) (h : List BoardEntry) (x : BoardEntry) (p : act.Offer) → (told : IsOffer config h x p)
-    → map leg_place p.legs ≡ map new_leg_place told.demand.pairs
+legs_placed : (config : Config) (h : List BoardEntry) (x : BoardEntry) (p : act.Offer) → (shown : IsOffer config h x p)
+    → map leg_place p.legs ≡ map new_leg_place shown.demand.pairs
 unfolding as_pair
-legs_placed config h x p told =
-    sym (map_map as_pair of_leg p.legs) ∙ ap (λ (ps : List Place). map as_pair ps) (legs_demanded config h x p told) ∙ map_map as_pair of_new_leg told.demand.pairs
+legs_placed config h x p shown =
+    sym (map_map as_pair of_leg p.legs) ∙ ap (λ (ps : List Place). map as_pair ps) (legs_demanded config h x p shown) ∙ map_map as_pair of_new_leg shown.demand.pairs
 
 -- an accepted offer after the rounds of its call
 pub record IsRoundOf (config : Config) (h : List BoardEntry) (p : act.Offer) : Type 0 where
@@ -134,44 +134,44 @@ pub record IsRoundOf (config : Config) (h : List BoardEntry) (p : act.Offer) : T
   pub few : section_count p.ask.sdp ≤ most_sections
   pub dropped_are : p.dropped ≡ (plan.demand (rounds h p.of.number) p.ask).dropped
 
-pub told_call : (config : Config) (h : List BoardEntry) (x : BoardEntry) (p : act.Offer) → (told : IsOffer config h x p) → IsItsCall h told.id p.of
-told_call config h x p told = go told.call_is
+pub told_call : (config : Config) (h : List BoardEntry) (x : BoardEntry) (p : act.Offer) → (shown : IsOffer config h x p) → IsItsCall h shown.id p.of
+told_call config h x p shown = go shown.call_is
   where
-    go : IsCallOf config h told.id p → IsItsCall h told.id p.of
+    go : IsCallOf config h shown.id p → IsItsCall h shown.id p.of
     go (begins b new nothing room) = is_new nothing new
     go (goes_on b found alive) = is_found found
 
 pub offer_round : (config : Config) (h : List BoardEntry) (x : BoardEntry) (p : act.Offer) → IsFitting config h → FitsBoard config h x → act.act x ≡ act.Offered p
     → IsRoundOf config h p
 offer_round config h x p good fits q =
-    let told = offer_told config h x p fits q in
-    let s = control_offers config h x.moment told.turn.control p (turn_fits config h x (act.Offered p) fits told.turn) told.turn.acts in
-    let demand_is : told.demand ≡ plan.demand (rounds h p.of.number) p.ask
-    = told.demand_is ∙ ap (λ (rs : List Round). plan.demand rs p.ask) (its_rounds config h told.id p.of good (told_call config h x p told)) in
-    let few = offers_few config told.turn.control.too_long told.turn.control.pairs s.id s.from_tag s.sdp s.options s.asks in
+    let shown = offer_told config h x p fits q in
+    let s = control_offers config h x.moment shown.turn.control p (turn_fits config h x (act.Offered p) fits shown.turn) shown.turn.acts in
+    let demand_is : shown.demand ≡ plan.demand (rounds h p.of.number) p.ask
+    = shown.demand_is ∙ ap (λ (rs : List Round). plan.demand rs p.ask) (its_rounds config h shown.id p.of good (told_call config h x p shown)) in
+    let few = offers_few config shown.turn.control.too_long shown.turn.control.pairs s.id s.from_tag s.sdp s.options s.asks in
     record {
       comes = record {
         no_fault = ap (λ (rs : List Round). plan.offer_fault rs p.ask) (sym (its_rounds config h s.id p.of good s.call_is)) ∙ s.no_fault;
-        leased = legs_placed config h x p told ∙ ap (λ (d : Demand). map new_leg_place d.pairs) demand_is;
-        drawn = ap (λ (ks : List NewKey). map key_place ks) told.keys_are
-            ∙ keys_placed (length (drawn h)) told.draws told.demand.keys told.as_many ∙ ap (λ (d : Demand). d.keys) demand_is;
+        leased = legs_placed config h x p shown ∙ ap (λ (d : Demand). map new_leg_place d.pairs) demand_is;
+        drawn = ap (λ (ks : List NewKey). map key_place ks) shown.keys_are
+            ∙ keys_placed (length (drawn h)) shown.draws shown.demand.keys shown.as_many ∙ ap (λ (d : Demand). d.keys) demand_is;
       };
       few = subst (λ (a : OfferAsk). section_count a.sdp ≤ most_sections) (sym s.ask_is) few;
-      dropped_are = told.dropped_are ∙ ap (λ (d : Demand). d.dropped) demand_is;
+      dropped_are = shown.dropped_are ∙ ap (λ (d : Demand). d.dropped) demand_is;
     }
 
 pub answer_round : (config : Config) (h : List BoardEntry) (x : BoardEntry) (a : act.Answer) → FitsBoard config h x → act.act x ≡ act.Answered a
     → IsAnswerRound (rounds h a.of.number) a.ask
 answer_round config h x a fits q =
-    let told = answer_told config h x a fits q in
-    let c = told.turn.control in
-    let control = turn_fits config h x (act.Answered a) fits told.turn in
-    let s = control_answers config h x.moment c a control told.turn.acts in
-    let heard = subst (λ r. Hears h c r) s.asks (control.hears (ap is_heard told.turn.acts)) in
-    let heard_found = subst (λ (o : Option Call). HearsAnswer h (answer_ask s.from_tag s.to_tag s.sdp s.options c.chosen) o) s.found heard in
+    let shown = answer_told config h x a fits q in
+    let c = shown.turn.control in
+    let control = turn_fits config h x (act.Answered a) fits shown.turn in
+    let s = control_answers config h x.moment c a control shown.turn.acts in
+    let heard = subst (λ r. ReadsRequest h c r) s.asks (control.hears (ap is_request_read shown.turn.acts)) in
+    let heard_found = subst (λ (o : Option Call). ReadsAnswerOf h (answer_ask s.from_tag s.to_tag s.sdp s.options c.chosen) o) s.found heard in
     record {
       no_fault = s.no_fault;
-      heard = subst (λ (k : AnswerAsk). plan.AnswerHeard (rounds h a.of.number) k) (sym s.ask_is) heard_found;
+      heard = subst (λ (k : AnswerAsk). plan.AnswerRead (rounds h a.of.number) k) (sym s.ask_is) heard_found;
     }
 
 -- Leases.

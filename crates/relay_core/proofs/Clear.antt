@@ -13,11 +13,11 @@ use Rattle.offer_answer.specs.Laws.{IsSecured}
 use Rattle.offer_answer.specs.Profiles.{is_srtp_leg, profile_offered}
 use Rattle.offer_answer.proofs.Committing.{secures_legs}
 use Rattle.call_cell.specs.Cells.{CellEntry, Receipt, Shield, Sending, Deed, Relay, Relayed, opposite, in_force, key_numbered}
-use Rattle.call_cell.specs.Keyed.{protected, Wrapped, Held, Leaves, lost_by, wrapped_rtp, wrapped_rtcp, wrapped_with, wrapped_under}
+use Rattle.call_cell.specs.Protection.{protected, Departure, Held, Leaves, lost_by, wrapped_rtp, wrapped_rtcp, wrapped_with, wrapped_under}
 use Rattle.call_cell.specs.declared.outcome.Lost.TheVariants as lost
 use Rattle.srtp_keys.specs.declared.faults.ProtectFault.{ProtectFault}
-use Rattle.srtp_context.specs.Wrapping as srtp_out
-use Rattle.srtcp_context.specs.Wrapping as srtcp_out
+use Rattle.srtp_context.specs.OutboundPackets as srtp_out
+use Rattle.srtcp_context.specs.OutboundPackets as srtcp_out
 use Rattle.call_cell.specs.Deeds.{deed, found, kind, wrapped_numbered, wrapped_towards}
 use Rattle.call_cell.proofs.Does.{Does, refuses, loses, leaves, does}
 use Rattle.call_cell.proofs.Legs.{found_is}
@@ -33,22 +33,22 @@ use Rattle.relay_core.proofs.Shields.{deed_is}
 
 -- Under a key nothing leaves without a shield.
 
-abbrev shield_of : Wrapped → Option Shield
+abbrev shield_of : Departure → Option Shield
 shield_of (Held cause) = None
 shield_of (Leaves shield bytes) = shield
 
 by_rtp : (number : ℕ) (bytes : List ℕ) (packet : Result srtp_out.Wrapped ProtectFault) → wrapped_rtp number packet ≡ Leaves None bytes → ⊥
-by_rtp number bytes (Ok wrapped) q = let k = ap (λ (w : Wrapped). shield_of w) q in absurd (cc)
+by_rtp number bytes (Ok wrapped) q = let k = ap (λ (w : Departure). shield_of w) q in absurd (cc)
 by_rtp number bytes (Err cause) q = absurd (let k : Held (lost_by cause) ≡ Leaves None bytes = q in cc)
 
 by_rtcp : (number : ℕ) (bytes : List ℕ) (packet : Result srtcp_out.Wrapped ProtectFault) → wrapped_rtcp number packet ≡ Leaves None bytes → ⊥
-by_rtcp number bytes (Ok wrapped) q = let k = ap (λ (w : Wrapped). shield_of w) q in absurd (cc)
+by_rtcp number bytes (Ok wrapped) q = let k = ap (λ (w : Departure). shield_of w) q in absurd (cc)
 by_rtcp number bytes (Err cause) q = absurd (let k : Held (lost_by cause) ≡ Leaves None bytes = q in cc)
 
 under_key : (key : NewKey) (notes : List Note) (half : Half) (plain bytes : List ℕ) → wrapped_under key notes half plain ≡ Leaves None bytes → ⊥
 unfolding wrapped_under
 under_key key notes Rtp plain bytes q = by_rtp key.number bytes (srtp_out.wrapping key.bytes key.suite notes plain) q
-under_key key notes Rtcp plain bytes q = by_rtcp key.number bytes (srtcp_out.wrapping key.bytes notes plain) q
+under_key key notes Rtcp plain bytes q = by_rtcp key.number bytes (srtcp_out.rtcp_wrapping key.bytes notes plain) q
 
 with_key : (key : Option NewKey) (notes : List Note) (half : Half) (plain bytes : List ℕ) → wrapped_with key notes half plain ≡ Leaves None bytes → ⊥
 with_key None notes half plain bytes q = let k : Held lost.KeySpent ≡ Leaves None bytes = q in absurd cc

@@ -13,7 +13,7 @@ use Rattle.turn_table.specs.Histories as table_lists
 use Rattle.turn_table.proofs.Lists.{below_in}
 use Rattle.histories.specs.Words.{In}
 use Rattle.relay_outside.specs.declared.address.Addr.{Addr}
-use Rattle.relay_outside.specs.Told.{EndTold}
+use Rattle.relay_outside.specs.DeviceLogs.{EndLog}
 use Rattle.rtp_packet.specs.declared.head.Half.{Half}
 use Rattle.port_pool.specs.declared.holder.Holder.{Holder}
 use Rattle.port_pool.specs.Boxes.{Take, Datagram, FitsTaken, holder}
@@ -21,15 +21,15 @@ use Rattle.relay_core.specs.declared.part.Part.{Part}
 use Rattle.relay_core.specs.Entries.{Event, Box, Entry, is_at, history, board_entry, cell_entry, box_event, box_history}
 use Rattle.call_board.specs.Acts.{BoardEntry}
 use Rattle.relay_core.specs.Legal.{is_handed_boards, Orderly, Legal}
-use Rattle.relay_core.specs.Made.{Made, entry_of, list_of, told}
-use Rattle.relay_core.specs.Recorded.{AreReturned}
+use Rattle.relay_core.specs.Records.{Made, entry_of, list_of, as_logged}
+use Rattle.relay_core.specs.ReturnedPairs.{AreReturned}
 use Rattle.relay_core.specs.Safe.{Safe}
-use Rattle.relay_core.specs.Beginning.{AreParts}
-use Rattle.relay_core.specs.Standing.{BringsNewKeys, Stands}
-use Rattle.relay_core.specs.Turning.{Numbered, IsAbove, IsReceiving}
-use Rattle.relay_core.specs.Handed.{IsHanded}
-use Rattle.relay_core.specs.Timed.{AreTimed}
-use Rattle.relay_core.specs.Joining.{TakesOwnPairs, IsSound, IsAtPlace, AreStanding}
+use Rattle.relay_core.specs.FirstPlaces.{AreParts}
+use Rattle.relay_core.specs.PlaceHistories.{BringsNewKeys, Stands}
+use Rattle.relay_core.specs.Turns.{Numbered, IsAbove, IsReceiving}
+use Rattle.relay_core.specs.NestedMoments.{IsHanded}
+use Rattle.relay_core.specs.RowMoments.{AreTimed}
+use Rattle.relay_core.specs.Joins.{TakesOwnPairs, IsSound, IsAtPlace, AreStanding}
 use Rattle.relay_core.proofs.Histories.{in_history, at_place}
 use Rattle.relay_core.proofs.Safety.{legal_safe}
 use Rattle.relay_core.proofs.Turns.{filter_every, filter_none, false_if}
@@ -46,7 +46,7 @@ use Rattle.relay_core.proofs.Filled as right
 use Rattle.relay_core.proofs.Filled.{legal_filled, filled_tells}
 use Rattle.relay_core.proofs.Placing.{step_at, begins_kind, begins_stands, kind_stays, IsPlaced, ArePlaced, IsRight, step_placed, step_right}
 
-module _ {T I O : Type 0} (it : I → EndTold InCall) (ic : I → ℕ) (ot : O → EndTold OutCall) (oc : O → ℕ) where
+module _ {T I O : Type 0} (it : I → EndLog InCall) (ic : I → ℕ) (ot : O → EndLog OutCall) (oc : O → ℕ) where
   -- of the place with this number, which began so, the rows have the whole history
   pub record IsWhole (rows : List (table.Entry Made T)) (k : ℕ) (a : Part I O) : Type 0 where
     pub past : List (table.Entry Made T)
@@ -61,7 +61,7 @@ module _ {T I O : Type 0} (it : I → EndTold InCall) (ic : I → ℕ) (ot : O �
 module _ {T I O : Type 0} where
   -- the rows stand at places that there are
   abbrev pub InRange : List (Part I O) → List (table.Entry Made T) → Type 0
-  InRange starts rows = (e : table.Entry Made T) → table_lists.In e rows → e.place < length starts
+  InRange starts rows = (e : table.Entry Made T) → table_lists.IsMemberOf e rows → e.place < length starts
 
 -- Each place and number stands once.
 
@@ -79,7 +79,7 @@ in_range [] k within = absurd (omega (arith, within))
 in_range (a ∷ starts) zero within = (a, refl)
 in_range (a ∷ starts) (suc k) within = in_range starts k (omega (arith, within))
 
-module _ {T I O : Type 0} (it : I → EndTold InCall) (ic : I → ℕ) (ot : O → EndTold OutCall) (oc : O → ℕ)
+module _ {T I O : Type 0} (it : I → EndLog InCall) (ic : I → ℕ) (ot : O → EndLog OutCall) (oc : O → ℕ)
     (starts : List (Part I O)) (rows : List (table.Entry Made T)) (range : InRange starts rows) (whole : AreWhole it ic ot oc starts rows) where
   -- where a row stands in the history of its place
   pub record Place (row : table.Entry Made T) : Type 0 where
@@ -89,14 +89,14 @@ module _ {T I O : Type 0} (it : I → EndTold InCall) (ic : I → ℕ) (ot : O �
     pub at : slice_get history_of.past row.number ≡ Some row
     pub within : row.number < length history_of.past
 
-  pub place_of : (row : table.Entry Made T) → table_lists.In row rows → Place row
+  pub place_of : (row : table.Entry Made T) → table_lists.IsMemberOf row rows → Place row
   place_of row i =
       let a = in_range starts row.place (range row i) in
       let w = whole row.place a.0 a.1 in
       let at = w.is.own row i refl in
       record { start = a.0; starts_so = a.1; history_of = w; at = at; within = slice_get_within w.past row.number row at }
 
-  numbered_row : (row : table.Entry Made T) → table_lists.In row rows → length (filter (is_at row.place row.number) (list_of rows)) ≡ 1
+  numbered_row : (row : table.Entry Made T) → table_lists.IsMemberOf row rows → length (filter (is_at row.place row.number) (list_of rows)) ≡ 1
   numbered_row row i =
       let p = place_of row i in
       count_is row.place row.number rows ∙ p.history_of.is.once row.number ∙ below_in row.number (length p.history_of.past) p.within
@@ -141,7 +141,7 @@ module _ {T I O : Type 0} (it : I → EndTold InCall) (ic : I → ℕ) (ot : O �
         (begins_kind config row.place p.start b, begins_stands config row.place p.start b)
 
     -- each row is of its place's kind
-    pub row_placed : (row : table.Entry Made T) → table_lists.In row rows → IsPlaced config row.place row.event.moment row.event.event
+    pub row_placed : (row : table.Entry Made T) → table_lists.IsMemberOf row rows → IsPlaced config row.place row.event.moment row.event.event
     row_placed row i =
         let p = place_of row i in
         let w = p.history_of in
@@ -169,7 +169,7 @@ module _ {T I O : Type 0} (it : I → EndTold InCall) (ic : I → ℕ) (ot : O �
         ∙ ap (λ (h : List Entry). entry_of row ∷ h) (past_is row.place p.start p.history_of row.number (omega (arith, within)))
 
     -- each row is what its place's history demands, at the moment that it was handed
-    row_right : (row : table.Entry Made T) → table_lists.In row rows
+    row_right : (row : table.Entry Made T) → table_lists.IsMemberOf row rows
         → IsRight config (history (list_of rows) row.place row.number) row.event row.event.event
     row_right row i =
         let p = place_of row i in
@@ -194,7 +194,7 @@ module _ {T I O : Type 0} (it : I → EndTold InCall) (ic : I → ℕ) (ot : O �
         (past_placed row.place row.number) (kind_stays it ic ot oc config row.place p.start s.old (take row.number w.past) s.before b.0)
 
     -- below each row no number of its place is left out
-    row_counted : (row : table.Entry Made T) → table_lists.In row rows → (i : ℕ) → i < row.number → counts.Stands (list_of rows) row.place i
+    row_counted : (row : table.Entry Made T) → table_lists.IsMemberOf row rows → (i : ℕ) → i < row.number → counts.Stands (list_of rows) row.place i
     row_counted row r i low =
         let p = place_of row r in
         let w = p.history_of in
@@ -204,7 +204,7 @@ module _ {T I O : Type 0} (it : I → EndTold InCall) (ic : I → ℕ) (ot : O �
         let named = w.is.named i x at in
         record { entry = entry_of x; is_in = rows_in rows (w.is.all i x at); at = named.0; number_is = named.1 }
 
-    row_made : IsHanded rows → (row : table.Entry Made T) → table_lists.In row rows → right.Made config (list_of rows) (entry_of row)
+    row_made : IsHanded rows → (row : table.Entry Made T) → table_lists.IsMemberOf row rows → right.Made config (list_of rows) (entry_of row)
     row_made handed row i =
         let r = row_right row i in
         record {
@@ -218,7 +218,7 @@ module _ {T I O : Type 0} (it : I → EndTold InCall) (ic : I → ℕ) (ot : O �
           };
         }
       where
-        of_board : (row : table.Entry Made T) → table_lists.In row rows → is_handed_boards row.event.event ≡ true → (b : Entry) → In b (list_of rows)
+        of_board : (row : table.Entry Made T) → table_lists.IsMemberOf row rows → is_handed_boards row.event.event ≡ true → (b : Entry) → In b (list_of rows)
             → b.place ≡ 0 → b.number ≡ row.event.board → row.event.handed ≡ b.moment
         of_board row i t b j p q =
             let x = in_rows rows j in
@@ -305,7 +305,7 @@ module _ {T I O : Type 0} (it : I → EndTold InCall) (ic : I → ℕ) (ot : O �
 
     -- the list that is recorded, filled in, is legal, and so safe
     pub closed_legal : IsReceiving config (list_of rows) → IsHanded rows
-        → (map told (filled_in config (list_of rows)) ≡ list_of rows) × Legal config (filled_in config (list_of rows)) × Safe config (filled_in config (list_of rows))
+        → (map as_logged (filled_in config (list_of rows)) ≡ list_of rows) × Legal config (filled_in config (list_of rows)) × Safe config (filled_in config (list_of rows))
     closed_legal receiving handed =
         let made : (e : Entry) → In e (list_of rows) → right.Made config (list_of rows) e
         = λ e i. let r = in_rows rows i in subst (λ (x : Entry). right.Made config (list_of rows) x) r.is (row_made handed r.row r.is_in) in
@@ -314,7 +314,7 @@ module _ {T I O : Type 0} (it : I → EndTold InCall) (ic : I → ℕ) (ot : O �
 
   -- so what is known of the main hand's rows, with those of lanes, makes them a legal list
   pub sound_legal : (config : Config) → AreParts config starts → IsSound config rows
-      → (map told (filled_in config (list_of rows)) ≡ list_of rows) × Legal config (filled_in config (list_of rows)) × Safe config (filled_in config (list_of rows))
+      → (map as_logged (filled_in config (list_of rows)) ≡ list_of rows) × Legal config (filled_in config (list_of rows)) × Safe config (filled_in config (list_of rows))
   sound_legal config are sound =
       let orderly = sound.orderly closed_numbered in
       let returned = sound.returned closed_numbered in
@@ -325,7 +325,7 @@ module _ {T I O : Type 0} (it : I → EndTold InCall) (ic : I → ℕ) (ot : O �
   sound_timed config are sound row i = (row_right config are (sound.orderly closed_numbered) (sound.returned closed_numbered) row i).1
 
 -- What the close returns says so of the rows.
-module _ {T I O : Type 0} (it : I → EndTold InCall) (ic : I → ℕ) (ot : O → EndTold OutCall) (oc : O → ℕ) where
+module _ {T I O : Type 0} (it : I → EndLog InCall) (ic : I → ℕ) (ot : O → EndLog OutCall) (oc : O → ℕ) where
   abbrev pub AreClosed : List (Part I O) → List (table.Entry Made T) → List (Part I O) → Type 0
   AreClosed starts rows states =
       (k : ℕ) (a : Part I O) → slice_get starts k ≡ Some a

@@ -6,7 +6,7 @@ use Rattle.relay_outside.specs.declared.ports.InCall.{InCall}
 use Rattle.relay_outside.specs.declared.ports.OutCall.{OutCall}
 use Rattle.relay_outside.specs.declared.settings.Config.{Config}
 use Rattle.relay_outside.specs.Ports.{joined}
-use Rattle.relay_outside.specs.Told.{EndTold, WhereTold}
+use Rattle.relay_outside.specs.DeviceLogs.{EndLog, WhereLogged}
 use Rattle.rtp_packet.specs.declared.head.Half.{Half}
 use Rattle.turn_table.specs.declared.machine.Entry as table
 use Rattle.turn_table.specs.Histories.{Leaves, Named}
@@ -16,17 +16,17 @@ use Rattle.histories.specs.Words.{In, here, there, Before, begins, goes_on}
 use Rattle.histories.proofs.Lists.{equal, equal_if, keeps}
 use Rattle.port_pool.specs.declared.boxes.Opened.{Opened}
 use Rattle.port_pool.specs.Boxes.{holder}
-use Rattle.port_pool.specs.PairBoxes.{ends_of, holder_of}
+use Rattle.port_pool.specs.PairBoxes.{pair_ends, holder_of}
 use Rattle.port_pool.specs.Ports.{pair_count}
 use Rattle.relay_core.specs.declared.part.Part.{Part}
 use Rattle.relay_core.specs.declared.part.Part.TheVariants as part
 use Rattle.relay_core.specs.Entries.{Entry, is_nested, is_at, history, box_event, box_history, box_of, front}
-use Rattle.relay_core.specs.Made.{Made, entry_of, list_of}
-use Rattle.relay_core.specs.Beginning.{AreParts, BeginsAs}
-use Rattle.relay_core.specs.Joining.{IsSound}
-use Rattle.relay_core.specs.Standing.{Stands, IsBoxPart}
-use Rattle.relay_core.specs.Turning.{Numbered, IsAbove}
-use Rattle.relay_core.specs.Told.{is_closing, in_left, ins_told, takes_of, takes_at, InOrder, InsAreTold}
+use Rattle.relay_core.specs.Records.{Made, entry_of, list_of}
+use Rattle.relay_core.specs.FirstPlaces.{AreParts, BeginsAs}
+use Rattle.relay_core.specs.Joins.{IsSound}
+use Rattle.relay_core.specs.PlaceHistories.{Stands, IsBoxPart}
+use Rattle.relay_core.specs.Turns.{Numbered, IsAbove}
+use Rattle.relay_core.specs.EndLogs.{is_closing, in_left, ins_logged, takes_of, takes_at, InOrder, InsAreTold}
 use Rattle.relay_core.proofs.Histories.{both, is_there}
 use Rattle.relay_core.proofs.Boxes.{below_front}
 use Rattle.relay_core.proofs.Own.{rows_in}
@@ -34,7 +34,7 @@ use Rattle.relay_core.proofs.Returning.{closing_nested}
 use Rattle.relay_core.proofs.Stays.{box_stays}
 use Rattle.relay_core.proofs.Given.{begins_as}
 use Rattle.relay_core.proofs.InsTold.{ins_of, calls_of, held, held_in, rows_tell, takes_are}
-use Rattle.relay_core.specs.Recorded.{AreReturned}
+use Rattle.relay_core.specs.ReturnedPairs.{AreReturned}
 use Rattle.relay_core.specs.Legal.{Orderly}
 use Rattle.relay_core.proofs.Closed.{IsWhole, AreWhole, InRange, in_range, closed_numbered, whole_past, closed_stands}
 
@@ -111,28 +111,28 @@ module _ {T : Type 0} where
   -- each number is below those after it
   abbrev AreSorted : List (table.Entry Made T) → Type 0
   AreSorted [] = Unit {0}
-  AreSorted (x ∷ xs) = ((y : table.Entry Made T) → table_lists.In y xs → x.number < y.number) × AreSorted xs
+  AreSorted (x ∷ xs) = ((y : table.Entry Made T) → table_lists.IsMemberOf y xs → x.number < y.number) × AreSorted xs
 
-  kept_in : (p : table.Entry Made T → Bool) {x : table.Entry Made T} (xs : List (table.Entry Made T)) → table_lists.In x (filter p xs) → table_lists.In x xs × (p x ≡ true)
+  kept_in : (p : table.Entry Made T → Bool) {x : table.Entry Made T} (xs : List (table.Entry Made T)) → table_lists.IsMemberOf x (filter p xs) → table_lists.IsMemberOf x xs × (p x ≡ true)
   kept_in p [] i = elim i [ ]
   kept_in p {x} (y ∷ ys) i = by_case (p y) refl (λ j. kept_in p ys j) i
     where
-      more : table_lists.In x ys × (p x ≡ true) → table_lists.In x (y ∷ ys) × (p x ≡ true)
+      more : table_lists.IsMemberOf x ys × (p x ≡ true) → table_lists.IsMemberOf x (y ∷ ys) × (p x ≡ true)
       more found = (table_lists.there found.0, found.1)
 
-      by_case : (t : Bool) → p y ≡ t → (table_lists.In x (filter p ys) → table_lists.In x ys × (p x ≡ true))
-          → table_lists.In x (cond t (y ∷ filter p ys) (filter p ys)) → table_lists.In x (y ∷ ys) × (p x ≡ true)
+      by_case : (t : Bool) → p y ≡ t → (table_lists.IsMemberOf x (filter p ys) → table_lists.IsMemberOf x ys × (p x ≡ true))
+          → table_lists.IsMemberOf x (cond t (y ∷ filter p ys) (filter p ys)) → table_lists.IsMemberOf x (y ∷ ys) × (p x ≡ true)
       by_case true q rest (table_lists.here e) = (table_lists.here e, ap p e ∙ q)
       by_case true q rest (table_lists.there j) = more (rest j)
       by_case false q rest j = more (rest j)
 
-  in_kept : (p : table.Entry Made T → Bool) {x : table.Entry Made T} (xs : List (table.Entry Made T)) → table_lists.In x xs → p x ≡ true → table_lists.In x (filter p xs)
+  in_kept : (p : table.Entry Made T → Bool) {x : table.Entry Made T} (xs : List (table.Entry Made T)) → table_lists.IsMemberOf x xs → p x ≡ true → table_lists.IsMemberOf x (filter p xs)
   in_kept p [] i t = elim i [ ]
   in_kept p {x} (y ∷ ys) (table_lists.here e) t =
-      subst (λ (b : Bool). table_lists.In x (cond b (y ∷ filter p ys) (filter p ys))) (sym (ap p (sym e) ∙ t)) (table_lists.here e)
+      subst (λ (b : Bool). table_lists.IsMemberOf x (cond b (y ∷ filter p ys) (filter p ys))) (sym (ap p (sym e) ∙ t)) (table_lists.here e)
   in_kept p {x} (y ∷ ys) (table_lists.there i) t = by_case (p y) (in_kept p ys i t)
     where
-      by_case : (b : Bool) → table_lists.In x (filter p ys) → table_lists.In x (cond b (y ∷ filter p ys) (filter p ys))
+      by_case : (b : Bool) → table_lists.IsMemberOf x (filter p ys) → table_lists.IsMemberOf x (cond b (y ∷ filter p ys) (filter p ys))
       by_case true j = table_lists.there j
       by_case false j = j
 
@@ -147,7 +147,7 @@ module _ {T : Type 0} where
 
   -- two sorted lists of the same rows are one
   one_list : (xs ys : List (table.Entry Made T)) → AreSorted xs → AreSorted ys
-      → ((z : table.Entry Made T) → table_lists.In z xs → table_lists.In z ys) → ((z : table.Entry Made T) → table_lists.In z ys → table_lists.In z xs) → xs ≡ ys
+      → ((z : table.Entry Made T) → table_lists.IsMemberOf z xs → table_lists.IsMemberOf z ys) → ((z : table.Entry Made T) → table_lists.IsMemberOf z ys → table_lists.IsMemberOf z xs) → xs ≡ ys
   one_list [] [] s r to from = refl
   one_list [] (y ∷ ys) s r to from = absurd (elim (from y (table_lists.here refl)) [ ])
   one_list (x ∷ xs) [] s r to from = absurd (elim (to x (table_lists.here refl)) [ ])
@@ -159,12 +159,12 @@ module _ {T : Type 0} where
       (λ z i. after x xs z (subst (λ (w : table.Entry Made T). w.number < z.number) (sym same) (r.0 z i)) (from z (table_lists.there i))))
       ∙ ap (λ (w : table.Entry Made T). w ∷ ys) same
     where
-      heads : table_lists.In x (y ∷ ys) → table_lists.In y (x ∷ xs) → x ≡ y
+      heads : table_lists.IsMemberOf x (y ∷ ys) → table_lists.IsMemberOf y (x ∷ xs) → x ≡ y
       heads (table_lists.here e) j = e
       heads (table_lists.there i) (table_lists.here e) = sym e
       heads (table_lists.there i) (table_lists.there j) = let a = r.0 x i in let b = s.0 y j in absurd (omega (arith, a, b))
 
-      after : (w : table.Entry Made T) (ws : List (table.Entry Made T)) (z : table.Entry Made T) → w.number < z.number → table_lists.In z (w ∷ ws) → table_lists.In z ws
+      after : (w : table.Entry Made T) (ws : List (table.Entry Made T)) (z : table.Entry Made T) → w.number < z.number → table_lists.IsMemberOf z (w ∷ ws) → table_lists.IsMemberOf z ws
       after w ws z low (table_lists.here e) = let k = ap (λ (v : table.Entry Made T). v.number) e in absurd (omega (arith, k, low))
       after w ws z low (table_lists.there i) = i
 
@@ -173,7 +173,7 @@ module _ {T : Type 0} where
   sorted_rows k [] rising = tt
   sorted_rows k (row ∷ rows) rising = by_case (closes_at k row) refl (sorted_rows k rows rising.1)
     where
-      below : closes_at k row ≡ true → (y : table.Entry Made T) → table_lists.In y (filter (closes_at k) rows) → row.number < y.number
+      below : closes_at k row ≡ true → (y : table.Entry Made T) → table_lists.IsMemberOf y (filter (closes_at k) rows) → row.number < y.number
       below t y i =
           let found = kept_in (closes_at k) rows i in
           let here_at = both (is_closing row.event.event) (row.place == k) t in
@@ -200,12 +200,12 @@ module _ {T : Type 0} where
           omega (arith, a, b)
 
   -- what is told in the order of the list
-  told_kept : (half : Half) (k : ℕ) (rows : List (table.Entry Made T)) → ins_told rows k half ≡ ins_of half (filter (closes_at k) rows)
+  told_kept : (half : Half) (k : ℕ) (rows : List (table.Entry Made T)) → ins_logged rows k half ≡ ins_of half (filter (closes_at k) rows)
   told_kept half k [] = refl
   told_kept half k (row ∷ rows) = by_case (closes_at k row) refl (told_kept half k rows)
     where
-      by_case : (t : Bool) → closes_at k row ≡ t → ins_told rows k half ≡ ins_of half (filter (closes_at k) rows)
-          → cond t (joined (in_left half row.event.left) (ins_told rows k half)) (ins_told rows k half)
+      by_case : (t : Bool) → closes_at k row ≡ t → ins_logged rows k half ≡ ins_of half (filter (closes_at k) rows)
+          → cond t (joined (in_left half row.event.left) (ins_logged rows k half)) (ins_logged rows k half)
           ≡ ins_of half (cond t (row ∷ filter (closes_at k) rows) (filter (closes_at k) rows))
       by_case true q rest =
           ap (λ (o : Option (List InCall)). joined (in_left half row.event.left) o) rest
@@ -214,19 +214,19 @@ module _ {T : Type 0} where
       by_case false q rest = rest
 
   -- and of rows of that place alone
-  told_whole : (half : Half) (k : ℕ) (past : List (table.Entry Made T)) → ((row : table.Entry Made T) → table_lists.In row past → row.place ≡ k) → ins_told past k half ≡ ins_of half past
+  told_whole : (half : Half) (k : ℕ) (past : List (table.Entry Made T)) → ((row : table.Entry Made T) → table_lists.IsMemberOf row past → row.place ≡ k) → ins_logged past k half ≡ ins_of half past
   told_whole half k [] at = refl
   told_whole half k (row ∷ rows) at =
-      ap (λ (t : Bool). cond t (joined (in_left half row.event.left) (ins_told rows k half)) (ins_told rows k half)) (same (is_closing row.event.event) (equal row.place k (at row (table_lists.here refl))))
+      ap (λ (t : Bool). cond t (joined (in_left half row.event.left) (ins_logged rows k half)) (ins_logged rows k half)) (same (is_closing row.event.event) (equal row.place k (at row (table_lists.here refl))))
       ∙ ap (λ (o : Option (List InCall)). cond (is_closing row.event.event) (joined (in_left half row.event.left) o) o) (told_whole half k rows (λ r i. at r (table_lists.there i)))
     where
       same : (a : Bool) {b : Bool} → b ≡ true → (a && b) ≡ a
       same true q = q
       same false q = refl
 
-module _ {T I O : Type 0} (it : I → EndTold InCall) (ic : I → ℕ) (ot : O → EndTold OutCall) (oc : O → ℕ)
+module _ {T I O : Type 0} (it : I → EndLog InCall) (ic : I → ℕ) (ot : O → EndLog OutCall) (oc : O → ℕ)
     (rows : List (table.Entry Made T)) (k : ℕ) (a : Part I O) (w : IsWhole it ic ot oc rows k a) where
-  past_place : (row : table.Entry Made T) → table_lists.In row w.past → row.place ≡ k
+  past_place : (row : table.Entry Made T) → table_lists.IsMemberOf row w.past → row.place ≡ k
   past_place row i = let g = in_get w.past row i in (w.is.named g.0 row g.1).0
 
   same_closings : AreRising (list_of rows) → filter (closes_at k) rows ≡ filter (closes_at k) w.past
@@ -235,16 +235,16 @@ module _ {T I O : Type 0} (it : I → EndTold InCall) (ic : I → ℕ) (ot : O �
       (sorted_kept (closes_at k) w.past (sorted_from w.past 0 (λ i row q. let k = (w.is.named i row q).1 in omega (arith, k))))
       (λ z i. to z (kept_in (closes_at k) rows i)) (λ z i. from z (kept_in (closes_at k) w.past i))
     where
-      to : (z : table.Entry Made T) → table_lists.In z rows × (closes_at k z ≡ true) → table_lists.In z (filter (closes_at k) w.past)
+      to : (z : table.Entry Made T) → table_lists.IsMemberOf z rows × (closes_at k z ≡ true) → table_lists.IsMemberOf z (filter (closes_at k) w.past)
       to z found =
           let at = equal_if z.place k (both (is_closing z.event.event) (z.place == k) found.1).1 in
           in_kept (closes_at k) w.past (get_in w.past z.number z (w.is.own z found.0 at)) found.1
 
-      from : (z : table.Entry Made T) → table_lists.In z w.past × (closes_at k z ≡ true) → table_lists.In z (filter (closes_at k) rows)
+      from : (z : table.Entry Made T) → table_lists.IsMemberOf z w.past × (closes_at k z ≡ true) → table_lists.IsMemberOf z (filter (closes_at k) rows)
       from z found = let g = in_get w.past z found.0 in in_kept (closes_at k) rows (w.is.all g.0 z g.1) found.1
 
   -- what the rows of the list tell is what the place's history tells
-  pub told_is : (half : Half) → AreRising (list_of rows) → ins_told rows k half ≡ ins_of half w.past
+  pub told_is : (half : Half) → AreRising (list_of rows) → ins_logged rows k half ≡ ins_of half w.past
   told_is half rising =
       told_kept half k rows
       ∙ ap (λ (rs : List (table.Entry Made T)). ins_of half rs) (same_closings rising)
@@ -254,11 +254,11 @@ module _ {T I O : Type 0} (it : I → EndTold InCall) (ic : I → ℕ) (ot : O �
 -- The close.
 
 module _ {I : Type 0} where
-  no_ends : (opened : Option (Opened I)) → holder_of opened ≡ None → ends_of opened ≡ None
+  no_ends : (opened : Option (Opened I)) → holder_of opened ≡ None → pair_ends opened ≡ None
   no_ends None q = refl
   no_ends (Some o) q = absurd (let k : Some o.holder ≡ None = q in cc)
 
-module _ {I O : Type 0} (it : I → EndTold InCall) (ic : I → ℕ) (ot : O → EndTold OutCall) (oc : O → ℕ) where
+module _ {I O : Type 0} (it : I → EndLog InCall) (ic : I → ℕ) (ot : O → EndLog OutCall) (oc : O → ℕ) where
   -- a box of a place above the cells, which holds no ends at first
   record BeginsShut (config : Config) (a : Part I O) : Type 0 where
     is_box : IsBoxPart config.max_sessions a
@@ -284,15 +284,15 @@ module _ {I O : Type 0} (it : I → EndTold InCall) (ic : I → ℕ) (ot : O →
       let boxes = are.box_count in
       omega (arith, all, both, cells, boxes)
 
-where_each : {C : Type 0} (told : Option (List C)) (P : List C → Type 0) → ((calls : List C) → told ≡ Some calls → P calls) → WhereTold told P
+where_each : {C : Type 0} (log : Option (List C)) (P : List C → Type 0) → ((calls : List C) → log ≡ Some calls → P calls) → WhereLogged log P
 where_each None P each = tt
 where_each (Some calls) P each = each calls refl
 
-module _ {T I O : Type 0} (it : I → EndTold InCall) (ic : I → ℕ) (ot : O → EndTold OutCall) (oc : O → ℕ)
+module _ {T I O : Type 0} (it : I → EndLog InCall) (ic : I → ℕ) (ot : O → EndLog OutCall) (oc : O → ℕ)
     (starts : List (Part I O)) (rows : List (table.Entry Made T)) (range : InRange starts rows) (whole : AreWhole it ic ot oc starts rows) where
   closed_box : (config : Config) → AreParts config starts → Orderly config (list_of rows) → AreReturned config rows → AreRising (list_of rows) → (k : ℕ) (half : Half)
       → (a : Part I O) → slice_get starts k ≡ Some a → config.max_sessions < k → holder (box_history (list_of rows) k (front (list_of rows) k)) ≡ None
-      → (calls : List InCall) → ins_told rows k half ≡ Some calls → calls ≡ takes_at (list_of rows) k half
+      → (calls : List InCall) → ins_logged rows k half ≡ Some calls → calls ≡ takes_at (list_of rows) k half
   closed_box config are orderly returned rising k half a at above none calls q =
       let w : IsWhole it ic ot oc rows k a = whole k a at in
       let b : BeginsShut it ic ot oc config a = begins_shut it ic ot oc config k a above (begins_as config starts are k a at) in
@@ -302,9 +302,9 @@ module _ {T I O : Type 0} (it : I → EndTold InCall) (ic : I → ℕ) (ot : O �
       let is_box : IsBoxPart config.max_sessions w.last = box_stays it ic ot oc config.max_sessions a w.last w.past w.leaves b.is_box in
       let shut : held_in it ic ot oc half w.last ≡ Some []
       = ends_shut it ic ot oc config config.max_sessions w.last (history (list_of rows) k (front (list_of rows) k)) is_box last none half in
-      let told : ins_of half w.past ≡ Some calls = sym (told_is it ic ot oc rows k a w half rising) ∙ q in
+      let shown : ins_of half w.past ≡ Some calls = sym (told_is it ic ot oc rows k a w half rising) ∙ q in
       let all : joined (ins_of half w.past) (held_in it ic ot oc half w.last) ≡ Some (calls ++ [])
-      = ap (λ (o : Option (List InCall)). joined o (held_in it ic ot oc half w.last)) told ∙ ap (λ (o : Option (List InCall)). joined (Some calls) o) shut in
+      = ap (λ (o : Option (List InCall)). joined o (held_in it ic ot oc half w.last)) shown ∙ ap (λ (o : Option (List InCall)). joined (Some calls) o) shut in
       let tells = rows_tell it ic ot oc half config.max_sessions a w.last w.past (calls ++ []) b.is_box w.leaves all in
       let nothing : tells.earlier ≡ [] = (let e : Some tells.earlier ≡ Some [] = sym tells.before ∙ b.shut half in cc) in
       sym (append-nil calls)
@@ -320,5 +320,5 @@ module _ {T I O : Type 0} (it : I → EndTold InCall) (ic : I → ℕ) (ot : O �
       let numbered = closed_numbered it ic ot oc starts rows range whole in
       let count = parts_count it ic ot oc config starts are in
       let a = in_range starts (box_of config pair) (omega (arith, count, within)) in
-      where_each (ins_told rows (box_of config pair) half) (λ calls. calls ≡ takes_at (list_of rows) (box_of config pair) half)
+      where_each (ins_logged rows (box_of config pair) half) (λ calls. calls ≡ takes_at (list_of rows) (box_of config pair) half)
       (closed_box config are (sound.orderly numbered) (sound.returned numbered) (rising_of (list_of rows) numbered ordered) (box_of config pair) half a.0 a.1 (omega arith) none)

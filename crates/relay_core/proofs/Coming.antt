@@ -16,7 +16,7 @@ use Rattle.port_pool.specs.Signals.{NewKey, side_eq}
 use Rattle.offer_answer.specs.Rounds.{Round, OfferAsk, AnswerAsk, drawn_for}
 use Rattle.offer_answer.specs.Rounds as round
 use Rattle.offer_answer.specs.Sides.{is_begun}
-use Rattle.offer_answer.specs.Sections.{leases, life, has_pairs}
+use Rattle.offer_answer.specs.Sections.{leases, section_life, has_pairs}
 use Rattle.offer_answer.specs.Keys as oa
 use Rattle.offer_answer.specs.Plan.{demand, signal}
 use Rattle.offer_answer.specs.Laws.{leg_place, new_leg_place, KeepsPairs, IsDrawnInLife}
@@ -28,9 +28,9 @@ use Rattle.call_cell.specs.declared.leg.Leg.{Leg}
 use Rattle.call_cell.specs.declared.prepare.Prepare as prepared
 use Rattle.call_cell.specs.Cells.{CellEntry, legs, since_end, keys_in, key_numbered}
 use Rattle.call_cell.specs.LegKeys.{keys_for, OnePerSuite}
-use Rattle.call_cell.specs.Standing.{port_by}
-use Rattle.call_cell.specs.Committing.{NamesKeys, said_of, outbound_in}
-use Rattle.call_cell.specs.Preparing.{CanCome, AreTwo, added, prepare_entry}
+use Rattle.call_cell.specs.LegHistories.{port_by}
+use Rattle.call_cell.specs.Commits.{NamesKeys, said_of, outbound_in}
+use Rattle.call_cell.specs.Preparations.{CanCome, AreTwo, added, prepare_entry}
 use Rattle.call_cell.proofs.Few.{at_in}
 use Rattle.call_cell.proofs.Legs.{same_leg_is}
 use Rattle.call_cell.proofs.Splits.{both}
@@ -167,15 +167,15 @@ offer_can_come config l o n k x p above_board fits q above brought same ports =
 
 -- An answer.
 
-no_life : (rs : List Round) (section : ℕ) → life rs section ≡ [] → has_pairs rs section ≡ true → ⊥
+no_life : (rs : List Round) (section : ℕ) → section_life rs section ≡ [] → has_pairs rs section ≡ true → ⊥
 no_life rs section e h = true≢false (sym (subst (λ (t : List Round). is_begun t ≡ true) e h))
 
 drawn_last : (ask : OfferAsk) (new : List Holder) (keys : List NewKey) (earlier : List Round) (section : ℕ) (key : NewKey) → In key keys
     → has_pairs (round.Offered ask new keys ∷ earlier) section ≡ true → LifeOf (round.Offered ask new keys) earlier section
-    → In key (drawn_for (life (round.Offered ask new keys ∷ earlier) section))
+    → In key (drawn_for (section_life (round.Offered ask new keys ∷ earlier) section))
 drawn_last ask new keys earlier section key i h (begins m e) = subst (λ (t : List Round). In key (drawn_for t)) (sym e) (in_left keys [] i)
 drawn_last ask new keys earlier section key i h (goes_on m had e) =
-    subst (λ (t : List Round). In key (drawn_for t)) (sym e) (in_left keys (drawn_for (life earlier section)) i)
+    subst (λ (t : List Round). In key (drawn_for t)) (sym e) (in_left keys (drawn_for (section_life earlier section)) i)
 drawn_last ask new keys earlier section key i h (is_over e) = absurd (no_life (round.Offered ask new keys ∷ earlier) section e h)
 
 drawn_more : (key : NewKey) (r : Round) (rs : List Round) → In key (drawn_for rs) → In key (drawn_for (r ∷ rs))
@@ -183,23 +183,23 @@ drawn_more key (round.Offered ask new keys) rs i = in_right keys (drawn_for rs) 
 drawn_more key (round.Answered ask) rs i = i
 
 drawn_step : (r : Round) (rs : List Round) (section : ℕ) (key : NewKey) → has_pairs (r ∷ rs) section ≡ true → leases r section ≡ false
-    → In key (drawn_for (life rs section)) → LifeOf r rs section → In key (drawn_for (life (r ∷ rs) section))
+    → In key (drawn_for (section_life rs section)) → LifeOf r rs section → In key (drawn_for (section_life (r ∷ rs) section))
 drawn_step r rs section key h none i (begins m e) = absurd (true≢false (sym m ∙ none))
-drawn_step r rs section key h none i (goes_on m had e) = subst (λ (t : List Round). In key (drawn_for t)) (sym e) (drawn_more key r (life rs section) i)
+drawn_step r rs section key h none i (goes_on m had e) = subst (λ (t : List Round). In key (drawn_for t)) (sym e) (drawn_more key r (section_life rs section) i)
 drawn_step r rs section key h none i (is_over e) = absurd (no_life (r ∷ rs) section e h)
 
 -- a key that was drawn since a section kept its pairs is among those of its life
 drawn_since : (section : ℕ) (key : NewKey) (ask : OfferAsk) (new : List Holder) (keys : List NewKey) (earlier later : List Round) → In key keys
-    → KeepsPairs section later (round.Offered ask new keys ∷ earlier) → In key (drawn_for (life (later ++ round.Offered ask new keys ∷ earlier) section))
+    → KeepsPairs section later (round.Offered ask new keys ∷ earlier) → In key (drawn_for (section_life (later ++ round.Offered ask new keys ∷ earlier) section))
 drawn_since section key ask new keys earlier [] i kept =
     drawn_last ask new keys earlier section key i kept (life-step (round.Offered ask new keys) earlier section)
 drawn_since section key ask new keys earlier (r ∷ later) i kept =
     drawn_step r (later ++ round.Offered ask new keys ∷ earlier) section key kept.0 kept.1
     (drawn_since section key ask new keys earlier later i kept.2) (life-step r (later ++ round.Offered ask new keys ∷ earlier) section)
 
-in_life : (rs : List Round) (section : ℕ) (key : NewKey) → IsDrawnInLife rs section key → In key (drawn_for (life rs section))
+in_life : (rs : List Round) (section : ℕ) (key : NewKey) → IsDrawnInLife rs section key → In key (drawn_for (section_life rs section))
 in_life rs section key d =
-    subst (λ (t : List Round). In key (drawn_for (life t section))) (sym d.rounds_are) (drawn_since section key d.ask d.legs d.keys d.earlier d.later d.drawn d.kept)
+    subst (λ (t : List Round). In key (drawn_for (section_life t section))) (sym d.rounds_are) (drawn_since section key d.ask d.legs d.keys d.earlier d.later d.drawn d.kept)
 
 side_itself : (a b : Side) → a ≡ b → side_eq a b ≡ true
 side_itself a b q = subst (λ (s : Side). side_eq a s ≡ true) q (itself a)
@@ -218,7 +218,7 @@ names_after number rs g ask leg m i q =
     let s = said_some m (said_of (signal rs ask) leg) q in
     let k = names_drawn_keys rs ask leg.section leg.side s.0 m s.1 s.2 in
     let its : In k.key (oa.leg_keys rs leg.section leg.side)
-    = keeps (oa.is_for leg.section leg.side) (drawn_for (life rs leg.section)) (in_life rs leg.section k.key k.is_drawn)
+    = keeps (oa.is_for leg.section leg.side) (drawn_for (section_life rs leg.section)) (in_life rs leg.section k.key k.is_drawn)
     (both (k.key.section == leg.section) (side_eq k.key.side leg.side)
     (equal k.key.section leg.section k.for_section) (side_itself k.key.side leg.side k.for_side)) in
     record {
@@ -232,9 +232,9 @@ pub answer_names : (config : Config) (l : List Entry) → Orderly config l → (
     → FitsBoard config (board_history l n) x → act.act x ≡ act.Answered a → IsAbove l a.of.cell k → NamesKeys (since_end (cell_history l a.of.cell k)) a.signal
 answer_names config l o n k x a above_board fits q above =
     let h = board_history l n in
-    let told = answer_told config h x a fits q in
+    let shown = answer_told config h x a fits q in
     let c = since_end (cell_history l a.of.cell k) in
     let e = entries_of a.of.number (rounds h a.of.number) in
-    let s = live_cell_is config l o n k a.of above_board told.is_live above in
+    let s = live_cell_is config l o n k a.of above_board shown.is_live above in
     names_keys_same e c a.signal (turned c e s)
-    (subst (λ t. NamesKeys e t) (sym told.signal_is) (names_after a.of.number (rounds h a.of.number) (good_rounds config h a.of.number (good_history config l o n)) a.ask))
+    (subst (λ t. NamesKeys e t) (sym shown.signal_is) (names_after a.of.number (rounds h a.of.number) (good_rounds config h a.of.number (good_history config l o n)) a.ask))

@@ -42,7 +42,7 @@ commit_by config l e signal q n (prepares o a w) = let h = ap (λ (v : Owed). v.
 commit_by config l e signal q n (closes c leg i j w) = let h = ap (λ (v : Owed). v.event) w in absurd (let k = q in cc)
 commit_by config l e signal q n (ends c i w) = let h = ap (λ (v : Owed). v.event) w in absurd (let k = q in cc)
 commit_by config l e signal q n (expires c due i w) = let h = ap (λ (v : Owed). v.event) w in absurd (let k = q in cc)
-commit_by config l e signal q n (reads c told w) = let h = ap (λ (v : Owed). v.event) w in absurd (let k = q in cc)
+commit_by config l e signal q n (reads c log w) = let h = ap (λ (v : Owed). v.event) w in absurd (let k = q in cc)
 
 pub commit_of : (config : Config) (l : List Entry) → Orderly config l → (e : Entry) → In e l
     → (signal : List SectionSignal) → e.event ≡ Cell (Commit signal) → IsCommitOf config l e signal
@@ -65,7 +65,7 @@ end_by config l e q n (opens o leg a i w) = let h = ap (λ (v : Owed). v.event) 
 end_by config l e q n (prepares o a w) = let h = ap (λ (v : Owed). v.event) w in absurd (let k = q in cc)
 end_by config l e q n (closes c leg i j w) = let h = ap (λ (v : Owed). v.event) w in absurd (let k = q in cc)
 end_by config l e q n (expires c due i w) = let h = ap (λ (v : Owed). v.event) w in absurd (let k = q in cc)
-end_by config l e q n (reads c told w) = let h = ap (λ (v : Owed). v.event) w in absurd (let k = q in cc)
+end_by config l e q n (reads c log w) = let h = ap (λ (v : Owed). v.event) w in absurd (let k = q in cc)
 
 pub end_of : (config : Config) (l : List Entry) → Orderly config l → (e : Entry) → In e l → e.event ≡ Cell End → IsEndOf config l e
 end_of config l o e i q =
@@ -78,7 +78,7 @@ ends_event (Prepare call legs keys dropped) q = absurd (let k = q in cc)
 ends_event (Commit signal) q = absurd (let k = q in cc)
 ends_event (Relay r) q = absurd (let k = q in cc)
 ends_event (Expire due) q = absurd (let k = q in cc)
-ends_event (Read told) q = absurd (let k = q in cc)
+ends_event (Read log) q = absurd (let k = q in cc)
 
 pub end_event : (e : Entry) (c : CellEntry) → cell_entry e ≡ Some c → is_end c ≡ true → e.event ≡ Cell End
 end_event e c q t = event_of e c q ∙ ap Cell (ends_event c.event t)

@@ -2,7 +2,7 @@
 use Rattle.std.proofs.Common.{◌≡◌, sym, subst, refl, ℕ, ◌⊎◌, inl, inr, List, [], ◌∷◌, Bool, true, false, cond, Option, Some, None, map, arith}
 use Rattle.std.specs.Prelude.{Result, Ok, Err}
 use Rattle.relay_outside.specs.declared.settings.Config.{Config}
-use Rattle.ng_command.specs.Said.{Said, Ping, Offer, Answer, Delete, Query, Listing}
+use Rattle.ng_command.specs.Meanings.{Said, Ping, Offer, Answer, Delete, Query, Listing}
 use Rattle.ng_reply.specs.declared.code.ErrorCode.{ErrorCode}
 use Rattle.histories.specs.Words.{In, here, there, has}
 use Rattle.histories.proofs.Lists.{in_append, mapped, spread}
@@ -12,7 +12,7 @@ use Rattle.call_board.specs.Acts as act
 use Rattle.call_board.specs.Acts.{Call, Act, Control, BoardEvent, Turn, Tick, Stop, BoardEntry}
 use Rattle.call_board.specs.Calls.{live, find_call}
 use Rattle.call_board.specs.Pairs.{closed_of}
-use Rattle.call_board.specs.Asked.{asked}
+use Rattle.call_board.specs.Requests.{asked}
 use Rattle.call_board.specs.Fits.{FitsBoard, IsFitting}
 use Rattle.call_board.proofs.Told.{IsQuery, IsDelete}
 use Rattle.call_board.proofs.Tells.{tells_of, answer_told}
@@ -20,7 +20,7 @@ use Rattle.call_board.proofs.Calls.{found_live, offered_live}
 use Rattle.call_board.proofs.Cells.{live_cell}
 use Rattle.relay_core.specs.Entries.{is_nested, is_nested_cell}
 use Rattle.relay_core.specs.Legal.{StandsAt}
-use Rattle.relay_core.specs.Scripts.{Owed, opening, closing, in_cell, closings, ending, expiring, reading, reading_out_of_memory, script_of_act, script}
+use Rattle.relay_core.specs.Scripts.{Owed, open_owed, closing, in_cell, closings, ending, expiring, reading, reading_out_of_memory, script_of_act, script}
 
 -- a nested event, at the place of a cell or of a box
 abbrev pub IsElsewhere : Config → Owed → Type 0
@@ -38,12 +38,12 @@ at_ending : (config : Config) (h : List BoardEntry) (e : BoardEntry) (c : Call) 
 at_ending config h e c w good i (here p) = subst (IsElsewhere config) (sym p) (at_cell config h c End good i refl)
 at_ending config h e c w good i (there j) = at_closings config h e c w j
 
-at_reading : (config : Config) (h : List BoardEntry) (o : Option Call) (told : Option (List LegReport)) (w : Owed) → IsFitting config h
-    → ((c : Call) → o ≡ Some c → In c (live h)) → In w (reading o told) → IsElsewhere config w
-at_reading config h None told w good alive i = elim i [ ]
+at_reading : (config : Config) (h : List BoardEntry) (o : Option Call) (all_reports : Option (List LegReport)) (w : Owed) → IsFitting config h
+    → ((c : Call) → o ≡ Some c → In c (live h)) → In w (reading o all_reports) → IsElsewhere config w
+at_reading config h None all_reports w good alive i = elim i [ ]
 at_reading config h (Some c) None w good alive i = elim i [ ]
-at_reading config h (Some c) (Some told) w good alive (here p) = subst (IsElsewhere config) (sym p) (at_cell config h c (Read told) good (alive c refl) refl)
-at_reading config h (Some c) (Some told) w good alive (there j) = elim j [ ]
+at_reading config h (Some c) (Some all_reports) w good alive (here p) = subst (IsElsewhere config) (sym p) (at_cell config h c (Read all_reports) good (alive c refl) refl)
+at_reading config h (Some c) (Some all_reports) w good alive (there j) = elim j [ ]
 
 at_out_of_memory : (config : Config) (h : List BoardEntry) (c : Control) (r : Result Said ErrorCode) (w : Owed) → IsFitting config h
     → In w (reading_out_of_memory h c r) → IsElsewhere config w
@@ -57,9 +57,9 @@ at_out_of_memory config h c (Err code) w good i = elim i [ ]
 
 at_offer : (config : Config) (h : List BoardEntry) (e : BoardEntry) (o : act.Offer) (w : Owed) → IsFitting config h → FitsBoard config h e
     → act.act e ≡ act.Offered o
-    → In w (map (opening config) o.legs) ⊎ In w (in_cell o.of (Prepare o.of.number o.legs o.keys o.dropped) ∷ closings config h e o.of) → IsElsewhere config w
+    → In w (map (open_owed config) o.legs) ⊎ In w (in_cell o.of (Prepare o.of.number o.legs o.keys o.dropped) ∷ closings config h e o.of) → IsElsewhere config w
 at_offer config h e o w good fits q (inl i) =
-    let m = mapped (opening config) o.legs i in subst (IsElsewhere config) m.makes (refl, λ p. omega (arith, p), omega arith)
+    let m = mapped (open_owed config) o.legs i in subst (IsElsewhere config) m.makes (refl, λ p. omega (arith, p), omega arith)
 at_offer config h e o w good fits q (inr (here p)) =
     subst (IsElsewhere config) (sym p) (at_cell config (e ∷ h) o.of (Prepare o.of.number o.legs o.keys o.dropped) (fits, good) (offered_live config h e o good fits q) refl)
 at_offer config h e o w good fits q (inr (there j)) = at_closings config h e o.of w j
@@ -75,16 +75,16 @@ at_act config h moment c w good fits (act.Failed code) q i = elim i [ ]
 at_act config h moment c w good fits (act.Undone code leases draws) q i = elim i [ ]
 at_act config h moment c w good fits (act.Offered o) q i =
     at_offer config h (turn moment c) o w good fits q
-    (in_append (map (opening config) o.legs) (in_cell o.of (Prepare o.of.number o.legs o.keys o.dropped) ∷ closings config h (turn moment c) o.of) i)
+    (in_append (map (open_owed config) o.legs) (in_cell o.of (Prepare o.of.number o.legs o.keys o.dropped) ∷ closings config h (turn moment c) o.of) i)
 at_act config h moment c w good fits (act.Answered a) q (here p) =
     subst (IsElsewhere config) (sym p) (at_cell config h a.of (Commit a.signal) good (answer_told config h (turn moment c) a fits q).is_live refl)
 at_act config h moment c w good fits (act.Answered a) q (there i) = at_closings config h (turn moment c) a.of w i
 at_act config h moment c w good fits (act.Deleted of) q i =
-    let told : IsDelete h (turn moment c) of = tells_of config h (turn moment c) (act.Deleted of) fits q in
-    at_ending config h (turn moment c) of w good told.is_live i
+    let shown : IsDelete h (turn moment c) of = tells_of config h (turn moment c) (act.Deleted of) fits q in
+    at_ending config h (turn moment c) of w good shown.is_live i
 at_act config h moment c w good fits (act.Queried of) q i =
-    let told : IsQuery h (turn moment c) of = tells_of config h (turn moment c) (act.Queried of) fits q in
-    at_reading config h (Some of) c.given.report w good (λ d p. subst (λ x. In x (live h)) (let k = p in cc) told.is_live) i
+    let shown : IsQuery h (turn moment c) of = tells_of config h (turn moment c) (act.Queried of) fits q in
+    at_reading config h (Some of) c.given.report w good (λ d p. subst (λ x. In x (live h)) (let k = p in cc) shown.is_live) i
 at_act config h moment c w good fits act.Told q i = elim i [ ]
 
 at_due : (config : Config) (h : List BoardEntry) (e : BoardEntry) (c : Call) (w : Owed) → IsFitting config h → In c (live h) → (due : Bool)

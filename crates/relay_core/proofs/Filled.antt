@@ -7,12 +7,12 @@ use Rattle.histories.specs.Words.{In, greatest}
 use Rattle.histories.proofs.Lists.{mapped, maps}
 use Rattle.port_pool.specs.Boxes.{BoxEvent, FitsBox}
 use Rattle.call_cell.specs.Cells.{CellEvent, CellEntry, Prepare, Commit, Relay, Expire, Read, End, Relayed, Receipt}
-use Rattle.call_cell.specs.Asked.{FitsCell}
+use Rattle.call_cell.specs.Demands.{FitsCell}
 use Rattle.call_board.specs.Acts.{BoardEntry}
 use Rattle.relay_core.specs.Entries.{Event, Board, Cell, Box, Entry, history, board_entry, cell_entry, box_event, cell_history}
 use Rattle.relay_core.specs.Legal.{Fits, StandsAt, IsReceived, is_handed_own, is_handed_boards, last_moment, IsTimed, Orderly, Legal}
-use Rattle.relay_core.specs.Made.{told_cell, told_event, told, moment_of}
-use Rattle.relay_core.specs.Turning.{IsReceiving}
+use Rattle.relay_core.specs.Records.{logged_cell, logged_event, as_logged, moment_of}
+use Rattle.relay_core.specs.Turns.{IsReceiving}
 use Rattle.relay_core.proofs.Counts.{Stands, counted_if}
 use Rattle.relay_core.proofs.Refilling.{before_mapped, history_mapped, box_mapped, orderly_mapped, same_map}
 use Rattle.relay_core.proofs.Filling.{fill_cell, fill_history, fill_event, filled, filled_in, kept_by, filled_keeps, filled_history}
@@ -22,7 +22,7 @@ abbrev pub FitsTold : Config → List Entry → ℕ → Event → Type 0
 FitsTold config past moment (Board b) = Unit {0}
 FitsTold config past moment (Cell c) =
     let h = fill_history config (filter_map cell_entry past) in
-    FitsCell config h (record { moment = moment; event = fill_cell config h c }) × (told_cell (fill_cell config h c) ≡ c)
+    FitsCell config h (record { moment = moment; event = fill_cell config h c }) × (logged_cell (fill_cell config h c) ≡ c)
 FitsTold config past moment (Box b) = FitsBox (filter_map box_event past) b
 
 -- An entry of the recorded list, which was handed that moment
@@ -40,12 +40,12 @@ pub record Made (config : Config) (l : List Entry) (e : Entry) : Type 0 where
 -- What it tells.
 
 told_filled_by : (config : Config) (l : List Entry) (place number moment : ℕ) (v : Event) → FitsTold config (history l place number) moment v
-    → told_event (fill_event config (fill_history config (cell_history l place number)) v) ≡ v
+    → logged_event (fill_event config (fill_history config (cell_history l place number)) v) ≡ v
 told_filled_by config l place number moment (Board b) fits = refl
 told_filled_by config l place number moment (Cell c) fits = ap Cell fits.1
 told_filled_by config l place number moment (Box b) fits = refl
 
-told_filled : (config : Config) (l : List Entry) (e : Entry) → FitsTold config (history l e.place e.number) e.moment e.event → told (filled config l e) ≡ e
+told_filled : (config : Config) (l : List Entry) (e : Entry) → FitsTold config (history l e.place e.number) e.moment e.event → as_logged (filled config l e) ≡ e
 told_filled config l e fits =
     ap (λ (v : Event). record { place = e.place; number = e.number; moment = e.moment; board = e.board; event = v })
     (told_filled_by config l e.place e.number e.moment e.event fits)
@@ -58,10 +58,10 @@ mapped_same : {A : Type 0} (xs : List A) → map (λ (x : A). x) xs ≡ xs
 mapped_same [] = refl
 mapped_same {A} (x ∷ xs) = ap (λ (ys : List A). x ∷ ys) (mapped_same xs)
 
-pub filled_tells : (config : Config) (l : List Entry) → ((e : Entry) → In e l → Made config l e) → map told (filled_in config l) ≡ l
+pub filled_tells : (config : Config) (l : List Entry) → ((e : Entry) → In e l → Made config l e) → map as_logged (filled_in config l) ≡ l
 filled_tells config l made =
-    mapped_twice told (filled config l) l
-    ∙ same_map (λ (e : Entry). told (filled config l e)) (λ (e : Entry). e) l (λ e i. told_filled config l e (made e i).right.fits)
+    mapped_twice as_logged (filled config l) l
+    ∙ same_map (λ (e : Entry). as_logged (filled config l e)) (λ (e : Entry). e) l (λ e i. told_filled config l e (made e i).right.fits)
     ∙ mapped_same l
 
 -- It fits.
@@ -160,7 +160,7 @@ relay_by config h (Cell (Relay r)) x q =
 relay_by config h (Cell (Prepare call legs keys dropped)) x q = absurd (let k = q in cc)
 relay_by config h (Cell (Commit signal)) x q = absurd (let k = q in cc)
 relay_by config h (Cell (Expire due)) x q = absurd (let k = q in cc)
-relay_by config h (Cell (Read told)) x q = absurd (let k = q in cc)
+relay_by config h (Cell (Read as_logged)) x q = absurd (let k = q in cc)
 relay_by config h (Cell End) x q = absurd (let k = q in cc)
 
 relay_of : (config : Config) (l : List Entry) (e : Entry) (x : Relayed) → (filled config l e).event ≡ Cell (Relay x) → IsRelay e.event x.packet

@@ -9,14 +9,14 @@ use Rattle.call_cell.specs.declared.outcome.Lost.TheVariants as lost
 use Rattle.call_cell.specs.declared.cell.Cell as cell
 use Rattle.call_cell.specs.Cells.{CellEvent, CellEntry, Prepare, Commit, Relay, Expire, Read, End, Receipt, Relayed, Deed, Sending, since_end}
 use Rattle.call_cell.specs.Deeds.{deed, sent_outcome}
-use Rattle.call_cell.specs.Asked.{FitsAt, IsAnswered}
+use Rattle.call_cell.specs.Demands.{CellFitsAt, IsSendAnswered}
 use Rattle.call_cell.specs.Good.{FittingCell, longer}
-use Rattle.call_cell.specs.Standing.{sent_ok}
-use Rattle.call_cell.specs.CellStanding.{CellFor}
+use Rattle.call_cell.specs.LegHistories.{sent_ok}
+use Rattle.call_cell.specs.CellHistories.{CellFor}
 use Rattle.call_cell.proofs.Sends.{send_failed, outcome_of_send}
 use Rattle.relay_core.specs.Entries.{Event, Board, Cell, Box, Entry, is_nested, is_at, history, board_at, cell_at, box_in, cell_entry, cell_history}
-use Rattle.relay_core.specs.Made.{told_cell, told}
-use Rattle.relay_core.specs.Standing.{told_entry, CellStands}
+use Rattle.relay_core.specs.Records.{logged_cell, as_logged}
+use Rattle.relay_core.specs.PlaceHistories.{logged_entry, CellStands}
 use Rattle.relay_core.proofs.Histories.{Step, nothing, single, step}
 use Rattle.relay_core.proofs.Refilling.{Keeps, history_mapped}
 
@@ -69,7 +69,7 @@ kept_by f blind config h (Cell (Prepare call legs keys dropped)) = refl
 kept_by f blind config h (Cell (Commit signal)) = refl
 kept_by f blind config h (Cell (Relay x)) = blind (record { packet = x.packet; sent_ok = x.sent_ok; deed = deed config (since_end h) x.packet x.sent_ok }) x
 kept_by f blind config h (Cell (Expire due)) = refl
-kept_by f blind config h (Cell (Read told)) = refl
+kept_by f blind config h (Cell (Read as_logged)) = refl
 kept_by f blind config h (Cell End) = refl
 kept_by f blind config h (Box b) = refl
 
@@ -79,7 +79,7 @@ nested_kept config h (Cell (Prepare call legs keys dropped)) t = refl
 nested_kept config h (Cell (Commit signal)) t = refl
 nested_kept config h (Cell (Relay x)) t = absurd (let k = t in cc)
 nested_kept config h (Cell (Expire due)) t = refl
-nested_kept config h (Cell (Read told)) t = refl
+nested_kept config h (Cell (Read as_logged)) t = refl
 nested_kept config h (Cell End) t = refl
 nested_kept config h (Box b) t = refl
 
@@ -149,7 +149,7 @@ outcome_tells : (config : Config) (w : Sending) (ok : Bool) → sent_ok (sent_ou
 outcome_tells config w true = refl
 outcome_tells config w false = refl
 
-answer_case : (config : Config) (h : List CellEntry) (p : Receipt) (ok : Bool) (o : Option Sending) → (deed config h p ok).sending ≡ o → IsAnswered o ok
+answer_case : (config : Config) (h : List CellEntry) (p : Receipt) (ok : Bool) (o : Option Sending) → (deed config h p ok).sending ≡ o → IsSendAnswered o ok
     → sent_ok (deed config h p ok).outcome ≡ ok
 answer_case config h p ok (Some w) q answered = ap (λ (x : Outcome). sent_ok x) (outcome_of_send config h p ok w q) ∙ outcome_tells config w ok
 answer_case config h p ok None q answered =
@@ -158,14 +158,14 @@ answer_case config h p ok None q answered =
     ∙ sym answered
 
 -- the outcome of a relay tells what its send returned
-answer_told : (config : Config) (h : List CellEntry) (r : Relayed) → r.deed ≡ deed config h r.packet r.sent_ok → IsAnswered r.deed.sending r.sent_ok
+answer_told : (config : Config) (h : List CellEntry) (r : Relayed) → r.deed ≡ deed config h r.packet r.sent_ok → IsSendAnswered r.deed.sending r.sent_ok
     → sent_ok r.deed.outcome ≡ r.sent_ok
 answer_told config h r does answered =
     ap (λ (d : Deed). sent_ok d.outcome) does
     ∙ answer_case config h r.packet r.sent_ok (deed config h r.packet r.sent_ok).sending refl
-    (subst (λ (d : Deed). IsAnswered d.sending r.sent_ok) does answered)
+    (subst (λ (d : Deed). IsSendAnswered d.sending r.sent_ok) does answered)
 
-refill_event : (config : Config) (h : List CellEntry) (moment : ℕ) (c : CellEvent) → FitsAt config h moment c → fill_cell config h (told_cell c) ≡ c
+refill_event : (config : Config) (h : List CellEntry) (moment : ℕ) (c : CellEvent) → CellFitsAt config h moment c → fill_cell config h (logged_cell c) ≡ c
 refill_event config h moment (Prepare call legs keys dropped) fits = refl
 refill_event config h moment (Commit signal) fits = refl
 refill_event config h moment (Relay r) fits =
@@ -173,19 +173,19 @@ refill_event config h moment (Relay r) fits =
     (answer_told config (since_end h) r fits.does fits.answered)
     ∙ ap (λ (d : Deed). Relay (record { packet = r.packet; sent_ok = r.sent_ok; deed = d })) (sym fits.does)
 refill_event config h moment (Expire due) fits = refl
-refill_event config h moment (Read told) fits = refl
+refill_event config h moment (Read as_logged) fits = refl
 refill_event config h moment End fits = refl
 
-pub refill : (config : Config) (h : List CellEntry) → FittingCell config h → fill_history config (map told_entry h) ≡ h
+pub refill : (config : Config) (h : List CellEntry) → FittingCell config h → fill_history config (map logged_entry h) ≡ h
 refill config [] fits = refl
 refill config (e ∷ h) (longer fits rest) =
     let same = refill config h rest in
-    ap (λ (k : List CellEntry). (record { moment = e.moment; event = fill_cell config k (told_cell e.event) }) ∷ k) same
+    ap (λ (k : List CellEntry). (record { moment = e.moment; event = fill_cell config k (logged_cell e.event) }) ∷ k) same
     ∙ ap (λ (c : CellEvent). (record { moment = e.moment; event = c }) ∷ h) (refill_event config h e.moment e.event fits)
 
 -- so a cell stands for the recorded history, filled in
 pub record CellFills {O : Type 0} (config : Config) (cell : cell.Cell O) (recorded : List CellEntry) : Type 0 where
-  pub is_recorded : map told_entry (fill_history config recorded) ≡ recorded
+  pub is_recorded : map logged_entry (fill_history config recorded) ≡ recorded
   pub fitting : FittingCell config (fill_history config recorded)
   pub stands : CellFor config cell (fill_history config recorded)
 
@@ -194,7 +194,7 @@ cell_fills config c recorded s =
     let same : fill_history config recorded ≡ s.history
     = ap (λ (h : List CellEntry). fill_history config h) (sym s.is_recorded) ∙ refill config s.history s.fitting in
     record {
-      is_recorded = ap (λ (h : List CellEntry). map told_entry h) same ∙ s.is_recorded;
+      is_recorded = ap (λ (h : List CellEntry). map logged_entry h) same ∙ s.is_recorded;
       fitting = subst (λ (h : List CellEntry). FittingCell config h) (sym same) s.fitting;
       stands = subst (λ (h : List CellEntry). CellFor config c h) (sym same) s.stands;
     }

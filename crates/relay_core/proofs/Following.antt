@@ -170,7 +170,7 @@ module _ (config : Config) (h : List BoardEntry) (x : BoardEntry) (good : IsFitt
   offered_is of p q i same = live_numbers config (x ∷ h) p.of of (fits, good) (offered_live config h x p good fits q) i same
 
   answered_is : (of : Call) (a : act.Answer) → act.act x ≡ act.Answered a → In of (live h) → a.of.number ≡ of.number → a.of ≡ of
-  answered_is of a q i same = let told = answer_told config h x a fits q in live_numbers config h a.of of good told.is_live i same
+  answered_is of a q i same = let shown = answer_told config h x a fits q in live_numbers config h a.of of good shown.is_live i same
 
   pub quiet_follows : (xs : List CellEntry) → ((p : act.Offer) → act.act x ≡ act.Offered p → p.of.cell ≡ place → ⊥)
       → ((a : act.Answer) → act.act x ≡ act.Answered a → a.of.cell ≡ place → ⊥) → ((d : Call) → In d (ended_by x) → d.cell ≡ place → ⊥)
@@ -200,8 +200,8 @@ module _ (config : Config) (h : List BoardEntry) (x : BoardEntry) (good : IsFitt
     where
       no_offer_ends : (p : act.Offer) → act.act x ≡ act.Offered p → ⊥
       no_offer_ends p q =
-          let told = offer_told config h x p fits q in
-          let j = subst (λ (cs : List Call). In d cs) (ended_by_turn x (act.Offered p) told.turn) i in elim j [ ]
+          let shown = offer_told config h x p fits q in
+          let j = subst (λ (cs : List Call). In d cs) (ended_by_turn x (act.Offered p) shown.turn) i in elim j [ ]
 
       not_live : (of : Call) → In of (live (x ∷ h)) → of.cell ≡ place → In of (live h) ⊎ In of (begun_by_act (act.act x)) → ⊥
       not_live of j p (inl k) =
@@ -213,8 +213,8 @@ module _ (config : Config) (h : List BoardEntry) (x : BoardEntry) (good : IsFitt
 
   no_ends : (p : act.Offer) → act.act x ≡ act.Offered p → (d : Call) → In d (ended_by x) → ⊥
   no_ends p q d i =
-      let told = offer_told config h x p fits q in
-      let j = subst (λ (cs : List Call). In d cs) (ended_by_turn x (act.Offered p) told.turn) i in elim j [ ]
+      let shown = offer_told config h x p fits q in
+      let j = subst (λ (cs : List Call). In d cs) (ended_by_turn x (act.Offered p) shown.turn) i in elim j [ ]
 
   -- before an offer its cell has what the rounds of its call owe
   pub before_offer : (ys : List CellEntry) (p : act.Offer) → act.act x ≡ act.Offered p → p.of.cell ≡ place → Follows place ys h
@@ -246,11 +246,11 @@ module _ (config : Config) (h : List BoardEntry) (x : BoardEntry) (good : IsFitt
       its_own : events (since_end xs) ≡ events (entries_of p.of.number (rounds (x ∷ h) p.of.number))
       its_own =
           let r = offer_round config h x p good fits q in
-          let told = offer_told config h x p fits q in
+          let shown = offer_told config h x p fits q in
           ap (λ (l : List CellEntry). events (since_end l)) split ∙ ap events (since_more c ys (ap ends event))
           ∙ ap (λ (v : CellEvent). v ∷ events (since_end ys)) (event ∙ ap (λ (ns : List ℕ). Prepare p.of.number p.legs p.keys ns) r.dropped_are)
           ∙ ap (λ (vs : List CellEvent). Prepare p.of.number p.legs p.keys (plan.demand (rounds h p.of.number) p.ask).dropped ∷ vs)
-          (before_offer ys p q at f told.id told.call_is)
+          (before_offer ys p q at f shown.id shown.call_is)
           ∙ ap (λ (rs : List Round). events (entries_of p.of.number rs)) (sym (rounds_offer h x p q))
 
   -- An answer.
@@ -264,11 +264,11 @@ module _ (config : Config) (h : List BoardEntry) (x : BoardEntry) (good : IsFitt
     none_is = λ nobody. absurd (nobody a.of still_live at);
   }
     where
-      told : IsAnswer h x a
-      told = answer_told config h x a fits q
+      shown : IsAnswer h x a
+      shown = answer_told config h x a fits q
 
       still_live : In a.of (live (x ∷ h))
-      still_live = is_live_yet a.of told.is_live (λ d i same. no_end (subst (λ (cs : List Call). In d cs) (ended_by_turn x (act.Answered a) told.turn) i))
+      still_live = is_live_yet a.of shown.is_live (λ d i same. no_end (subst (λ (cs : List Call). In d cs) (ended_by_turn x (act.Answered a) shown.turn) i))
         where
           no_end : {d : Call} → In d [] → ⊥
           no_end i = elim i [ ]
@@ -276,6 +276,6 @@ module _ (config : Config) (h : List BoardEntry) (x : BoardEntry) (good : IsFitt
       its_own : events (since_end xs) ≡ events (entries_of a.of.number (rounds (x ∷ h) a.of.number))
       its_own =
           ap (λ (l : List CellEntry). events (since_end l)) split ∙ ap events (since_more c ys (ap ends event))
-          ∙ ap (λ (v : CellEvent). v ∷ events (since_end ys)) (event ∙ ap Commit told.signal_is)
-          ∙ ap (λ (vs : List CellEvent). Commit (plan.signal (rounds h a.of.number) a.ask) ∷ vs) (f.live_is a.of told.is_live at)
+          ∙ ap (λ (v : CellEvent). v ∷ events (since_end ys)) (event ∙ ap Commit shown.signal_is)
+          ∙ ap (λ (vs : List CellEvent). Commit (plan.signal (rounds h a.of.number) a.ask) ∷ vs) (f.live_is a.of shown.is_live at)
           ∙ ap (λ (rs : List Round). events (entries_of a.of.number rs)) (sym (rounds_answer h x a q))

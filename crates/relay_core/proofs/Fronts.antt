@@ -3,7 +3,7 @@ use Rattle.std.proofs.Common.{◌≡◌, ◌∙◌, sym, ap, subst, refl, ℕ, z
 use Rattle.relay_outside.specs.declared.settings.Config.{Config}
 use Rattle.histories.specs.Words.{In}
 use Rattle.call_cell.specs.Cells.{CellEvent, CellEntry, Prepare, Commit, End, since_end}
-use Rattle.call_cell.specs.Lasting.{is_lasting, kept}
+use Rattle.call_cell.specs.SignalEntries.{is_lasting, lasting_entries}
 use Rattle.call_cell.proofs.Nested.{entry_at, SameLasting, same_lasting, kept_since}
 use Rattle.offer_answer.specs.Rounds.{Round}
 use Rattle.offer_answer.specs.Rounds as round
@@ -103,13 +103,13 @@ module _ (config : Config) (l : List Entry) (o : Orderly config l) (b : Entry) (
 
   none_ended : (p : act.Offer) → act.act x ≡ act.Offered p → (d : Call) → In d (ended_by x) → ⊥
   none_ended p q d j =
-      let told = offer_told config (board_history l b.number) x p fits q in
-      let m = subst (λ (cs : List Call). In d cs) (ended_by_turn x (act.Offered p) told.turn) j in elim m [ ]
+      let shown = offer_told config (board_history l b.number) x p fits q in
+      let m = subst (λ (cs : List Call). In d cs) (ended_by_turn x (act.Offered p) shown.turn) j in elim m [ ]
 
   none_ended_by : (a : act.Answer) → act.act x ≡ act.Answered a → (d : Call) → In d (ended_by x) → ⊥
   none_ended_by a q d j =
-      let told = answer_told config (board_history l b.number) x a fits q in
-      let m = subst (λ (cs : List Call). In d cs) (ended_by_turn x (act.Answered a) told.turn) j in elim m [ ]
+      let shown = answer_told config (board_history l b.number) x a fits q in
+      let m = subst (λ (cs : List Call). In d cs) (ended_by_turn x (act.Answered a) shown.turn) j in elim m [ ]
 
   only_prepare : (p : act.Offer) → act.act x ≡ act.Offered p → p.of.cell ≡ place → IsOnly l place b.number (Prepare p.of.number p.legs p.keys p.dropped)
   only_prepare p q at =
@@ -274,7 +274,7 @@ front_follows config l o place n k above_board above =
 
 -- What a cell has.
 
-all_last : (number : ℕ) (rs : List Round) → kept (entries_of number rs) ≡ entries_of number rs
+all_last : (number : ℕ) (rs : List Round) → lasting_entries (entries_of number rs) ≡ entries_of number rs
 all_last number [] = refl
 all_last number (round.Offered ask new keys ∷ rs) =
     ap (λ (t : List CellEntry). entry_at 0 (Prepare number new keys (demand rs ask).dropped) ∷ t) (all_last number rs)
@@ -299,7 +299,7 @@ pub offer_cell_is : (config : Config) (l : List Entry) → Orderly config l → 
     → FitsBoard config (board_history l n) x → act.act x ≡ act.Offered p → IsAbove l p.of.cell k
     → SameLasting (since_end (cell_history l p.of.cell k)) (entries_of p.of.number (rounds (board_history l n) p.of.number))
 offer_cell_is config l o n k x p above_board fits q above =
-    let told = offer_told config (board_history l n) x p fits q in
+    let shown = offer_told config (board_history l n) x p fits q in
     same_by l p.of.cell k p.of.number (rounds (board_history l n) p.of.number)
     (before_offer config (board_history l n) x (good_history config l o n) fits p.of.cell (lasting l p.of.cell k) p q refl
-    (front_follows config l o p.of.cell n k above_board above) told.id told.call_is)
+    (front_follows config l o p.of.cell n k above_board above) shown.id shown.call_is)

@@ -7,7 +7,7 @@ use Rattle.call_board.specs.Acts.{BoardEntry}
 use Rattle.call_board.specs.Fits.{FitsBoard}
 use Rattle.relay_core.specs.Entries.{Entry, board_entry, board_history}
 use Rattle.relay_core.specs.Scripts.{Owed, owed_by, script}
-pub use Rattle.relay_core.specs.Turning.{Rising, Gained}
+pub use Rattle.relay_core.specs.Turns.{Rising, GainedOwed}
 use Rattle.relay_core.proofs.Turns.{Numbered, IsAbove, IsTurn, numbered_append, numbered_single}
 
 pub rising_above : (l ns : List Entry) → Rising l ns → (e : Entry) → In e ns → IsAbove l e.place e.number
@@ -56,7 +56,7 @@ rising_append l [] ms r s = rising_from l (l ++ []) ms (λ e i. in_left l [] i) 
 rising_append l (g ∷ ns) ms r s =
     (r.0, rising_append (l ++ g ∷ []) ns ms r.1 (subst (λ k. Rising k ms) (sym (append_assoc l (g ∷ []) ns)) s))
 
-pub gained_nothing : (l : List Entry) (number : ℕ) → Gained l number [] []
+pub gained_nothing : (l : List Entry) (number : ℕ) → GainedOwed l number [] []
 gained_nothing l number = record {
   owes = refl;
   of_board = λ e i. elim i [ ];
@@ -65,7 +65,7 @@ gained_nothing l number = record {
 
 -- one entry
 pub gained_one : (l : List Entry) (number : ℕ) (e : Entry) → e.board ≡ number
-    → IsAbove l e.place e.number → Gained l number (owed_by e ∷ []) (e ∷ [])
+    → IsAbove l e.place e.number → GainedOwed l number (owed_by e ∷ []) (e ∷ [])
 gained_one l number e of_board above = record {
   owes = refl;
   of_board = λ f i. only f i;
@@ -82,7 +82,7 @@ map_append f (x ∷ xs) ys = ap (λ zs. f x ∷ zs) (map_append f xs ys)
 
 -- one after the other
 pub gained_more : (l : List Entry) (number : ℕ) (events others : List Owed) (ns ms : List Entry)
-    → Gained l number events ns → Gained (l ++ ns) number others ms → Gained l number (events ++ others) (ns ++ ms)
+    → GainedOwed l number events ns → GainedOwed (l ++ ns) number others ms → GainedOwed l number (events ++ others) (ns ++ ms)
 gained_more l number events others ns ms a b = record {
   owes = map_append owed_by ns ms ∙ ap (λ xs. xs ++ map owed_by ms) a.owes ∙ ap (λ xs. events ++ xs) b.owes;
   of_board = λ e i. either e (in_append ns ms i);
@@ -95,7 +95,7 @@ gained_more l number events others ns ms a b = record {
 
 -- a list that gains a script makes the turn of its board entry
 pub turn_made : (config : Config) (l ns : List Entry) (b : Entry) (x : BoardEntry) → board_entry b ≡ Some x → b.place ≡ 0 → IsAbove l 0 b.number
-    → FitsBoard config (board_history l b.number) x → Gained l b.number (script config (board_history l b.number) x) ns
+    → FitsBoard config (board_history l b.number) x → GainedOwed l b.number (script config (board_history l b.number) x) ns
     → IsTurn config l ns b
 turn_made config l ns b x is at_board at_front fits g = record {
   entry = x;

@@ -7,17 +7,17 @@ use Rattle.std.proofs.lemmas.Option.{slice_get_within}
 use Rattle.relay_outside.specs.declared.ports.InCall.{InCall}
 use Rattle.relay_outside.specs.declared.ports.OutCall.{OutCall}
 use Rattle.relay_outside.specs.declared.settings.Config.{Config}
-use Rattle.relay_outside.specs.Told.{EndTold}
+use Rattle.relay_outside.specs.DeviceLogs.{EndLog}
 use Rattle.turn_table.specs.declared.machine.Entry as table
 use Rattle.turn_table.specs.declared.view.View.{View}
-use Rattle.turn_table.specs.Steps.{Given}
+use Rattle.turn_table.specs.Steps.{GivenView}
 use Rattle.histories.specs.Words.{In, first}
 use Rattle.port_pool.specs.declared.holder.Holder.{Holder}
 use Rattle.port_pool.specs.Signals.{NewKey}
 use Rattle.port_pool.specs.Boxes.{BoxEvent, Open, Take, Close, holder}
 use Rattle.call_cell.specs.Cells.{CellEvent, CellEntry, Prepare, Commit, Relay, Expire, Read, End, keys_in, key_numbered}
 use Rattle.call_cell.specs.Good.{empty}
-use Rattle.call_cell.specs.CellStanding.{CellFor}
+use Rattle.call_cell.specs.CellHistories.{CellFor}
 use Rattle.call_cell.proofs.Counting.{picked_few}
 use Rattle.call_board.specs.Acts.{BoardEntry}
 use Rattle.call_board.specs.Boards.{BoardFor}
@@ -25,12 +25,12 @@ use Rattle.call_board.specs.Fits.{IsFitting}
 use Rattle.relay_core.specs.declared.part.Part.{Part}
 use Rattle.relay_core.specs.declared.part.Part.TheVariants as part
 use Rattle.relay_core.specs.Entries.{Event, Board, Cell, Box, Entry, is_at, history, board_at, cell_at, box_in, board_entry, cell_entry, box_event, board_history, cell_history, box_history}
-use Rattle.relay_core.specs.Made.{Made, entry_of, list_of}
+use Rattle.relay_core.specs.Records.{Made, entry_of, list_of}
 use Rattle.relay_core.specs.Legal.{Orderly}
-use Rattle.relay_core.specs.Recorded.{is_boards, AreReturned}
+use Rattle.relay_core.specs.ReturnedPairs.{is_boards, AreReturned}
 use Rattle.relay_core.specs.Steps.{is_reserved, IsReserved}
-use Rattle.relay_core.specs.Beginning.{AreParts, AreCells, AreBoxes, IsCell, IsBox, BeginsAs}
-use Rattle.relay_core.specs.Standing.{told_entry, BringsNewKeys, Stands, IsBoardPart, IsCellPart, IsBoxPart, nested_of, BoardIs, BoxIs, CellIs}
+use Rattle.relay_core.specs.FirstPlaces.{AreParts, AreCells, AreBoxes, IsCell, IsBox, BeginsAs}
+use Rattle.relay_core.specs.PlaceHistories.{logged_entry, BringsNewKeys, Stands, IsBoardPart, IsCellPart, IsBoxPart, nested_of, BoardIs, BoxIs, CellIs}
 use Rattle.relay_core.proofs.Recording.{gives_back}
 use Rattle.relay_core.proofs.Stays.{onto, Steps, GivesBack, GiveBackOnto, give_back_from, stands_onto, board_stays, cell_stays, box_stays}
 use Rattle.relay_core.proofs.Own.{IsOwn, own_history}
@@ -188,7 +188,7 @@ cell_kept (e ∷ h) =
 -- Which keys a history brings is said by its nested entries.
 
 told_nested_by : (moment : ℕ) (c : CellEvent) (h k : List CellEntry) → nested_of h ≡ nested_of k
-    → nested_of (told_entry (record { moment = moment; event = c }) ∷ h) ≡ nested_of ((record { moment = moment; event = c }) ∷ k)
+    → nested_of (logged_entry (record { moment = moment; event = c }) ∷ h) ≡ nested_of ((record { moment = moment; event = c }) ∷ k)
 told_nested_by moment (Prepare call legs keys dropped) h k rest = ap (λ (xs : List CellEntry). (record { moment = moment; event = Prepare call legs keys dropped }) ∷ xs) rest
 told_nested_by moment (Commit signal) h k rest = ap (λ (xs : List CellEntry). (record { moment = moment; event = Commit signal }) ∷ xs) rest
 told_nested_by moment (Relay x) h k rest = rest
@@ -196,9 +196,9 @@ told_nested_by moment (Expire due) h k rest = ap (λ (xs : List CellEntry). (rec
 told_nested_by moment (Read reports) h k rest = ap (λ (xs : List CellEntry). (record { moment = moment; event = Read reports }) ∷ xs) rest
 told_nested_by moment End h k rest = ap (λ (xs : List CellEntry). (record { moment = moment; event = End }) ∷ xs) rest
 
-pub told_nested : (h : List CellEntry) → nested_of (map told_entry h) ≡ nested_of h
+pub told_nested : (h : List CellEntry) → nested_of (map logged_entry h) ≡ nested_of h
 told_nested [] = refl
-told_nested (e ∷ h) = told_nested_by e.moment e.event (map told_entry h) h (told_nested h)
+told_nested (e ∷ h) = told_nested_by e.moment e.event (map logged_entry h) h (told_nested h)
 
 nested_keys_by : (moment : ℕ) (c : CellEvent) (h : List CellEntry) → keys_in (nested_of h) ≡ keys_in h
     → keys_in (nested_of ((record { moment = moment; event = c }) ∷ h)) ≡ keys_in ((record { moment = moment; event = c }) ∷ h)
@@ -273,7 +273,7 @@ module _ {I O : Type 0} where
 
   short_is : (config : Config) (x : Part I O) (h : List Entry) → IsCellPart x → Stands config x h → IsShort config x (length h)
   short_is config (part.Cell c) h is for =
-      (for.history, omega (arith, length-map for.history told_entry, ap length for.is_recorded, picked_few cell_entry h), for.stands)
+      (for.history, omega (arith, length-map for.history logged_entry, ap length for.is_recorded, picked_few cell_entry h), for.stands)
   short_is config (part.Board b) h is for = absurd is
   short_is config (part.Pair b) h is for = absurd is
 
@@ -310,9 +310,9 @@ where_boards made (Board b) h gives = gives refl
 where_boards made (Cell c) h gives = tt
 where_boards made (Box b) h gives = tt
 
-module _ {T I O : Type 0} (it : I → EndTold InCall) (ic : I → ℕ) (ot : O → EndTold OutCall) (oc : O → ℕ) where
+module _ {T I O : Type 0} (it : I → EndLog InCall) (ic : I → ℕ) (ot : O → EndLog OutCall) (oc : O → ℕ) where
   abbrev pub Gives : ℕ → View (Part I O) Made T → ℕ → Part I O → Type 0
-  Gives k v n x = Given (Steps {T = T} it ic ot oc) IsReserved k v n x
+  Gives k v n x = GivenView (Steps {T = T} it ic ot oc) IsReserved k v n x
 
   abbrev Numbered : List (table.Entry Made T) → Type 0
   Numbered rows = (e : Entry) → In e (list_of rows) → length (filter (is_at e.place e.number) (list_of rows)) ≡ 1

@@ -3,23 +3,23 @@ use Rattle.std.proofs.Common.{◌≡◌, subst, sym, ℕ, ◌≤◌, true, [], O
 use Rattle.relay_outside.specs.declared.ports.InCall.{InCall}
 use Rattle.relay_outside.specs.declared.ports.OutCall.{OutCall}
 use Rattle.relay_outside.specs.declared.settings.Config.{Config}
-use Rattle.relay_outside.specs.Told.{EndTold}
+use Rattle.relay_outside.specs.DeviceLogs.{EndLog}
 use Rattle.rtp_packet.specs.declared.head.Half.TheVariants.{Rtp}
 use Rattle.turn_table.specs.declared.view.View.{View}
 use Rattle.port_pool.specs.Ports.{port_address}
 use Rattle.port_pool.specs.PairBoxes.{at_of}
 use Rattle.relay_core.specs.declared.part.Part.{Part}
 use Rattle.relay_core.specs.declared.part.Part.TheVariants as part
-use Rattle.relay_core.specs.Beginning.{AreParts, BeginsAs, pair_at}
+use Rattle.relay_core.specs.FirstPlaces.{AreParts, BeginsAs, pair_at}
 use Rattle.relay_core.specs.Entries.{box_of, cell_history}
-use Rattle.relay_core.specs.Made.{Made, list_of}
-use Rattle.relay_core.specs.Standing.{BringsNewKeys, AreHome, BoxHome, CellHome}
-use Rattle.relay_core.specs.Turning.{Numbered}
+use Rattle.relay_core.specs.Records.{Made, list_of}
+use Rattle.relay_core.specs.PlaceHistories.{BringsNewKeys, AreHome, BoxHome, CellHome}
+use Rattle.relay_core.specs.Turns.{Numbered}
 use Rattle.relay_core.proofs.Stays.{home_stays}
 use Rattle.relay_core.proofs.Homes.{no_legs_home, rows_home}
 use Rattle.relay_core.proofs.Given.{Gives, begins_as, cell_begins, given_brings}
 
-module _ {I O : Type 0} (it : I → EndTold InCall) (ot : O → EndTold OutCall) (oc : O → ℕ) where
+module _ {I O : Type 0} (it : I → EndLog InCall) (ot : O → EndLog OutCall) (oc : O → ℕ) where
   box_begins_home : (config : Config) (pair : ℕ) (x : Part I O) → BeginsAs config (box_of config pair) x → BoxHome it config pair x
   box_begins_home config pair (part.Board b) is = absurd (let k = is.0 in omega (arith, k))
   box_begins_home config pair (part.Cell c) is = absurd (let k = is.1 in omega (arith, k))
@@ -32,7 +32,7 @@ module _ {I O : Type 0} (it : I → EndTold InCall) (ot : O → EndTold OutCall)
   cell_begins_home config k (part.Cell c) low high is = no_legs_home ot oc config c is.2.legs_for
   cell_begins_home config k (part.Pair b) low high is = absurd (let l = is.0 in omega (arith, l, high))
 
-module _ {T I O : Type 0} (it : I → EndTold InCall) (ic : I → ℕ) (ot : O → EndTold OutCall) (oc : O → ℕ) where
+module _ {T I O : Type 0} (it : I → EndLog InCall) (ic : I → ℕ) (ot : O → EndLog OutCall) (oc : O → ℕ) where
   -- of a box, by any hand
   pub given_box_home : (config : Config) (v : View (Part I O) Made T) (pair n : ℕ) (x : Part I O) → AreParts config v.starts
       → Gives it ic ot oc (box_of config pair) v n x → BoxHome it config pair x

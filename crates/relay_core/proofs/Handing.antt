@@ -8,9 +8,9 @@ use Rattle.call_cell.specs.Cells.{Relay, Relayed}
 use Rattle.call_board.specs.Acts.{BoardEntry}
 use Rattle.relay_core.specs.Entries.{Event, Board, Cell, Box, Entry, is_nested, board_at}
 use Rattle.relay_core.specs.Legal.{IsReceived, is_handed_boards, Orderly}
-use Rattle.relay_core.specs.Made.{Made, entry_of, list_of}
-use Rattle.relay_core.specs.Turning.{IsTurn, with_turn, IsReceiving}
-use Rattle.relay_core.specs.Handed.{IsHanded}
+use Rattle.relay_core.specs.Records.{Made, entry_of, list_of}
+use Rattle.relay_core.specs.Turns.{IsTurn, with_turn, IsReceiving}
+use Rattle.relay_core.specs.NestedMoments.{IsHanded}
 use Rattle.relay_core.proofs.Own.{rows_in}
 use Rattle.relay_core.proofs.Turns.{before_left, turn_elsewhere, Part, old, new, last, part_of}
 use Rattle.relay_core.proofs.Joins.{row_append, boards_nested}
@@ -27,25 +27,25 @@ not_relay moment (Box b) x r q is = let k = q in cc
 
 module _ {T : Type 0} where
   pub data RowPart (rows ns : List (table.Entry Made T)) (b row : table.Entry Made T) : Type 0 where
-    before : table_lists.In row rows → RowPart rows ns b row
-    nested : table_lists.In row ns → RowPart rows ns b row
+    before : table_lists.IsMemberOf row rows → RowPart rows ns b row
+    nested : table_lists.IsMemberOf row ns → RowPart rows ns b row
     boards : row ≡ b → RowPart rows ns b row
 
-  row_part : (rows ns : List (table.Entry Made T)) (b row : table.Entry Made T) → table_lists.In row ((rows ++ ns) ++ b ∷ []) → RowPart rows ns b row
+  row_part : (rows ns : List (table.Entry Made T)) (b row : table.Entry Made T) → table_lists.IsMemberOf row ((rows ++ ns) ++ b ∷ []) → RowPart rows ns b row
   row_part rows ns b row i = outer (row_append (rows ++ ns) (b ∷ []) i)
     where
-      inner : table_lists.In row rows ⊎ table_lists.In row ns → RowPart rows ns b row
+      inner : table_lists.IsMemberOf row rows ⊎ table_lists.IsMemberOf row ns → RowPart rows ns b row
       inner (inl j) = before j
       inner (inr j) = nested j
 
-      outer : table_lists.In row (rows ++ ns) ⊎ table_lists.In row (b ∷ []) → RowPart rows ns b row
+      outer : table_lists.IsMemberOf row (rows ++ ns) ⊎ table_lists.IsMemberOf row (b ∷ []) → RowPart rows ns b row
       outer (inl j) = inner (row_append rows ns j)
       outer (inr (table_lists.here q)) = boards q
       outer (inr (table_lists.there j)) = elim j [ ]
 
   module _ (config : Config) (rows ns : List (table.Entry Made T)) (b : table.Entry Made T) (o : Orderly config (list_of rows))
       (t : IsTurn config (list_of rows) (list_of ns) (entry_of b)) (handed : IsHanded rows)
-      (same : (row : table.Entry Made T) → table_lists.In row ns → row.event.handed ≡ b.event.moment) where
+      (same : (row : table.Entry Made T) → table_lists.IsMemberOf row ns → row.event.handed ≡ b.event.moment) where
     turn_case : (row c : table.Entry Made T) → is_handed_boards row.event.event ≡ true → c.place ≡ 0 → c.number ≡ row.event.board
         → RowPart rows ns b row → RowPart rows ns b c → row.event.handed ≡ c.event.moment
     turn_case row c h p q (before i) (before j) = handed row i h c j p q

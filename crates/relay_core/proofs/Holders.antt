@@ -14,7 +14,7 @@ use Rattle.call_board.proofs.Once.{once_equal}
 use Rattle.call_board.proofs.Held.{closes_held, closed_of_held}
 use Rattle.call_board.proofs.Free.{free_not_held, new_leg_free, new_legs_once, held_apart}
 use Rattle.relay_core.specs.Entries.{Event, Board, Cell, Box, Entry, is_nested, front, board_entry, board_history, box_in, box_event, box_of}
-use Rattle.relay_core.specs.Scripts.{Owed, owed_by, opening, closing}
+use Rattle.relay_core.specs.Scripts.{Owed, owed_by, open_owed, closing}
 use Rattle.relay_core.specs.Legal.{Orderly}
 use Rattle.relay_core.specs.Safe.{box_before}
 use Rattle.relay_core.proofs.Histories.{both, and_true, same_at, good_history}
@@ -64,7 +64,7 @@ owed_box config h e w v is (prepares o q p) = absurd (let k = ap (λ (u : Owed).
 owed_box config h e w v is (commits o q p) = absurd (let k = ap (λ (u : Owed). u.event) p in let z = is in cc)
 owed_box config h e w v is (ends o q p) = absurd (let k = ap (λ (u : Owed). u.event) p in let z = is in cc)
 owed_box config h e w v is (expires o due q p) = absurd (let k = ap (λ (u : Owed). u.event) p in let z = is in cc)
-owed_box config h e w v is (reads o told p) = absurd (let k = ap (λ (u : Owed). u.event) p in let z = is in cc)
+owed_box config h e w v is (reads o log p) = absurd (let k = ap (λ (u : Owed). u.event) p in let z = is in cc)
 
 -- the board's entry to which a box's opening or close belongs
 pub box_owed : (config : Config) (l : List Entry) → Orderly config l → (g : Entry) (v : BoxEvent) → (b : IsNestedIn config l g) → box_event g ≡ Some v
@@ -109,7 +109,7 @@ keeps_held config l o n leg s b x i p h k (inr m) =
 
 -- what comes to the box after its opening leaves it the leg's
 stays_open : (config : Config) (l : List Entry) → Orderly config l → (n : ℕ) (leg : Holder) (s : HeldSince l n leg)
-    → (m : IsMade l s.lease.board (opening config leg)) → (g : Entry) → In g l → g.place ≡ box_of config leg.pair
+    → (m : IsMade l s.lease.board (open_owed config leg)) → (g : Entry) → In g l → g.place ≡ box_of config leg.pair
     → m.entry.number < g.number → is_nested g.event ≡ true → g.board < n → (v : Option BoxEvent) → box_event g ≡ v → Leaves leg v
 stays_open config l o n leg s m g i p later nested before None is = tt
 stays_open config l o n leg s m g i p later nested before (Some v) is =
@@ -124,7 +124,7 @@ stays_open config l o n leg s m g i p later nested before (Some v) is =
 pub is_opened : (config : Config) (l : List Entry) → Orderly config l → (n : ℕ) (leg : Holder) → HeldSince l n leg
     → Opened l (box_of config leg.pair) (passes_below n) (front l (box_of config leg.pair)) leg
 is_opened config l o n leg s =
-    let m = is_made config l o s.lease.board s.lease.entry s.lease.is_in s.lease.is (opening config leg)
+    let m = is_made config l o s.lease.board s.lease.entry s.lease.is_in s.lease.is (open_owed config leg)
     (has_opening config (board_history l s.lease.board.number) s.lease.entry s.lease.offer leg s.lease.acts s.lease.has_leg) in
     let at = ap (λ (u : Owed). u.place) m.is in
     record {

@@ -6,7 +6,7 @@ use Rattle.relay_outside.specs.declared.address.Addr.{Addr}
 use Rattle.relay_outside.specs.declared.ports.InCall.{InCall}
 use Rattle.relay_outside.specs.declared.ports.OutCall.{OutCall}
 use Rattle.relay_outside.specs.declared.settings.Config.{Config}
-use Rattle.relay_outside.specs.Told.{EndTold}
+use Rattle.relay_outside.specs.DeviceLogs.{EndLog}
 use Rattle.rtp_packet.specs.declared.head.Half.{Half}
 use Rattle.rtp_packet.specs.declared.head.Half.TheVariants.{Rtp, Rtcp}
 use Rattle.turn_table.specs.declared.machine.Entry as table
@@ -19,49 +19,49 @@ use Rattle.port_pool.specs.declared.holder.Holder.{Holder}
 use Rattle.port_pool.specs.declared.signal.SectionSignal.{SectionSignal}
 use Rattle.port_pool.specs.Signals.{is_rejected, NewKey}
 use Rattle.call_cell.specs.declared.leg.Leg.{Leg}
-use Rattle.call_cell.specs.declared.sending.Sending as parts
+use Rattle.call_cell.specs.declared.sender.Sending as parts
 use Rattle.call_cell.specs.declared.prepare.Prepare as prepared
 use Rattle.call_cell.specs.declared.cell.Cell as cell
 use Rattle.call_cell.specs.declared.outcome.Outcome.{Outcome}
 use Rattle.call_cell.specs.Cells.{CellEvent, CellEntry, Sending, Receipt, Prepare, Commit, Relay, Expire, Read, End, keys_of, legs, since_end}
 use Rattle.call_cell.specs.Deeds.{deed, found, opposite_of, is_leaving}
 use Rattle.call_cell.specs.Parts.{SendsBy}
-use Rattle.call_cell.specs.Standing.{EndsFor, LegsFor, sent_ok}
-use Rattle.call_cell.specs.CellStanding.{CellFor, CellRelays}
-use Rattle.call_cell.specs.Preparing.{added, CellPrepares}
-use Rattle.call_cell.specs.Committing.{stays_by, CellCommits}
-use Rattle.call_cell.specs.Ending.{parts_of}
+use Rattle.call_cell.specs.LegHistories.{EndsFor, LegsStandFor, sent_ok}
+use Rattle.call_cell.specs.CellHistories.{CellFor, CellRelays}
+use Rattle.call_cell.specs.Preparations.{added, CellPrepares}
+use Rattle.call_cell.specs.Commits.{stays_by, CellCommits}
+use Rattle.call_cell.specs.CellEnds.{parts_of}
 use Rattle.call_cell.proofs.Few.{in_at, each_in}
 use Rattle.relay_core.specs.declared.part.Part.{Part}
 use Rattle.relay_core.specs.declared.part.Part.TheVariants as part
 use Rattle.relay_core.specs.Entries.{Event, Board, Cell, Box, Entry, cell_at, cell_entry}
-use Rattle.relay_core.specs.Made.{Made, entry_of}
+use Rattle.relay_core.specs.Records.{Made, entry_of}
 use Rattle.relay_core.specs.Steps.{AreOpened, AreNew, CellStepsBy, CellSteps, Relates}
-use Rattle.relay_core.specs.Standing.{BringsNewKeys, CellStands, Stands, IsCellPart, IsBoardPart, LegsHome, GoneHome, CellHome}
+use Rattle.relay_core.specs.PlaceHistories.{BringsNewKeys, CellStands, Stands, IsCellPart, IsBoardPart, LegsHome, GoneHome, CellHome}
 use Rattle.relay_core.proofs.OutsTold.{partner, filter_mapped, nothing_in, holder_of, legs_relayed}
 use Rattle.relay_core.proofs.Stays.{onto, Steps, brings_onto, stands_onto, cell_stays, new_recorded}
 
-module _ {O : Type 0} (told : O → EndTold OutCall) (faults : O → ℕ) where
+module _ {O : Type 0} (log : O → EndLog OutCall) (faults : O → ℕ) where
   -- the leg has the out ends of its pair
   abbrev IsHome : Config → Leg O → Type 0
-  IsHome config leg = AreOfPair told (port_address config leg.holder.pair Rtp) leg.sending.rtp leg.sending.rtcp
+  IsHome config leg = AreOfPair log (port_address config leg.holder.pair Rtp) leg.sending.rtp leg.sending.rtcp
 
   -- A relay.
 
   -- by what a relay does to the out ends of a leg, they are of the same ports
-  sent_home : (half : Half) (to : Addr) (bytes : List ℕ) (ok : Bool) (at : Addr) (old new : parts.Sending O) → SendsBy told faults half to bytes ok old new
-      → AreOfPair told at old.rtp old.rtcp → AreOfPair told at new.rtp new.rtcp
+  sent_home : (half : Half) (to : Addr) (bytes : List ℕ) (ok : Bool) (at : Addr) (old new : parts.Sending O) → SendsBy log faults half to bytes ok old new
+      → AreOfPair log at old.rtp old.rtcp → AreOfPair log at new.rtp new.rtcp
   sent_home Rtp to bytes ok at old new s home =
-      record { rtp_at = s.gains.same ∙ home.rtp_at; rtcp_at = ap (λ (e : O). (told e).at) s.other ∙ home.rtcp_at }
+      record { rtp_at = s.gains.same ∙ home.rtp_at; rtcp_at = ap (λ (e : O). (log e).at) s.other ∙ home.rtcp_at }
   sent_home Rtcp to bytes ok at old new s home =
-      record { rtp_at = ap (λ (e : O). (told e).at) s.other ∙ home.rtp_at; rtcp_at = s.gains.same ∙ home.rtcp_at }
+      record { rtp_at = ap (λ (e : O). (log e).at) s.other ∙ home.rtp_at; rtcp_at = s.gains.same ∙ home.rtcp_at }
 
-  kept_home : (at : Addr) (old new : parts.Sending O) → (new.rtp ≡ old.rtp) × (new.rtcp ≡ old.rtcp) → AreOfPair told at old.rtp old.rtcp → AreOfPair told at new.rtp new.rtcp
+  kept_home : (at : Addr) (old new : parts.Sending O) → (new.rtp ≡ old.rtp) × (new.rtcp ≡ old.rtcp) → AreOfPair log at old.rtp old.rtcp → AreOfPair log at new.rtp new.rtcp
   kept_home at old new same home =
-      record { rtp_at = ap (λ (e : O). (told e).at) same.0 ∙ home.rtp_at; rtcp_at = ap (λ (e : O). (told e).at) same.1 ∙ home.rtcp_at }
+      record { rtp_at = ap (λ (e : O). (log e).at) same.0 ∙ home.rtp_at; rtcp_at = ap (λ (e : O). (log e).at) same.1 ∙ home.rtcp_at }
 
-  ends_home : (leaves : Bool) (sending : Option Sending) (ok : Bool) (at : Addr) (old new : parts.Sending O) → EndsFor told faults leaves sending ok old new
-      → AreOfPair told at old.rtp old.rtcp → AreOfPair told at new.rtp new.rtcp
+  ends_home : (leaves : Bool) (sending : Option Sending) (ok : Bool) (at : Addr) (old new : parts.Sending O) → EndsFor log faults leaves sending ok old new
+      → AreOfPair log at old.rtp old.rtcp → AreOfPair log at new.rtp new.rtcp
   ends_home true None ok at old new e home = kept_home at old new e home
   ends_home false None ok at old new e home = kept_home at old new e home
   ends_home false (Some w) ok at old new e home = kept_home at old new e home
@@ -73,9 +73,9 @@ module _ {O : Type 0} (told : O → EndTold OutCall) (faults : O → ℕ) where
   at_in_legs (z ∷ xs) (suc n) y low = there (at_in_legs xs n y (omega (arith, low)))
 
   relay_home : (config : Config) (old new : cell.Cell O) (h : List CellEntry) (p : Receipt) (now : ℕ) (buf : List ℕ) (result : Outcome) → CellFor config old h
-      → CellRelays told faults config old new h p now buf result → LegsHome told config old.legs.items → LegsHome told config new.legs.items
+      → CellRelays log faults config old new h p now buf result → LegsHome log config old.legs.items → LegsHome log config new.legs.items
   relay_home config old new h p now buf result for relays before leg i =
-      let same = legs_relayed told faults config old new h p now buf result for relays in
+      let same = legs_relayed log faults config old new h p now buf result for relays in
       let long = ap length same in
       let long_new = length-map new.legs.items holder_of in
       let long_old = length-map old.legs.items holder_of in
@@ -90,23 +90,23 @@ module _ {O : Type 0} (told : O → EndTold OutCall) (faults : O → ℕ) where
       ∙ get_or-map holder_of old.legs.items a.at leg leg.holder was in
       let d = deed config (since_end h) p (sent_ok result) in
       let y : Leg O = get_or new.legs.items a.at leg in
-      let home : AreOfPair told (port_address config x.holder.pair Rtp) y.sending.rtp y.sending.rtcp
+      let home : AreOfPair log (port_address config x.holder.pair Rtp) y.sending.rtp y.sending.rtcp
       = ends_home (is_leaving (opposite_of (since_end h) (found (since_end h) p)) x.holder) d.sending (sent_ok result) (port_address config x.holder.pair Rtp)
       x.sending y.sending (relays.ends a.at leg was) (before x (at_in_legs old.legs.items a.at leg was)) in
-      subst (λ (l : Leg O). AreOfPair told (port_address config leg.holder.pair Rtp) l.sending.rtp l.sending.rtcp) (a.is leg)
-      (subst (λ (k : Holder). AreOfPair told (port_address config k.pair Rtp) y.sending.rtp y.sending.rtcp) (sym holder) home)
+      subst (λ (l : Leg O). AreOfPair log (port_address config leg.holder.pair Rtp) l.sending.rtp l.sending.rtcp) (a.is leg)
+      (subst (λ (k : Holder). AreOfPair log (port_address config k.pair Rtp) y.sending.rtp y.sending.rtcp) (sym holder) home)
 
   -- Legs that stay, and legs that go.
 
   -- a leg that is a form of one that has the out ends of its pair
   form_home : (config : Config) (leg other : Leg O) → leg.holder ≡ other.holder → parts_of leg ≡ parts_of other → IsHome config other → IsHome config leg
   form_home config leg other holder parts home = record {
-    rtp_at = ap (λ (p : Lease × O × O). (told p.1).at) parts ∙ home.rtp_at ∙ ap (λ (k : Holder). port_address config k.pair Rtp) (sym holder);
-    rtcp_at = ap (λ (p : Lease × O × O). (told p.2).at) parts ∙ home.rtcp_at ∙ ap (λ (k : Holder). rtcp_address (port_address config k.pair Rtp)) (sym holder);
+    rtp_at = ap (λ (p : Lease × O × O). (log p.1).at) parts ∙ home.rtp_at ∙ ap (λ (k : Holder). port_address config k.pair Rtp) (sym holder);
+    rtcp_at = ap (λ (p : Lease × O × O). (log p.2).at) parts ∙ home.rtcp_at ∙ ap (λ (k : Holder). rtcp_address (port_address config k.pair Rtp)) (sym holder);
   }
 
   commit_home : (config : Config) (old new : cell.Cell O) (h : List CellEntry) (signal : List SectionSignal) (now : ℕ) (gone : List (Lease × O × O)) → CellFor config old h
-      → CellCommits config old new h signal now gone → LegsHome told config old.legs.items → LegsHome told config new.legs.items
+      → CellCommits config old new h signal now gone → LegsHome log config old.legs.items → LegsHome log config new.legs.items
   commit_home config old new h signal now gone for commits before leg i =
       let holders : map holder_of new.legs.items ≡ map holder_of (filter (λ (l : Leg O). stays_by signal l) old.legs.items)
       = commits.stands.legs_for.holders
@@ -117,8 +117,8 @@ module _ {O : Type 0} (told : O → EndTold OutCall) (faults : O → ℕ) where
       form_home config leg p.other p.one p.two (before p.other (filtered (λ (l : Leg O). stays_by signal l) old.legs.items p.is_in).0)
 
   prepare_home : (config : Config) (old new : cell.Cell O) (h : List CellEntry) (signal : prepared.Prepare O) (call : ℕ) (keys : List NewKey) (dropped : List ℕ) (now : ℕ)
-      (gone : List (Lease × O × O)) → CellFor config old h → CellPrepares config old new h signal call keys dropped now gone → AreOpened told old.config signal
-      → LegsHome told config old.legs.items → LegsHome told config new.legs.items
+      (gone : List (Lease × O × O)) → CellFor config old h → CellPrepares config old new h signal call keys dropped now gone → AreOpened log old.config signal
+      → LegsHome log config old.legs.items → LegsHome log config new.legs.items
   prepare_home config old new h signal call keys dropped now gone for prepares opened before leg i =
       let keep : Holder → Bool = λ (l : Holder). not (has dropped l.section) in
       let stay : List (Leg O) = filter (λ (l : Leg O). not (has dropped l.holder.section)) old.legs.items in
@@ -136,34 +136,34 @@ module _ {O : Type 0} (told : O → EndTold OutCall) (faults : O → ℕ) where
       either other (inl j) = before other (filtered (λ (l : Leg O). not (has dropped l.holder.section)) old.legs.items j).0
       either other (inr j) =
           let o = opened other j in
-          subst (λ (c : Config). AreOfPair told (port_address c other.holder.pair Rtp) other.sending.rtp other.sending.rtcp) for.config_is
+          subst (λ (c : Config). AreOfPair log (port_address c other.holder.pair Rtp) other.sending.rtp other.sending.rtcp) for.config_is
           (record { rtp_at = o.rtp.at_is; rtcp_at = o.rtcp.at_is })
 
-  pub no_legs_home : (config : Config) (new : cell.Cell O) → LegsFor config [] new.legs.items → LegsHome told config new.legs.items
+  pub no_legs_home : (config : Config) (new : cell.Cell O) → LegsStandFor config [] new.legs.items → LegsHome log config new.legs.items
   no_legs_home config new for leg i =
       absurd (elim (subst (λ (ls : List (Leg O)). In leg ls)
       (nothing_in new.legs.items (let a = length-map new.legs.items holder_of in let b = ap length for.holders in omega (arith, a, b))) i) [ ])
 
   -- what goes has the out ends of the pairs that are leased
   pub gone_home : (config : Config) (cell : cell.Cell O) (h : List CellEntry) (those : List (Leg O)) (gone : List (Lease × O × O)) → CellFor config cell h
-      → LegsHome told config cell.legs.items → ((leg : Leg O) → In leg those → In leg cell.legs.items) → gone ≡ map (λ (leg : Leg O). parts_of leg) those
-      → GoneHome told config gone
+      → LegsHome log config cell.legs.items → ((leg : Leg O) → In leg those → In leg cell.legs.items) → gone ≡ map (λ (leg : Leg O). parts_of leg) those
+      → GoneHome log config gone
   gone_home config cell h those gone for home within went =
-      subst (λ (g : List (Lease × O × O)). GoneHome told config g) (sym went)
+      subst (λ (g : List (Lease × O × O)). GoneHome log config g) (sym went)
       (each those (λ leg i. home leg (within leg i)) (λ leg i. (each_in config (since_end h) cell.legs.items leg for.legs_for (within leg i)).pair))
     where
-      each : (those : List (Leg O)) → LegsHome told config those → ((leg : Leg O) → In leg those → leg.lease.pair ≡ leg.holder.pair)
-          → GoneHome told config (map (λ (leg : Leg O). parts_of leg) those)
+      each : (those : List (Leg O)) → LegsHome log config those → ((leg : Leg O) → In leg those → leg.lease.pair ≡ leg.holder.pair)
+          → GoneHome log config (map (λ (leg : Leg O). parts_of leg) those)
       each [] home pair went i = absurd (elim i [ ])
       each (leg ∷ those) home pair went (here e) =
-          subst (λ (w : Lease × O × O). AreOfPair told (port_address config w.0.pair Rtp) w.1 w.2) (sym e)
-          (subst (λ (n : ℕ). AreOfPair told (port_address config n Rtp) leg.sending.rtp leg.sending.rtcp) (sym (pair leg (here refl))) (home leg (here refl)))
+          subst (λ (w : Lease × O × O). AreOfPair log (port_address config w.0.pair Rtp) w.1 w.2) (sym e)
+          (subst (λ (n : ℕ). AreOfPair log (port_address config n Rtp) leg.sending.rtp leg.sending.rtcp) (sym (pair leg (here refl))) (home leg (here refl)))
       each (leg ∷ those) home pair went (there i) = each those (λ l j. home l (there j)) (λ l j. pair l (there j)) went i
 
   -- Any event of a cell.
 
   cell_home_by : (config : Config) (old new : cell.Cell O) (made : Made) (event : CellEvent) (h : List CellEntry) → AreNew h (keys_of event)
-      → CellStepsBy told faults old made event new → CellFor config old h → LegsHome told config old.legs.items → LegsHome told config new.legs.items
+      → CellStepsBy log faults old made event new → CellFor config old h → LegsHome log config old.legs.items → LegsHome log config new.legs.items
   cell_home_by config old new made (Prepare call those keys dropped) h fresh step for before =
       prepare_home config old new h step.signal call keys dropped made.handed step.gone for (step.steps config h for fresh).1 step.opened before
   cell_home_by config old new made (Commit signal) h fresh step for before =
@@ -172,13 +172,13 @@ module _ {O : Type 0} (told : O → EndTold OutCall) (faults : O → ℕ) where
       relay_home config old new h x.packet made.handed step.buffer x.deed.outcome for (step.steps config h for).1 before
   cell_home_by config old new made (Expire due) h fresh step for before =
       λ leg i. before leg (subst (λ (c : cell.Cell O). In leg c.legs.items) (step config h for).1.rest i)
-  cell_home_by config old new made (Read reports) h fresh step for before = subst (λ (c : cell.Cell O). LegsHome told config c.legs.items) (sym step.same) before
+  cell_home_by config old new made (Read reports) h fresh step for before = subst (λ (c : cell.Cell O). LegsHome log config c.legs.items) (sym step.same) before
   cell_home_by config old new made End h fresh step for before =
       no_legs_home config new (step.steps config h for).1.stands.legs_for
 
   pub cell_home : (config : Config) (old new : cell.Cell O) (made : Made) (event : Event) (recorded : List CellEntry)
-      → BringsNewKeys (cons_option (cell_at made.moment event) recorded) → CellSteps told faults old made event new → CellStands config old recorded
-      → LegsHome told config old.legs.items → LegsHome told config new.legs.items
+      → BringsNewKeys (cons_option (cell_at made.moment event) recorded) → CellSteps log faults old made event new → CellStands config old recorded
+      → LegsHome log config old.legs.items → LegsHome log config new.legs.items
   cell_home config old new made (Cell c) recorded fresh step stands before =
       cell_home_by config old new made c stands.history (new_recorded stands.history recorded _ stands.is_recorded fresh.0) step stands.stands before
   cell_home config old new made (Box b) recorded fresh step stands before = absurd step
@@ -186,7 +186,7 @@ module _ {O : Type 0} (told : O → EndTold OutCall) (faults : O → ℕ) where
 
 -- Any number of steps.
 
-module _ {I O : Type 0} (it : I → EndTold InCall) (ic : I → ℕ) (ot : O → EndTold OutCall) (oc : O → ℕ) where
+module _ {I O : Type 0} (it : I → EndLog InCall) (ic : I → ℕ) (ot : O → EndLog OutCall) (oc : O → ℕ) where
   not_both : (a : Part I O) → IsCellPart a → IsBoardPart a → ⊥
   not_both (part.Cell c) is board = board
   not_both (part.Board b) is board = is

@@ -9,7 +9,7 @@ use Rattle.relay_outside.specs.declared.ports.InCall.TheVariants as into
 use Rattle.relay_outside.specs.declared.ports.InGiven.{InGiven}
 use Rattle.relay_outside.specs.declared.ports.OutCall.{OutCall}
 use Rattle.relay_outside.specs.Ports.{joined}
-use Rattle.relay_outside.specs.Told.{EndTold, Gains, StartsEmpty}
+use Rattle.relay_outside.specs.DeviceLogs.{EndLog, Gains, StartsEmpty}
 use Rattle.rtp_packet.specs.declared.head.Half.{Half}
 use Rattle.rtp_packet.specs.declared.head.Half.TheVariants.{Rtp, Rtcp}
 use Rattle.turn_table.specs.declared.machine.Entry as table
@@ -19,15 +19,15 @@ use Rattle.port_pool.specs.declared.boxes.PairBox.{PairBox}
 use Rattle.port_pool.specs.declared.holder.Holder.{Holder}
 use Rattle.port_pool.specs.Boxes.{Taken, BoxEvent, Open, Take, Close, FitsTaken, holder}
 use Rattle.port_pool.specs.Boxes as boxes
-use Rattle.port_pool.specs.PairBoxes.{BoxFor, ends_of, ends_in, holder_of, holder_in, at_of}
-use Rattle.port_pool.specs.Taking.{given_of, GainsTake, IsTakenFrom, EndsTaken}
+use Rattle.port_pool.specs.PairBoxes.{BoxFor, pair_ends, ends_in, holder_of, holder_in, at_of}
+use Rattle.port_pool.specs.Takes.{given_of, GainsTake, IsTakenFrom, EndsTaken}
 use Rattle.relay_core.specs.declared.part.Part.{Part}
 use Rattle.relay_core.specs.declared.part.Part.TheVariants as part
 use Rattle.relay_core.specs.Entries.{Event, Board, Cell, Box, Entry, box_in, box_event}
-use Rattle.relay_core.specs.Made.{Left, Made, entry_of}
+use Rattle.relay_core.specs.Records.{Left, Made, entry_of}
 use Rattle.relay_core.specs.Steps.{GetsEnds, LeavesEnds, BoxSteps, Relates}
-use Rattle.relay_core.specs.Standing.{IsBoxPart}
-use Rattle.relay_core.specs.Told.{is_closing, in_left, taken_by, behind, takes_of}
+use Rattle.relay_core.specs.PlaceHistories.{IsBoxPart}
+use Rattle.relay_core.specs.EndLogs.{is_closing, in_left, taken_by, with_call, takes_of}
 use Rattle.relay_core.proofs.Stays.{onto, Steps, box_stays}
 
 -- Joined lists.
@@ -57,7 +57,7 @@ joined_more (Some x) (Some y) None = refl
 joined_more (Some x) None c = refl
 joined_more None b c = refl
 
-pub behind_more : {C : Type 0} (calls : List C) (call : Option C) (more : List C) → behind calls call ++ more ≡ calls ++ (behind [] call ++ more)
+pub behind_more : {C : Type 0} (calls : List C) (call : Option C) (more : List C) → with_call calls call ++ more ≡ calls ++ (with_call [] call ++ more)
 behind_more calls None more = refl
 behind_more calls (Some call) more = append_assoc calls (call ∷ []) more
 
@@ -70,7 +70,7 @@ event_call half _ = None
 
 -- by a step the list of an end grew by this call
 abbrev pub Grew : {C : Type 0} → Option (List C) → Option (List C) → Option C → Type 0
-Grew {C} before now call = (calls : List C) → now ≡ Some calls → (earlier : List C) × (before ≡ Some earlier) × (calls ≡ behind earlier call)
+Grew {C} before now call = (calls : List C) → now ≡ Some calls → (earlier : List C) × (before ≡ Some earlier) × (calls ≡ with_call earlier call)
 
 pub same_grew : {C : Type 0} (before now : Option (List C)) → now ≡ before → Grew before now None
 same_grew before now same calls q = (calls, sym same ∙ q, refl)
@@ -82,28 +82,28 @@ gains_grew (Some old) (Some new) call gains calls q =
 gains_grew None (Some new) call gains calls q = absurd gains
 gains_grew before None call gains calls q = absurd (let k : None ≡ Some calls = q in cc)
 
-module _ {I : Type 0} (told : I → EndTold InCall) (faults : I → ℕ) where
+module _ {I : Type 0} (log : I → EndLog InCall) (faults : I → ℕ) where
   abbrev end_of : Half → I × I → I
   end_of Rtp ends = ends.0
   end_of Rtcp ends = ends.1
 
   abbrev pub held : Half → Option (I × I) → Option (List InCall)
   held half None = Some []
-  held half (Some ends) = (told (end_of half ends)).calls
+  held half (Some ends) = (log (end_of half ends)).calls
 
   -- a take of an end
-  taken_grew : (old new : I) (taken : Taken) → GainsTake told faults old new (given_of taken) → Grew (told old).calls (told new).calls (option_map (into.Take 2001) (given_of taken))
+  taken_grew : (old new : I) (taken : Taken) → GainsTake log faults old new (given_of taken) → Grew (log old).calls (log new).calls (option_map (into.Take 2001) (given_of taken))
   taken_grew old new taken gains = by_given (given_of taken) gains
     where
-      by_given : (g : Option InGiven) → GainsTake told faults old new g → Grew (told old).calls (told new).calls (option_map (into.Take 2001) g)
+      by_given : (g : Option InGiven) → GainsTake log faults old new g → Grew (log old).calls (log new).calls (option_map (into.Take 2001) g)
       by_given None gains = absurd gains
-      by_given (Some gave) gains = gains_grew (told old).calls (told new).calls (into.Take 2001 gave) gains.gains
+      by_given (Some gave) gains = gains_grew (log old).calls (log new).calls (into.Take 2001 gave) gains.gains
 
-  taken_from : (half other : Half) (old new : I × I) (taken : Taken) → IsTakenFrom told faults other old new taken
-      → Grew (told (end_of half old)).calls (told (end_of half new)).calls (taken_by half (Take other taken))
+  taken_from : (half other : Half) (old new : I × I) (taken : Taken) → IsTakenFrom log faults other old new taken
+      → Grew (log (end_of half old)).calls (log (end_of half new)).calls (taken_by half (Take other taken))
   taken_from Rtp Rtp old new taken is = taken_grew old.0 new.0 taken is.0.gains
-  taken_from Rtp Rtcp old new taken is = same_grew (told old.0).calls (told new.0).calls (ap (λ (e : I). (told e).calls) is.0)
-  taken_from Rtcp Rtp old new taken is = same_grew (told old.1).calls (told new.1).calls (ap (λ (e : I). (told e).calls) is.1)
+  taken_from Rtp Rtcp old new taken is = same_grew (log old.0).calls (log new.0).calls (ap (λ (e : I). (log e).calls) is.0)
+  taken_from Rtcp Rtp old new taken is = same_grew (log old.1).calls (log new.1).calls (ap (λ (e : I). (log e).calls) is.1)
   taken_from Rtcp Rtcp old new taken is = taken_grew old.1 new.1 taken is.1.gains
 
   closed_none : (half other : Half) → taken_by half (Take other boxes.Closed) ≡ None
@@ -112,7 +112,7 @@ module _ {I : Type 0} (told : I → EndTold InCall) (faults : I → ℕ) where
   closed_none Rtcp Rtp = refl
   closed_none Rtcp Rtcp = refl
 
-  take_grew : (half other : Half) (old new : Option (I × I)) (taken : Taken) → (old ≡ None → taken ≡ boxes.Closed) → EndsTaken told faults other old new taken
+  take_grew : (half other : Half) (old new : Option (I × I)) (taken : Taken) → (old ≡ None → taken ≡ boxes.Closed) → EndsTaken log faults other old new taken
       → Grew (held half old) (held half new) (taken_by half (Take other taken))
   take_grew half other None new taken closed is =
       subst (λ (call : Option InCall). Grew (Some []) (held half new) call) (sym (ap (λ (t : Taken). taken_by half (Take other t)) (closed refl) ∙ closed_none half other))
@@ -120,7 +120,7 @@ module _ {I : Type 0} (told : I → EndTold InCall) (faults : I → ℕ) where
   take_grew half other (Some old) None taken closed is = absurd is
   take_grew half other (Some old) (Some new) taken closed is = taken_from half other old new taken is
 
-  open_grew : (half : Half) (at : Addr) (old new : Option (I × I)) → old ≡ None → GetsEnds told at new → Grew (held half old) (held half new) None
+  open_grew : (half : Half) (at : Addr) (old new : Option (I × I)) → old ≡ None → GetsEnds log at new → Grew (held half old) (held half new) None
   open_grew half at old new shut gets calls q =
       ([], ap (held half) shut, start half (subst (λ (n : Option (I × I)). held half n ≡ Some calls) gets.are_in q))
     where
@@ -128,13 +128,13 @@ module _ {I : Type 0} (told : I → EndTold InCall) (faults : I → ℕ) where
       start Rtp e = subst StartsEmpty e gets.rtp_is_new.uncalled
       start Rtcp e = subst StartsEmpty e gets.rtcp_is_new.uncalled
 
-  leaves_held : (half : Half) (old : Option (I × I)) (left : Left) → LeavesEnds told old left → held half old ≡ in_left half left
+  leaves_held : (half : Half) (old : Option (I × I)) (left : Left) → LeavesEnds log old left → held half old ≡ in_left half left
   leaves_held Rtp None left is = sym is.0
   leaves_held Rtcp None left is = sym is.1
   leaves_held Rtp (Some ends) left is = sym is.0
   leaves_held Rtcp (Some ends) left is = sym is.1
 
-  no_holder : (opened : Option (Opened I)) → ends_of opened ≡ None → holder_of opened ≡ None
+  no_holder : (opened : Option (Opened I)) → pair_ends opened ≡ None → holder_of opened ≡ None
   no_holder None q = refl
   no_holder (Some o) q = absurd (let k : Some (o.rtp, o.rtcp) ≡ None = q in cc)
 
@@ -148,7 +148,7 @@ module _ {I : Type 0} (told : I → EndTold InCall) (faults : I → ℕ) where
       }
 
   -- a step of a box: it shuts it, and then the end left as it was, or the end's list grew by the event's call
-  pub box_told : (half : Half) (old new : PairBox I) (made : Made) (event : Event) → BoxSteps told faults old made event new
+  pub box_told : (half : Half) (old new : PairBox I) (made : Made) (event : Event) → BoxSteps log faults old made event new
       → (t : Bool) → is_closing event ≡ t
       → cond t ((held half (ends_in new) ≡ Some []) × (held half (ends_in old) ≡ in_left half made.left) × (event_call half event ≡ None))
       (Grew (held half (ends_in old)) (held half (ends_in new)) (event_call half event))
@@ -163,7 +163,7 @@ module _ {I : Type 0} (told : I → EndTold InCall) (faults : I → ℕ) where
   box_told half old new made (Cell c) step t q = absurd step
   box_told half old new made (Board b) step t q = absurd step
 
-module _ {I O : Type 0} (it : I → EndTold InCall) (ic : I → ℕ) (ot : O → EndTold OutCall) (oc : O → ℕ) where
+module _ {I O : Type 0} (it : I → EndLog InCall) (ic : I → ℕ) (ot : O → EndLog OutCall) (oc : O → ℕ) where
   abbrev pub held_in : Half → Part I O → Option (List InCall)
   held_in half (part.Pair box) = held it ic half (ends_in box)
   held_in half (part.Cell cell) = Some []
@@ -181,7 +181,7 @@ module _ {I O : Type 0} (it : I → EndTold InCall) (ic : I → ℕ) (ot : O →
 
 -- the calls of the rows are those of the box's history
 behind_both : (half : Half) (event : Event) (h : List BoxEvent) (more : List InCall)
-    → takes_of half (cons_option (box_in event) h) ++ more ≡ takes_of half h ++ (behind [] (event_call half event) ++ more)
+    → takes_of half (cons_option (box_in event) h) ++ more ≡ takes_of half h ++ (with_call [] (event_call half event) ++ more)
 behind_both half (Box e) h more = behind_more (takes_of half h) (taken_by half e) more
 behind_both half (Cell e) h more = refl
 behind_both half (Board e) h more = refl
@@ -196,9 +196,9 @@ module _ {T : Type 0} where
   -- the calls that the rows say
   abbrev pub calls_of : Half → List (table.Entry Made T) → List InCall
   calls_of half [] = []
-  calls_of half (row ∷ rows) = behind [] (event_call half row.event.event) ++ calls_of half rows
+  calls_of half (row ∷ rows) = with_call [] (event_call half row.event.event) ++ calls_of half rows
 
-  module _ {I O : Type 0} (it : I → EndTold InCall) (ic : I → ℕ) (ot : O → EndTold OutCall) (oc : O → ℕ) where
+  module _ {I O : Type 0} (it : I → EndLog InCall) (ic : I → ℕ) (ot : O → EndLog OutCall) (oc : O → ℕ) where
     -- the ends of the box told so much before these rows, and what they tell with them is that and the calls of the rows
     pub record Tells (half : Half) (a : Part I O) (rows : List (table.Entry Made T)) (calls : List InCall) : Type 0 where
       pub earlier : List InCall
@@ -228,7 +228,7 @@ module _ {T : Type 0} where
           before = shut.1 ∙ j.a_is;
           are = j.calls_are
               ∙ ap (λ (cs : List InCall). j.front ++ cs)
-              (r.are ∙ ap (λ (cs : List InCall). cs ++ calls_of half rows) none ∙ ap (λ (c : Option InCall). behind [] c ++ calls_of half rows) (sym shut.2));
+              (r.are ∙ ap (λ (cs : List InCall). cs ++ calls_of half rows) none ∙ ap (λ (c : Option InCall). with_call [] c ++ calls_of half rows) (sym shut.2));
         }
 
     -- from any state of a box to a later one

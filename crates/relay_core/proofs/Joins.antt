@@ -10,10 +10,10 @@ use Rattle.call_cell.specs.Cells.{Prepare, Commit, Relay, Expire, Read, End, Rel
 use Rattle.port_pool.specs.Boxes.{Open, Take, Close}
 use Rattle.relay_core.specs.Entries.{Event, Board, Cell, Box, Entry, is_nested, is_at, box_of}
 use Rattle.relay_core.specs.Legal.{IsReceived, is_handed_boards, Orderly}
-use Rattle.relay_core.specs.Made.{Made, entry_of, list_of}
-use Rattle.relay_core.specs.Turning.{Numbered, IsOfLane, IsReceiving}
-use Rattle.relay_core.specs.Handed.{IsHanded}
-use Rattle.relay_core.specs.Joining.{TakesOwnPairs, IsLane, IsSound}
+use Rattle.relay_core.specs.Records.{Made, entry_of, list_of}
+use Rattle.relay_core.specs.Turns.{Numbered, IsOfLane, IsReceiving}
+use Rattle.relay_core.specs.NestedMoments.{IsHanded}
+use Rattle.relay_core.specs.Joins.{TakesOwnPairs, IsLaneRows, IsSound}
 use Rattle.relay_core.proofs.Histories.{same_at, is_there}
 use Rattle.relay_core.proofs.Turns.{filter_append, before_left, before_right, lanes_keep}
 use Rattle.relay_core.proofs.Own.{rows_in}
@@ -104,7 +104,7 @@ receiving_joined config l ls numbered first second = record {
 
 -- The rows of hands.
 
-pub row_append : {A : Type 0} {x : A} (xs ys : List A) → table_lists.In x (xs ++ ys) → table_lists.In x xs ⊎ table_lists.In x ys
+pub row_append : {A : Type 0} {x : A} (xs ys : List A) → table_lists.IsMemberOf x (xs ++ ys) → table_lists.IsMemberOf x xs ⊎ table_lists.IsMemberOf x ys
 row_append [] ys i = inr i
 row_append (z ∷ xs) ys (table_lists.here q) = inl (table_lists.here q)
 row_append (z ∷ xs) ys (table_lists.there i) =
@@ -116,7 +116,7 @@ lane_handed (Cell (Prepare call legs keys dropped)) h = absurd h
 lane_handed (Cell (Commit signal)) h = absurd h
 lane_handed (Cell (Relay r)) h = refl
 lane_handed (Cell (Expire due)) h = absurd h
-lane_handed (Cell (Read told)) h = absurd h
+lane_handed (Cell (Read log)) h = absurd h
 lane_handed (Cell End) h = absurd h
 lane_handed (Box (Open leg)) h = absurd h
 lane_handed (Box (Take half taken)) h = refl
@@ -128,19 +128,19 @@ boards_nested (Cell (Prepare call legs keys dropped)) t = refl
 boards_nested (Cell (Commit signal)) t = refl
 boards_nested (Cell (Relay r)) t = absurd (let k = t in cc)
 boards_nested (Cell (Expire due)) t = refl
-boards_nested (Cell (Read told)) t = absurd (let k = t in cc)
+boards_nested (Cell (Read log)) t = absurd (let k = t in cc)
 boards_nested (Cell End) t = absurd (let k = t in cc)
 boards_nested (Box b) t = absurd (let k = t in cc)
 
 module _ {T : Type 0} where
   -- the rows are takes and relays
   abbrev AreOfLane : List (table.Entry Made T) → Type 0
-  AreOfLane rows = (row : table.Entry Made T) → table_lists.In row rows → IsOfLane row.event.event
+  AreOfLane rows = (row : table.Entry Made T) → table_lists.IsMemberOf row rows → IsOfLane row.event.event
 
   handed_case : (config : Config) (rows others : List (table.Entry Made T)) → Orderly config (list_of rows) → AreOfLane others
       → Numbered (list_of rows ++ list_of others) → IsHanded rows → (row : table.Entry Made T) → is_handed_boards row.event.event ≡ true
       → (b : table.Entry Made T) → b.place ≡ 0 → b.number ≡ row.event.board
-      → table_lists.In row rows ⊎ table_lists.In row others → table_lists.In b rows ⊎ table_lists.In b others → row.event.handed ≡ b.event.moment
+      → table_lists.IsMemberOf row rows ⊎ table_lists.IsMemberOf row others → table_lists.IsMemberOf b rows ⊎ table_lists.IsMemberOf b others → row.event.handed ≡ b.event.moment
   handed_case config rows others o lanes numbered handed row t b p q (inl i) (inl j) = handed row i t b j p q
   handed_case config rows others o lanes numbered handed row t b p q (inl i) (inr j) =
       let x = o.nested (entry_of row) (rows_in rows i) (boards_nested row.event.event t) in
@@ -150,7 +150,7 @@ module _ {T : Type 0} where
 
   -- takes and relays after them are handed no board entry's moment
   pub handed_joined : (config : Config) (rows others : List (table.Entry Made T)) → Orderly config (list_of rows)
-      → ((row : table.Entry Made T) → table_lists.In row others → IsOfLane row.event.event)
+      → ((row : table.Entry Made T) → table_lists.IsMemberOf row others → IsOfLane row.event.event)
       → Numbered (list_of rows ++ list_of others) → IsHanded rows → IsHanded (rows ++ others)
   handed_joined config rows others o lanes numbered handed row i t b j p q =
       handed_case config rows others o lanes numbered handed row t b p q (row_append rows others i) (row_append rows others j)
@@ -161,7 +161,7 @@ module _ {T : Type 0} where
   lane_entries (r ∷ others) lanes e (there i) = lane_entries others (λ row j. lanes row (table_lists.there j)) e i
 
   -- what is known of the main hand's rows is known of them followed by a lane's
-  pub joined : (config : Config) (rows others : List (table.Entry Made T)) → IsSound config rows → IsLane config others → IsSound config (rows ++ others)
+  pub joined : (config : Config) (rows others : List (table.Entry Made T)) → IsSound config rows → IsLaneRows config others → IsSound config (rows ++ others)
   joined config rows others sound lane = record {
     orderly = λ numbered.
         let once = subst Numbered same numbered in
@@ -189,7 +189,7 @@ module _ {T : Type 0} where
 
   -- so is what is known of two lanes' rows
   pub lanes_joined : (config : Config) (rows others : List (table.Entry Made T)) → Numbered (list_of rows ++ list_of others)
-      → IsLane config rows → IsLane config others → IsLane config (rows ++ others)
+      → IsLaneRows config rows → IsLaneRows config others → IsLaneRows config (rows ++ others)
   lanes_joined config rows others once first second = record {
     of_lane = λ row i. either row (row_append rows others i);
     receiving = λ own.
@@ -203,6 +203,6 @@ module _ {T : Type 0} where
       same : list_of (rows ++ others) ≡ list_of rows ++ list_of others
       same = map-append entry_of rows others
 
-      either : (row : table.Entry Made T) → table_lists.In row rows ⊎ table_lists.In row others → IsOfLane row.event.event
+      either : (row : table.Entry Made T) → table_lists.IsMemberOf row rows ⊎ table_lists.IsMemberOf row others → IsOfLane row.event.event
       either row (inl i) = first.of_lane row i
       either row (inr i) = second.of_lane row i

@@ -15,7 +15,7 @@ use Rattle.call_board.specs.Acts.{Call, BoardEntry}
 use Rattle.call_board.specs.Calls.{live}
 use Rattle.relay_core.specs.Entries.{Event, Cell, Entry, is_nested, board_entry, board_history, cell_entry, cell_history}
 use Rattle.relay_core.specs.Legal.{Orderly}
-use Rattle.relay_core.specs.Safe.{HasKey, keys_by}
+use Rattle.relay_core.specs.Safe.{GotKey, keys_by}
 use Rattle.relay_core.proofs.Histories.{good_history, same_at, since_entry}
 use Rattle.relay_core.proofs.Boards.{lt_or_eq, later_entry, later_history}
 use Rattle.relay_core.proofs.Keys.{IsPrepareOf, prepare_of, one_prepare_of, belongs, is_prepare_event, keys_apart}
@@ -222,7 +222,7 @@ other_key config l o place n key e i k other j m =
 -- the key that the signal in force on a leg names came to the cell for this leg, in its life
 pub has_key : (config : Config) (l : List Entry) → Orderly config l → (place n : ℕ) (leg : Holder) (s : LegSignal) (number : ℕ)
     → In leg (legs (since_end (cell_history l place n))) → in_force (since_end (cell_history l place n)) leg ≡ Some s → s.outbound ≡ Some number
-    → HasKey (since_end (cell_history l place n)) leg number
+    → GotKey (since_end (cell_history l place n)) leg number
 has_key config l o place n leg s number is_leg q out =
     let f = is_in_force config l o place n leg s q in
     let d = is_drawn config l o place n leg s number f out in

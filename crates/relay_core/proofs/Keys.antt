@@ -10,7 +10,7 @@ use Rattle.call_cell.specs.Cells.{CellEvent, Prepare, Commit, Relay, Expire, Rea
 use Rattle.call_board.specs.Acts as act
 use Rattle.call_board.specs.Acts.{Call, Act, Control, BoardEvent, Turn, Tick, Stop, BoardEntry}
 use Rattle.relay_core.specs.Entries.{Event, Board, Cell, Box, Entry, is_nested, belongs_to, board_entry, board_history}
-use Rattle.relay_core.specs.Scripts.{Owed, owed_by, opening, closing, in_cell, closings, script}
+use Rattle.relay_core.specs.Scripts.{Owed, owed_by, open_owed, closing, in_cell, closings, script}
 use Rattle.relay_core.specs.Legal.{Orderly}
 use Rattle.relay_core.specs.Safe.{keys_by, keys_at}
 use Rattle.relay_core.proofs.Histories.{good_history, and_true}
@@ -33,7 +33,7 @@ preparing_cell (Prepare call legs keys dropped) k i = record { call = call; legs
 preparing_cell (Commit signal) k i = elim i [ ]
 preparing_cell (Relay r) k i = elim i [ ]
 preparing_cell (Expire due) k i = elim i [ ]
-preparing_cell (Read told) k i = elim i [ ]
+preparing_cell (Read log) k i = elim i [ ]
 preparing_cell End k i = elim i [ ]
 
 pub preparing : (e : Event) (k : NewKey) → In k (keys_by e) → IsPreparing e k
@@ -73,7 +73,7 @@ prepare_by config l e call legs keys dropped q n (commits c a w) = let h = ap (�
 prepare_by config l e call legs keys dropped q n (closes c leg i j w) = let h = ap (λ (v : Owed). v.event) w in absurd (let k = q in cc)
 prepare_by config l e call legs keys dropped q n (ends c i w) = let h = ap (λ (v : Owed). v.event) w in absurd (let k = q in cc)
 prepare_by config l e call legs keys dropped q n (expires c due i w) = let h = ap (λ (v : Owed). v.event) w in absurd (let k = q in cc)
-prepare_by config l e call legs keys dropped q n (reads c told w) = let h = ap (λ (v : Owed). v.event) w in absurd (let k = q in cc)
+prepare_by config l e call legs keys dropped q n (reads c log w) = let h = ap (λ (v : Owed). v.event) w in absurd (let k = q in cc)
 
 pub prepare_of : (config : Config) (l : List Entry) → Orderly config l → (e : Entry) → In e l
     → (call : ℕ) (legs : List Holder) (keys : List NewKey) (dropped : List ℕ) → e.event ≡ Cell (Prepare call legs keys dropped)
@@ -91,7 +91,7 @@ is_prepare_event _ = false
 abbrev pub prepares_it : Owed → Bool
 prepares_it w = is_prepare_event w.event
 
-no_opening : (config : Config) (legs : List Holder) → filter prepares_it (map (opening config) legs) ≡ []
+no_opening : (config : Config) (legs : List Holder) → filter prepares_it (map (open_owed config) legs) ≡ []
 no_opening config [] = refl
 no_opening config (leg ∷ legs) = no_opening config legs
 
@@ -101,7 +101,7 @@ no_closing config (leg ∷ legs) = no_closing config legs
 
 offer_script : (config : Config) (h : List BoardEntry) (moment : ℕ) (v : BoardEvent) (o : act.Offer) → act.act_in v ≡ act.Offered o
     → script config h (record { moment = moment; event = v })
-    ≡ map (opening config) o.legs ++ in_cell o.of (Prepare o.of.number o.legs o.keys o.dropped) ∷ closings config h (record { moment = moment; event = v }) o.of
+    ≡ map (open_owed config) o.legs ++ in_cell o.of (Prepare o.of.number o.legs o.keys o.dropped) ∷ closings config h (record { moment = moment; event = v }) o.of
 offer_script config h moment (Turn c) o q =
     ap (Rattle.relay_core.specs.Scripts.script_of_act config h (record { moment = moment; event = Turn c }) c) q
 offer_script config h moment (Tick calls) o q = absurd (let k = q in cc)
@@ -112,11 +112,11 @@ one_prepare : (config : Config) (h : List BoardEntry) (e : BoardEntry) (o : act.
 one_prepare config h e o q =
     let w = in_cell o.of (Prepare o.of.number o.legs o.keys o.dropped) in
     let cs = closings config h e o.of in
-    let s : filter prepares_it (script config h e) ≡ filter prepares_it (map (opening config) o.legs ++ w ∷ cs) =
+    let s : filter prepares_it (script config h e) ≡ filter prepares_it (map (open_owed config) o.legs ++ w ∷ cs) =
     ap (filter prepares_it) (offer_script config h e.moment e.event o q) in
-    let t : filter prepares_it (map (opening config) o.legs ++ w ∷ cs) ≡ filter prepares_it (map (opening config) o.legs) ++ filter prepares_it (w ∷ cs) =
-    filter-append prepares_it (map (opening config) o.legs) (w ∷ cs) in
-    let u : filter prepares_it (map (opening config) o.legs) ++ filter prepares_it (w ∷ cs) ≡ filter prepares_it (w ∷ cs) =
+    let t : filter prepares_it (map (open_owed config) o.legs ++ w ∷ cs) ≡ filter prepares_it (map (open_owed config) o.legs) ++ filter prepares_it (w ∷ cs) =
+    filter-append prepares_it (map (open_owed config) o.legs) (w ∷ cs) in
+    let u : filter prepares_it (map (open_owed config) o.legs) ++ filter prepares_it (w ∷ cs) ≡ filter prepares_it (w ∷ cs) =
     ap (λ xs. xs ++ filter prepares_it (w ∷ cs)) (no_opening config o.legs) in
     let v : filter prepares_it (w ∷ cs) ≡ w ∷ [] = ap (λ xs. w ∷ xs) (no_closing config (Rattle.call_board.specs.Pairs.closed_of h e o.of)) in
     ap length (s ∙ t ∙ u ∙ v)

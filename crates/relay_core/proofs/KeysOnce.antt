@@ -7,7 +7,7 @@ use Rattle.port_pool.specs.declared.holder.Holder.{Holder}
 use Rattle.port_pool.specs.Signals.{NewKey}
 use Rattle.call_cell.specs.Cells.{CellEntry, keys_of, keys_in, key_numbered}
 use Rattle.call_cell.specs.Numbers.{BringsNewKeys}
-use Rattle.call_cell.specs.Preparing.{prepare_entry}
+use Rattle.call_cell.specs.Preparations.{prepare_entry}
 use Rattle.call_cell.proofs.Keys.{key_brought}
 use Rattle.call_cell.proofs.NewKeys.{none_numbered}
 use Rattle.call_board.specs.Acts as act

@@ -8,11 +8,11 @@ use Rattle.call_board.specs.Acts.{BoardEntry}
 use Rattle.call_board.specs.Futures.{closed_pairs}
 use Rattle.relay_core.specs.Entries.{Entry, board_entry, board_history}
 use Rattle.relay_core.specs.Legal.{Orderly}
-use Rattle.relay_core.specs.Made.{Made, entry_of, list_of}
-use Rattle.relay_core.specs.Handed.{IsHanded}
-use Rattle.relay_core.specs.Recorded.{AreReturned}
-use Rattle.relay_core.specs.Turning.{IsTurn, IsReceiving}
-use Rattle.relay_core.specs.Joining.{TakesOwnPairs, IsSound}
+use Rattle.relay_core.specs.Records.{Made, entry_of, list_of}
+use Rattle.relay_core.specs.NestedMoments.{IsHanded}
+use Rattle.relay_core.specs.ReturnedPairs.{AreReturned}
+use Rattle.relay_core.specs.Turns.{IsTurn, IsReceiving}
+use Rattle.relay_core.specs.Joins.{TakesOwnPairs, IsSound}
 use Rattle.relay_core.proofs.Turns.{turn_keeps}
 use Rattle.relay_core.proofs.Handing.{handed_turn, receiving_turn}
 use Rattle.relay_core.proofs.Recording.{turn_list, returned_turn}
@@ -40,7 +40,7 @@ module _ {T : Type 0} where
   -- a whole turn, whose nested rows were handed the moment of its board entry, which records the pairs of the legs that it closes
   pub known_turn : (config : Config) (rows ns : List (table.Entry Made T)) (b : table.Entry Made T) → IsKnown config rows
       → IsTurn config (list_of rows) (list_of ns) (entry_of b)
-      → ((row : table.Entry Made T) → table_lists.In row ns → row.event.handed ≡ b.event.moment)
+      → ((row : table.Entry Made T) → table_lists.IsMemberOf row ns → row.event.handed ≡ b.event.moment)
       → (e : BoardEntry) → board_entry (entry_of b) ≡ Some e → closed_pairs (board_history (list_of rows) b.number) e ≡ b.event.returned
       → IsKnown config ((rows ++ ns) ++ b ∷ [])
   known_turn config rows ns b known turn handed e is gives =

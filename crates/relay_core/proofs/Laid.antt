@@ -12,7 +12,7 @@ use Rattle.relay_core.specs.Legal.{Orderly}
 use Rattle.relay_core.proofs.Boards.{moment}
 use Rattle.relay_core.proofs.Boxes.{below_front}
 use Rattle.relay_core.proofs.Turns.{IsTurn, with_turn, Part, old, new, last, part_of, turn_elsewhere, turn_history, turn_keeps, nothing_is_orderly}
-use Rattle.relay_core.proofs.Gains.{Gained, gained_nothing, gained_one, gained_more, turn_made}
+use Rattle.relay_core.proofs.Gains.{GainedOwed, gained_nothing, gained_one, gained_more, turn_made}
 
 -- the event as an entry, the next one of its place
 abbrev pub next_entry : List Entry → ℕ → Owed → Entry
@@ -23,7 +23,7 @@ abbrev pub laid : List Entry → ℕ → List Owed → List Entry
 laid l board [] = []
 laid l board (w ∷ ws) = next_entry l board w ∷ laid (l ++ next_entry l board w ∷ []) board ws
 
-laid_gains : (l : List Entry) (board : ℕ) (ws : List Owed) → Gained l board ws (laid l board ws)
+laid_gains : (l : List Entry) (board : ℕ) (ws : List Owed) → GainedOwed l board ws (laid l board ws)
 laid_gains l board [] = gained_nothing l board
 laid_gains l board (w ∷ ws) =
     gained_more l board (w ∷ []) ws (next_entry l board w ∷ []) (laid (l ++ next_entry l board w ∷ []) board ws)

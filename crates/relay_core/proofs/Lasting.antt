@@ -7,7 +7,7 @@ use Rattle.port_pool.specs.declared.holder.Holder.{Holder}
 use Rattle.port_pool.specs.declared.signal.SectionSignal.{SectionSignal}
 use Rattle.port_pool.specs.Signals.{NewKey}
 use Rattle.call_cell.specs.Cells.{CellEvent, CellEntry, Prepare, Commit, Relay, Expire, Read, End, is_end, since_end}
-use Rattle.call_cell.specs.Lasting.{is_lasting, kept}
+use Rattle.call_cell.specs.SignalEntries.{is_lasting, lasting_entries}
 use Rattle.call_cell.proofs.Since.{since_at_end}
 use Rattle.call_board.specs.Acts as act
 use Rattle.call_board.specs.Acts.{Call, Act, Control, BoardEvent, Turn, Tick, Stop, BoardEntry}
@@ -30,14 +30,14 @@ lasts (Box b) = false
 
 -- the lasting entries of a cell
 abbrev pub lasting : List Entry → ℕ → ℕ → List CellEntry
-lasting l place n = kept (cell_history l place n)
+lasting l place n = lasting_entries (cell_history l place n)
 
 cell_nested : (c : CellEvent) → is_lasting c ≡ true → is_nested_cell c ≡ true
 cell_nested (Prepare call legs keys dropped) q = refl
 cell_nested (Commit signal) q = refl
 cell_nested (Relay r) q = absurd (let e = q in cc)
 cell_nested (Expire due) q = refl
-cell_nested (Read told) q = refl
+cell_nested (Read log) q = refl
 cell_nested End q = refl
 
 pub lasts_nested : (v : Event) → lasts v ≡ true → is_nested v ≡ true
@@ -60,16 +60,16 @@ no_cell moment (Box b) q t = let e = t in cc
 more_case : (l : List Entry) (place n : ℕ) → ((e : Entry) → In e l → length (filter (is_at e.place e.number) l) ≡ 1) → (e : Entry) (c : CellEntry) → In e l → e.place ≡ place
     → e.number ≡ n → e.event ≡ Cell c.event → cell_history l place (suc n) ≡ c ∷ cell_history l place n → (b : Bool) → is_lasting c.event ≡ b → MoreLasting l place n
 more_case l place n numbered e c i p m v q true t =
-    one e c i p m v t (ap (λ (h : List CellEntry). kept h) q ∙ ap (λ (b : Bool). cond b (c ∷ lasting l place n) (lasting l place n)) t)
+    one e c i p m v t (ap (λ (h : List CellEntry). lasting_entries h) q ∙ ap (λ (b : Bool). cond b (c ∷ lasting l place n) (lasting l place n)) t)
 more_case l place n numbered e c i p m v q false t =
-    nothing (ap (λ (h : List CellEntry). kept h) q ∙ ap (λ (b : Bool). cond b (c ∷ lasting l place n) (lasting l place n)) t)
+    nothing (ap (λ (h : List CellEntry). lasting_entries h) q ∙ ap (λ (b : Bool). cond b (c ∷ lasting l place n) (lasting l place n)) t)
     (λ f j fp fm u. let same_one = same_at l numbered f e j i (fp ∙ sym p) (fm ∙ sym m) in
     let w : lasts f.event ≡ false = ap (λ (x : Entry). lasts x.event) same_one ∙ ap lasts v ∙ t in
     let z = u in cc)
 
 more_by : (l : List Entry) (place n : ℕ) → ((e : Entry) → In e l → length (filter (is_at e.place e.number) l) ≡ 1) → More cell_entry l place n → MoreLasting l place n
 more_by l place n numbered (same q none) =
-    nothing (ap (λ (h : List CellEntry). kept h) q) (λ e i p m t. no_cell e.moment e.event (none e i p m) t)
+    nothing (ap (λ (h : List CellEntry). lasting_entries h) q) (λ e i p m t. no_cell e.moment e.event (none e i p m) t)
 more_by l place n numbered (added e c i p m h q) = more_case l place n numbered e c i p m (event_of e c h) q (is_lasting c.event) refl
 
 pub more_lasting : (l : List Entry) (place n : ℕ) → ((e : Entry) → In e l → length (filter (is_at e.place e.number) l) ≡ 1) → MoreLasting l place n
@@ -173,7 +173,7 @@ module _ (config : Config) (l : List Entry) (o : Orderly config l) (b : Entry) (
   owner_by f j q (Cell (Commit signal)) v t = owner_commit f j q signal v
   owner_by f j q (Cell (Relay r)) v t = absurd (let w = t in cc)
   owner_by f j q (Cell (Expire due)) v t = absurd (let w = t in cc)
-  owner_by f j q (Cell (Read told)) v t = absurd (let w = t in cc)
+  owner_by f j q (Cell (Read log)) v t = absurd (let w = t in cc)
   owner_by f j q (Cell End) v t = owner_end f j q v
 
   pub owner : (f : Entry) → In f l → f.board ≡ b.number → lasts f.event ≡ true → Owner x f.place f.event

@@ -8,7 +8,7 @@ use Rattle.port_pool.specs.declared.holder.Side.TheVariants.{A, B}
 use Rattle.port_pool.specs.declared.holder.Holder.{Holder}
 use Rattle.port_pool.specs.Signals.{NewKey, same_leg, side_eq}
 use Rattle.call_cell.specs.Cells.{CellEntry, is_end, since_end, legs_of, keys_of}
-use Rattle.call_cell.specs.LegKeys.{keys_since, keys_for, is_for}
+use Rattle.call_cell.specs.LegKeys.{keys_since, keys_for, is_for_leg}
 use Rattle.relay_core.specs.Entries.{Entry, is_at, cell_entry, cell_history}
 use Rattle.relay_core.proofs.Histories.{and_true, same_at, More, same, added, more}
 use Rattle.relay_core.proofs.Boards.{lt_or_eq}
@@ -168,5 +168,5 @@ side_is B A q = absurd (let k = q in cc)
 pub came_for : (l : List Entry) → Numbered l → (place n : ℕ) (leg : Holder) (key : NewKey) → key.section ≡ leg.section → key.side ≡ leg.side
     → Came l place n leg key → In key (keys_for (since_end (cell_history l place n)) leg)
 came_for l numbered place n leg key section side c =
-    keeps (is_for leg) (keys_since (since_end (cell_history l place n)) leg) (came_since l numbered place n leg key c)
+    keeps (is_for_leg leg) (keys_since (since_end (cell_history l place n)) leg) (came_since l numbered place n leg key c)
     (and_true (Rattle.std.specs.Prelude.◌==◌ key.section leg.section) (side_eq key.side leg.side) (equal key.section leg.section section) (side_is key.side leg.side side))

@@ -189,15 +189,15 @@ module _ (config : Config) (l : List Entry) (o : Orderly config l) (place m n : 
       let h = board_history l e.number in
       let good = good_history config l o e.number in
       let fits = (o.board_fits e x i is).1 in
-      let told = answer_told config h x c fits acts in
+      let shown = answer_told config h x c fits acts in
       let g = good_rounds config h number good in
       let made = is_made config l o e x i is (in_cell c.of (Commit c.signal)) (has_commit config h x c acts) in
-      let at : made.entry.place ≡ place = ap (λ (w : Owed). w.place) made.is ∙ its_cell e.number c.of told.is_live same_number in
+      let at : made.entry.place ≡ place = ap (λ (w : Owed). w.place) made.is ∙ its_cell e.number c.of shown.is_live same_number in
       let board : made.entry.board ≡ e.number = made.board_is in
       let stays : is_rejected c.signal a.section ≡ false =
       none_taken made.entry (Commit c.signal) made.is_in at (ap (λ (w : Owed). w.event) made.is) made.nested (omega (arith, low, board)) (omega (arith, high, board)) in
       let comes = subst (λ k. Rattle.offer_answer.specs.Laws.IsAnswerRound (rounds h k) c.ask) same_number (answer_round config h x c fits acts) in
-      let signal : c.signal ≡ plan.signal (rounds h number) c.ask = told.signal_is ∙ ap (λ k. plan.signal (rounds h k) c.ask) same_number in
+      let signal : c.signal ≡ plan.signal (rounds h number) c.ask = shown.signal_is ∙ ap (λ k. plan.signal (rounds h k) c.ask) same_number in
       ap (λ rs. has_pairs rs a.section) q
       ∙ pairs_answer (rounds h number) c.ask a.section g.come comes had (subst (λ signals. is_rejected signals a.section ≡ false) signal stays)
 

@@ -20,7 +20,7 @@ use Rattle.call_board.proofs.Held.{new_leg}
 use Rattle.call_board.proofs.Tells.{offer_told, answer_told}
 use Rattle.relay_core.specs.Entries.{Entry, board_history, cell_history}
 use Rattle.relay_core.specs.Legal.{Orderly}
-use Rattle.relay_core.specs.Turning.{IsAbove}
+use Rattle.relay_core.specs.Turns.{IsAbove}
 use Rattle.relay_core.proofs.Histories.{good_history}
 use Rattle.relay_core.proofs.Rounded.{entries_of}
 use Rattle.relay_core.proofs.CallRounds.{its_rounds, told_call}
@@ -108,12 +108,12 @@ by_offer config h x number p good fits q none rest false m =
     (other_legs h number p.legs p.of.number (λ leg i. (new_leg config h x p leg fits q i).0) m))
 by_offer config h x number p good fits q none rest true m =
     let n : p.of.number ≡ number = equal_if p.of.number number m in
-    let told = offer_told config h x p fits q in
-    let its : rounds_of_call h (find_call h told.id) ≡ rounds h p.of.number = its_rounds config h told.id p.of good (told_call config h x p told) in
+    let shown = offer_told config h x p fits q in
+    let its : rounds_of_call h (find_call h shown.id) ≡ rounds h p.of.number = its_rounds config h shown.id p.of good (told_call config h x p shown) in
     let dropped : (demand (rounds h number) p.ask).dropped ≡ p.dropped
     = ap (λ (k : ℕ). (demand (rounds h k) p.ask).dropped) (sym n)
     ∙ ap (λ (rs : List Round). (demand rs p.ask).dropped) (sym its)
-    ∙ ap (λ (d : Demand). d.dropped) (sym told.demand_is) ∙ sym told.dropped_are in
+    ∙ ap (λ (d : Demand). d.dropped) (sym shown.demand_is) ∙ sym shown.dropped_are in
     let one_more : rounds (x ∷ h) number ≡ round.Offered p.ask p.legs p.keys ∷ rounds h number
     = ap (λ (a : Act). round_of number a ++ rounds h number) q ∙ ap (λ (b : Bool). cond b (round.Offered p.ask p.legs p.keys ∷ []) [] ++ rounds h number) m in
     ap (λ (rs : List Round). legs (entries_of number rs)) one_more
@@ -135,8 +135,8 @@ by_answer config h x number a fits q none rest false m =
     (λ leg is. ap (λ (b : Bool). b && is_rejected a.signal leg.section) (differs_in a.of.number number leg.call m (equal_if leg.call number is))) refl)
 by_answer config h x number a fits q none rest true m =
     let n : a.of.number ≡ number = equal_if a.of.number number m in
-    let told = answer_told config h x a fits q in
-    let signals : signal (rounds h number) a.ask ≡ a.signal = ap (λ (k : ℕ). signal (rounds h k) a.ask) (sym n) ∙ sym told.signal_is in
+    let shown = answer_told config h x a fits q in
+    let signals : signal (rounds h number) a.ask ≡ a.signal = ap (λ (k : ℕ). signal (rounds h k) a.ask) (sym n) ∙ sym shown.signal_is in
     let one_more : rounds (x ∷ h) number ≡ round.Answered a.ask ∷ rounds h number
     = ap (λ (d : Act). round_of number d ++ rounds h number) q ∙ ap (λ (b : Bool). cond b (round.Answered a.ask ∷ []) [] ++ rounds h number) m in
     ap (λ (rs : List Round). legs (entries_of number rs)) one_more

@@ -61,17 +61,17 @@ no_end_in config l o m n c g i q p b alive low high =
 -- An accepted offer or answer ends no call.
 signal_ends : (e : BoardEntry) (moment : ℕ) (v : BoardEvent) (a : Act) (c : Call) → act.act_in v ≡ a → ended_by_act a ≡ [] → (a ≡ act.Told → ⊥)
     → In c (ended_in v) → ⊥
-signal_ends e moment (Turn d) a c q none told i = let k = subst (λ cs. In c cs) (ap ended_by_act q ∙ none) i in elim k [ ]
-signal_ends e moment (Tick calls) a c q none told i = told (sym q)
-signal_ends e moment (Stop calls) a c q none told i = told (sym q)
+signal_ends e moment (Turn d) a c q none log i = let k = subst (λ cs. In c cs) (ap ended_by_act q ∙ none) i in elim k [ ]
+signal_ends e moment (Tick calls) a c q none log i = log (sym q)
+signal_ends e moment (Stop calls) a c q none log i = log (sym q)
 
 -- so no End belongs to it
 pub no_end_of : (config : Config) (l : List Entry) → Orderly config l → (b : Entry) (x : BoardEntry) (a : Act) → In b l → board_entry b ≡ Some x
     → act.act x ≡ a → ended_by_act a ≡ [] → (a ≡ act.Told → ⊥) → (g : Entry) → In g l → g.event ≡ Cell End → g.board ≡ b.number → ⊥
-no_end_of config l o b x a i q acts none told g j event at =
+no_end_of config l o b x a i q acts none log g j event at =
     let e = end_of config l o g j event in
     let z = e.nested in
     let one = same_at l o.numbered z.board b z.is_in i (z.at_board ∙ sym (o.board_fits b x i q).0) (z.number_is ∙ at) in
     let both : Some z.entry ≡ Some x = sym z.is ∙ ap board_entry one ∙ q in
     let x_is : z.entry ≡ x = cc in
-    signal_ends x x.moment x.event a e.of acts none told (subst (λ (y : BoardEntry). In e.of (ended_by y)) x_is e.ended)
+    signal_ends x x.moment x.event a e.of acts none log (subst (λ (y : BoardEntry). In e.of (ended_by y)) x_is e.ended)

@@ -8,14 +8,14 @@ use Rattle.port_pool.specs.declared.holder.Side.TheVariants.{A, B}
 use Rattle.port_pool.specs.declared.holder.Holder.{Holder}
 use Rattle.port_pool.specs.Signals.{NewKey, same_leg, side_eq}
 use Rattle.call_cell.specs.Cells.{CellEvent, CellEntry, since_end, legs, legs_of, keys_of}
-use Rattle.call_cell.specs.LegKeys.{keys_since, is_for}
+use Rattle.call_cell.specs.LegKeys.{keys_since, is_for_leg}
 use Rattle.call_cell.proofs.Keys.{key_found}
 use Rattle.call_cell.proofs.Legs.{is_same_leg}
 use Rattle.call_cell.proofs.PrepareSteps.{any_true}
 use Rattle.call_cell.proofs.Splits.{none_in, or_first}
 use Rattle.relay_core.specs.Entries.{Event, Entry, cell_history, cell_before}
 use Rattle.relay_core.specs.Legal.{Orderly}
-use Rattle.relay_core.specs.Safe.{HasKey, keys_by}
+use Rattle.relay_core.specs.Safe.{GotKey, keys_by}
 use Rattle.relay_core.proofs.Histories.{both}
 use Rattle.relay_core.proofs.Boards.{less_or}
 use Rattle.relay_core.proofs.Keys.{keys_apart}
@@ -140,10 +140,10 @@ one_of_place config l o place other m n a b j k q x y numbers section side =
 -- two legs, of whatever cells and at whatever times, that have a key of one number are one
 pub one_leg : (config : Config) (l : List Entry) → Orderly config l → (e f : Entry) (a b : Holder) (number : ℕ)
     → In a (legs (cell_before l e)) → In b (legs (cell_before l f))
-    → HasKey (cell_before l e) a number → HasKey (cell_before l f) b number → a ≡ b
+    → GotKey (cell_before l e) a number → GotKey (cell_before l f) b number → a ≡ b
 one_leg config l o e f a b number i j p q =
-    let u = filtered (is_for a) (keys_since (cell_before l e) a) p.in_life in
-    let v = filtered (is_for b) (keys_since (cell_before l f) b) q.in_life in
+    let u = filtered (is_for_leg a) (keys_since (cell_before l e) a) p.in_life in
+    let v = filtered (is_for_leg b) (keys_since (cell_before l f) b) q.in_life in
     let x = brings config l o e.place e.number a p.key i u.0 in
     let y = brings config l o f.place f.number b q.key j v.0 in
     let numbers : p.key.number ≡ q.key.number = (key_found (cell_before l e) number p.key p.is_there).1 ∙ sym (key_found (cell_before l f) number q.key q.is_there).1 in

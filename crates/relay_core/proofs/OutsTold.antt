@@ -9,7 +9,7 @@ use Rattle.relay_outside.specs.declared.ports.OutCall.{OutCall}
 use Rattle.relay_outside.specs.declared.ports.OutCall.TheVariants as out
 use Rattle.relay_outside.specs.declared.address.Addr.{Addr}
 use Rattle.relay_outside.specs.declared.settings.Config.{Config}
-use Rattle.relay_outside.specs.Told.{EndTold, StartsEmpty, WhereTold}
+use Rattle.relay_outside.specs.DeviceLogs.{EndLog, StartsEmpty, WhereLogged}
 use Rattle.rtp_packet.specs.declared.head.Half.{Half}
 use Rattle.rtp_packet.specs.declared.head.Half.TheVariants.{Rtp, Rtcp}
 use Rattle.srtp_sources.specs.Notes.{is_half}
@@ -20,24 +20,24 @@ use Rattle.port_pool.specs.declared.holder.Holder.{Holder}
 use Rattle.port_pool.specs.declared.signal.SectionSignal.{SectionSignal}
 use Rattle.port_pool.specs.Signals.{same_leg, is_rejected, NewKey}
 use Rattle.call_cell.specs.declared.leg.Leg.{Leg}
-use Rattle.call_cell.specs.declared.sending.Sending as parts
+use Rattle.call_cell.specs.declared.sender.Sending as parts
 use Rattle.call_cell.specs.declared.prepare.Prepare as prepared
 use Rattle.call_cell.specs.declared.cell.Cell as cell
 use Rattle.call_cell.specs.declared.outcome.Outcome.{Outcome}
 use Rattle.call_cell.specs.Cells.{CellEvent, CellEntry, Sending, Receipt, Relayed, Prepare, Commit, Relay, Expire, Read, End, legs, since_end}
 use Rattle.call_cell.specs.Deeds.{deed, found, opposite_of, is_leaving}
 use Rattle.call_cell.specs.Parts.{ends_of, SendsBy}
-use Rattle.call_cell.specs.Standing.{EndsFor, LegsFor, sent_ok}
-use Rattle.call_cell.specs.CellStanding.{CellFor, CellRelays, relayed_at}
-use Rattle.call_cell.specs.Preparing.{added, CellPrepares}
-use Rattle.call_cell.specs.Committing.{stays_by, CellCommits}
-use Rattle.call_cell.specs.Ending.{parts_of}
+use Rattle.call_cell.specs.LegHistories.{EndsFor, LegsStandFor, sent_ok}
+use Rattle.call_cell.specs.CellHistories.{CellFor, CellRelays, relayed_at}
+use Rattle.call_cell.specs.Preparations.{added, CellPrepares}
+use Rattle.call_cell.specs.Commits.{stays_by, CellCommits}
+use Rattle.call_cell.specs.CellEnds.{parts_of}
 use Rattle.call_cell.proofs.Few.{in_at, pairs_of, each_in}
-use Rattle.relay_core.specs.Made.{LegLeft}
+use Rattle.relay_core.specs.Records.{LegLeft}
 use Rattle.relay_core.specs.Steps.{legs_left, IsOpened, AreOpened}
 use Rattle.relay_core.specs.Entries.{Cell}
-use Rattle.relay_core.specs.Told.{is_parting, behind, out_left, sent_of, sends_since, legs_going, HasTold}
-use Rattle.relay_core.specs.Made.{Made}
+use Rattle.relay_core.specs.EndLogs.{is_parting, with_call, out_left, out_call_of, sends_since, legs_going, HasLogged}
+use Rattle.relay_core.specs.Records.{Made}
 use Rattle.relay_core.specs.Steps.{CellStepsBy, AreNew}
 use Rattle.relay_core.proofs.Filling.{fill_cell}
 use Rattle.relay_core.proofs.InsTold.{Grew, same_grew, gains_grew}
@@ -88,25 +88,25 @@ nothing_in (x ∷ xs) q = absurd (omega (arith, q))
 
 -- What is told.
 
-pub where_told : {C : Type 0} (told : Option (List C)) (P : List C → Type 0) → ((calls : List C) → told ≡ Some calls → P calls) → WhereTold told P
+pub where_told : {C : Type 0} (log : Option (List C)) (P : List C → Type 0) → ((calls : List C) → log ≡ Some calls → P calls) → WhereLogged log P
 where_told None P each = tt
 where_told (Some calls) P each = each calls refl
 
-pub is_told : {C : Type 0} (told : Option (List C)) (P : List C → Type 0) (calls : List C) → WhereTold told P → told ≡ Some calls → P calls
+pub is_told : {C : Type 0} (log : Option (List C)) (P : List C → Type 0) (calls : List C) → WhereLogged log P → log ≡ Some calls → P calls
 is_told (Some those) P calls holds q = subst P (let k : Some those ≡ Some calls = q in cc) holds
 is_told None P calls holds q = absurd (let k : None ≡ Some calls = q in cc)
 
-starts_empty : {C : Type 0} (told : Option (List C)) → StartsEmpty told → WhereTold told (λ (calls : List C). calls ≡ [])
+starts_empty : {C : Type 0} (log : Option (List C)) → StartsEmpty log → WhereLogged log (λ (calls : List C). calls ≡ [])
 starts_empty None s = tt
 starts_empty (Some calls) s = s
 
 -- an end that told all calls, and told one more
-grew_told : {C : Type 0} (before now : Option (List C)) (call : Option C) (all : List C) → WhereTold before (λ (calls : List C). calls ≡ all) → Grew before now call
-    → WhereTold now (λ (calls : List C). calls ≡ behind all call)
-grew_told {C} before now call all told grew =
-    where_told now (λ (calls : List C). calls ≡ behind all call) (λ calls q.
+grew_told : {C : Type 0} (before now : Option (List C)) (call : Option C) (all : List C) → WhereLogged before (λ (calls : List C). calls ≡ all) → Grew before now call
+    → WhereLogged now (λ (calls : List C). calls ≡ with_call all call)
+grew_told {C} before now call all log grew =
+    where_told now (λ (calls : List C). calls ≡ with_call all call) (λ calls q.
     let g = grew calls q in
-    g.2 ∙ ap (λ (cs : List C). behind cs call) (is_told before (λ (cs : List C). cs ≡ all) g.0 told g.1))
+    g.2 ∙ ap (λ (cs : List C). with_call cs call) (is_told before (λ (cs : List C). cs ≡ all) g.0 log g.1))
 
 -- Legs that are apart.
 
@@ -125,7 +125,7 @@ module _ {O : Type 0} where
   abbrev pub holder_of : Leg O → Holder
   holder_of leg = leg.holder
 
-  holders_apart : (config : Config) (h : List CellEntry) (those : List (Leg O)) → LegsFor config h those → (leg : Leg O) → (i j : ℕ) (d : Holder) → i < j → j < length (map holder_of those)
+  holders_apart : (config : Config) (h : List CellEntry) (those : List (Leg O)) → LegsStandFor config h those → (leg : Leg O) → (i j : ℕ) (d : Holder) → i < j → j < length (map holder_of those)
       → same_leg (get_or (map holder_of those) i d) (get_or (map holder_of those) j d) ≡ true → ⊥
   holders_apart config h those for leg i j d less below same =
       let long = length-map those holder_of in
@@ -135,41 +135,41 @@ module _ {O : Type 0} where
       (subst (λ (x : Holder). same_leg x (get_or those j leg).holder ≡ true) (get_or-map holder_of those i leg d a)
       (subst (λ (x : Holder). same_leg (get_or (map holder_of those) i d) x ≡ true) (get_or-map holder_of those j leg d b) same))
 
-module _ {O : Type 0} (told : O → EndTold OutCall) (faults : O → ℕ) where
+module _ {O : Type 0} (log : O → EndLog OutCall) (faults : O → ℕ) where
   -- each leg's out ends told what was sent by them since the leg was added
   abbrev pub AreTold : List (Leg O) → List CellEntry → Type 0
-  AreTold those h = (leg : Leg O) → In leg those → (half : Half) → WhereTold (told (ends_of half leg.sending)).calls (λ calls. calls ≡ sends_since leg.holder half h)
+  AreTold those h = (leg : Leg O) → In leg those → (half : Half) → WhereLogged (log (ends_of half leg.sending)).calls (λ calls. calls ≡ sends_since leg.holder half h)
 
   -- the leg that another is a form of has the same out ends
-  pub end_told : (leg other : Leg O) → parts_of leg ≡ parts_of other → (half : Half) → told (ends_of half leg.sending) ≡ told (ends_of half other.sending)
-  end_told leg other q Rtp = ap (λ (p : Lease × O × O). told p.1) q
-  end_told leg other q Rtcp = ap (λ (p : Lease × O × O). told p.2) q
+  pub end_told : (leg other : Leg O) → parts_of leg ≡ parts_of other → (half : Half) → log (ends_of half leg.sending) ≡ log (ends_of half other.sending)
+  end_told leg other q Rtp = ap (λ (p : Lease × O × O). log p.1) q
+  end_told leg other q Rtcp = ap (λ (p : Lease × O × O). log p.2) q
 
   abbrev calls_of : O → Option (List OutCall)
-  calls_of end = (told end).calls
+  calls_of end = (log end).calls
 
   -- A relay.
 
-  sends_grew : (half other : Half) (to : Addr) (bytes : List ℕ) (ok : Bool) (old new : parts.Sending O) → SendsBy told faults other to bytes ok old new
-      → Grew (told (ends_of half old)).calls (told (ends_of half new)).calls (cond (is_half half other) (Some (out.Send to bytes ok)) None)
-  sends_grew Rtp Rtp to bytes ok old new s = gains_grew (told old.rtp).calls (told new.rtp).calls (out.Send to bytes ok) s.gains.gains
-  sends_grew Rtp Rtcp to bytes ok old new s = same_grew (told old.rtp).calls (told new.rtp).calls (ap calls_of s.other)
-  sends_grew Rtcp Rtp to bytes ok old new s = same_grew (told old.rtcp).calls (told new.rtcp).calls (ap calls_of s.other)
-  sends_grew Rtcp Rtcp to bytes ok old new s = gains_grew (told old.rtcp).calls (told new.rtcp).calls (out.Send to bytes ok) s.gains.gains
+  sends_grew : (half other : Half) (to : Addr) (bytes : List ℕ) (ok : Bool) (old new : parts.Sending O) → SendsBy log faults other to bytes ok old new
+      → Grew (log (ends_of half old)).calls (log (ends_of half new)).calls (cond (is_half half other) (Some (out.Send to bytes ok)) None)
+  sends_grew Rtp Rtp to bytes ok old new s = gains_grew (log old.rtp).calls (log new.rtp).calls (out.Send to bytes ok) s.gains.gains
+  sends_grew Rtp Rtcp to bytes ok old new s = same_grew (log old.rtp).calls (log new.rtp).calls (ap calls_of s.other)
+  sends_grew Rtcp Rtp to bytes ok old new s = same_grew (log old.rtcp).calls (log new.rtcp).calls (ap calls_of s.other)
+  sends_grew Rtcp Rtcp to bytes ok old new s = gains_grew (log old.rtcp).calls (log new.rtcp).calls (out.Send to bytes ok) s.gains.gains
 
-  kept_grew : (half : Half) (old new : parts.Sending O) → (new.rtp ≡ old.rtp) × (new.rtcp ≡ old.rtcp) → Grew (told (ends_of half old)).calls (told (ends_of half new)).calls None
-  kept_grew Rtp old new same = same_grew (told old.rtp).calls (told new.rtp).calls (ap calls_of same.0)
-  kept_grew Rtcp old new same = same_grew (told old.rtcp).calls (told new.rtcp).calls (ap calls_of same.1)
+  kept_grew : (half : Half) (old new : parts.Sending O) → (new.rtp ≡ old.rtp) × (new.rtcp ≡ old.rtcp) → Grew (log (ends_of half old)).calls (log (ends_of half new)).calls None
+  kept_grew Rtp old new same = same_grew (log old.rtp).calls (log new.rtp).calls (ap calls_of same.0)
+  kept_grew Rtcp old new same = same_grew (log old.rtcp).calls (log new.rtcp).calls (ap calls_of same.1)
 
-  ends_grew : (half : Half) (leaves : Bool) (sending : Option Sending) (ok : Bool) (old new : parts.Sending O) → EndsFor told faults leaves sending ok old new
-      → Grew (told (ends_of half old)).calls (told (ends_of half new)).calls (cond leaves (sent_of half ok sending) None)
+  ends_grew : (half : Half) (leaves : Bool) (sending : Option Sending) (ok : Bool) (old new : parts.Sending O) → EndsFor log faults leaves sending ok old new
+      → Grew (log (ends_of half old)).calls (log (ends_of half new)).calls (cond leaves (out_call_of half ok sending) None)
   ends_grew half true None ok old new e = kept_grew half old new e
   ends_grew half false None ok old new e = kept_grew half old new e
   ends_grew half false (Some w) ok old new e = kept_grew half old new e
   ends_grew half true (Some w) ok old new e = sends_grew half w.half w.to w.bytes ok old new e
 
   pub legs_relayed : (config : Config) (old new : cell.Cell O) (h : List CellEntry) (p : Receipt) (now : ℕ) (buf : List ℕ) (result : Outcome) → CellFor config old h
-      → CellRelays told faults config old new h p now buf result → map holder_of new.legs.items ≡ map holder_of old.legs.items
+      → CellRelays log faults config old new h p now buf result → map holder_of new.legs.items ≡ map holder_of old.legs.items
   legs_relayed config old new h p now buf result for relays =
       relays.stands.legs_for.holders
       ∙ append-nil (filter (λ (leg : Holder). true) (legs (since_end h)))
@@ -177,7 +177,7 @@ module _ {O : Type 0} (told : O → EndTold OutCall) (faults : O → ℕ) where
       ∙ sym for.legs_for.holders
 
   relay_told : (config : Config) (old new : cell.Cell O) (h : List CellEntry) (p : Receipt) (now : ℕ) (buf : List ℕ) (result : Outcome) → CellFor config old h
-      → CellRelays told faults config old new h p now buf result → AreTold old.legs.items (since_end h)
+      → CellRelays log faults config old new h p now buf result → AreTold old.legs.items (since_end h)
       → AreTold new.legs.items (relayed_at config h p now result ∷ since_end h)
   relay_told config old new h p now buf result for relays before leg i half =
       let same = legs_relayed config old new h p now buf result for relays in
@@ -196,10 +196,10 @@ module _ {O : Type 0} (told : O → EndTold OutCall) (faults : O → ℕ) where
       let d = deed config (since_end h) p (sent_ok result) in
       let grew = ends_grew half (is_leaving (opposite_of (since_end h) (found (since_end h) p)) x.holder) d.sending (sent_ok result) x.sending
       (get_or new.legs.items a.at leg).sending (relays.ends a.at leg was) in
-      subst (λ (l : Leg O). WhereTold (told (ends_of half l.sending)).calls (λ calls. calls ≡ sends_since leg.holder half (relayed_at config h p now result ∷ since_end h))) (a.is leg)
-      (subst (λ (k : Holder). WhereTold (told (ends_of half (get_or new.legs.items a.at leg).sending)).calls (λ calls. calls ≡ sends_since k half (relayed_at config h p now result ∷ since_end h))) (sym holder)
-      (grew_told (told (ends_of half x.sending)).calls (told (ends_of half (get_or new.legs.items a.at leg).sending)).calls
-      (cond (is_leaving (opposite_of (since_end h) (found (since_end h) p)) x.holder) (sent_of half (sent_ok result) d.sending) None)
+      subst (λ (l : Leg O). WhereLogged (log (ends_of half l.sending)).calls (λ calls. calls ≡ sends_since leg.holder half (relayed_at config h p now result ∷ since_end h))) (a.is leg)
+      (subst (λ (k : Holder). WhereLogged (log (ends_of half (get_or new.legs.items a.at leg).sending)).calls (λ calls. calls ≡ sends_since k half (relayed_at config h p now result ∷ since_end h))) (sym holder)
+      (grew_told (log (ends_of half x.sending)).calls (log (ends_of half (get_or new.legs.items a.at leg).sending)).calls
+      (cond (is_leaving (opposite_of (since_end h) (found (since_end h) p)) x.holder) (out_call_of half (sent_ok result) d.sending) None)
       (sends_since x.holder half (since_end h)) (before x (at_in_legs old.legs.items a.at leg was) half) grew))
     where
       at_in_legs : (xs : List (Leg O)) (n : ℕ) (y : Leg O) → n < length xs → In (get_or xs n y) xs
@@ -211,14 +211,14 @@ module _ {O : Type 0} (told : O → EndTold OutCall) (faults : O → ℕ) where
 
   -- a leg that is a form of one that was told, after an event that adds and sends nothing for it
   stays_told : (leg other : Leg O) (half : Half) (h : List CellEntry) (all : List OutCall) → leg.holder ≡ other.holder → parts_of leg ≡ parts_of other
-      → WhereTold (told (ends_of half other.sending)).calls (λ calls. calls ≡ sends_since other.holder half h) → all ≡ sends_since leg.holder half h
-      → WhereTold (told (ends_of half leg.sending)).calls (λ calls. calls ≡ all)
+      → WhereLogged (log (ends_of half other.sending)).calls (λ calls. calls ≡ sends_since other.holder half h) → all ≡ sends_since leg.holder half h
+      → WhereLogged (log (ends_of half leg.sending)).calls (λ calls. calls ≡ all)
   stays_told leg other half h all holder parts those is =
-      subst (λ (o : Option (List OutCall)). WhereTold o (λ calls. calls ≡ all)) (sym (ap (λ (t : EndTold OutCall). t.calls) (end_told leg other parts half)))
-      (subst (λ (cs : List OutCall). WhereTold (told (ends_of half other.sending)).calls (λ calls. calls ≡ cs)) (ap (λ (k : Holder). sends_since k half h) (sym holder) ∙ sym is) those)
+      subst (λ (o : Option (List OutCall)). WhereLogged o (λ calls. calls ≡ all)) (sym (ap (λ (t : EndLog OutCall). t.calls) (end_told leg other parts half)))
+      (subst (λ (cs : List OutCall). WhereLogged (log (ends_of half other.sending)).calls (λ calls. calls ≡ cs)) (ap (λ (k : Holder). sends_since k half h) (sym holder) ∙ sym is) those)
 
   went_told : (config : Config) (h : List CellEntry) (those : List (Leg O)) → ((leg : Leg O) → In leg those → (leg.lease.pair ≡ leg.holder.pair) × (leg.lease.generation ≡ leg.holder.generation))
-      → AreTold those h → AllZip (HasTold h) (legs_left told (map (λ (leg : Leg O). parts_of leg) those)) (map holder_of those)
+      → AreTold those h → AllZip (HasLogged h) (legs_left log (map (λ (leg : Leg O). parts_of leg) those)) (map holder_of those)
   went_told config h [] leases those = tt
   went_told config h (leg ∷ more) leases those = (
     record {
@@ -229,19 +229,19 @@ module _ {O : Type 0} (told : O → EndTold OutCall) (faults : O → ℕ) where
     went_told config h more (λ l i. leases l (there i)) (λ l i. those l (there i)),
   )
     where
-      each : (half : Half) → WhereTold (told (ends_of half leg.sending)).calls (λ calls. calls ≡ sends_since leg.holder half h)
-          → WhereTold (out_left half (record { lease = leg.lease; rtp = (told leg.sending.rtp).calls; rtcp = (told leg.sending.rtcp).calls })) (λ calls. calls ≡ sends_since leg.holder half h)
+      each : (half : Half) → WhereLogged (log (ends_of half leg.sending)).calls (λ calls. calls ≡ sends_since leg.holder half h)
+          → WhereLogged (out_left half (record { lease = leg.lease; rtp = (log leg.sending.rtp).calls; rtcp = (log leg.sending.rtcp).calls })) (λ calls. calls ≡ sends_since leg.holder half h)
       each Rtp t = t
       each Rtcp t = t
 
   -- those that pass, of the legs of a cell
   gone_told : (config : Config) (cell : cell.Cell O) (h : List CellEntry) (p : Holder → Bool) (gone : List (Lease × O × O)) (left : List LegLeft) → CellFor config cell h
-      → AreTold cell.legs.items (since_end h) → gone ≡ map (λ (leg : Leg O). parts_of leg) (filter (λ (leg : Leg O). p leg.holder) cell.legs.items) → left ≡ legs_left told gone
-      → AllZip (HasTold (since_end h)) left (filter p (legs (since_end h)))
+      → AreTold cell.legs.items (since_end h) → gone ≡ map (λ (leg : Leg O). parts_of leg) (filter (λ (leg : Leg O). p leg.holder) cell.legs.items) → left ≡ legs_left log gone
+      → AllZip (HasLogged (since_end h)) left (filter p (legs (since_end h)))
   gone_told config cell h p gone left for those went is =
       let going : List (Leg O) = filter (λ (leg : Leg O). p leg.holder) cell.legs.items in
-      subst (λ (ls : List LegLeft). AllZip (HasTold (since_end h)) ls (filter p (legs (since_end h)))) (sym (is ∙ ap (legs_left told) went))
-      (subst (λ (hs : List Holder). AllZip (HasTold (since_end h)) (legs_left told (map (λ (leg : Leg O). parts_of leg) going)) hs)
+      subst (λ (ls : List LegLeft). AllZip (HasLogged (since_end h)) ls (filter p (legs (since_end h)))) (sym (is ∙ ap (legs_left log) went))
+      (subst (λ (hs : List Holder). AllZip (HasLogged (since_end h)) (legs_left log (map (λ (leg : Leg O). parts_of leg) going)) hs)
       (sym (filter_mapped p holder_of cell.legs.items) ∙ ap (filter p) for.legs_for.holders)
       (went_told config (since_end h) going
       (λ leg i. let f = each_in config (since_end h) cell.legs.items leg for.legs_for (filtered (λ (l : Leg O). p l.holder) cell.legs.items i).0 in (f.pair, f.generation))
@@ -264,12 +264,12 @@ module _ {O : Type 0} (told : O → EndTold OutCall) (faults : O → ℕ) where
 
   -- An offer.
 
-  fresh : (half : Half) (config : Config) (leg : Leg O) → IsOpened told config leg → StartsEmpty (told (ends_of half leg.sending)).calls
+  fresh : (half : Half) (config : Config) (leg : Leg O) → IsOpened log config leg → StartsEmpty (log (ends_of half leg.sending)).calls
   fresh Rtp config leg u = u.rtp.uncalled
   fresh Rtcp config leg u = u.rtcp.uncalled
 
   prepare_told : (config : Config) (old new : cell.Cell O) (h : List CellEntry) (signal : prepared.Prepare O) (call : ℕ) (keys : List NewKey) (dropped : List ℕ) (now : ℕ)
-      (gone : List (Lease × O × O)) (moment : ℕ) → CellFor config old h → CellPrepares config old new h signal call keys dropped now gone → AreOpened told old.config signal
+      (gone : List (Lease × O × O)) (moment : ℕ) → CellFor config old h → CellPrepares config old new h signal call keys dropped now gone → AreOpened log old.config signal
       → AreTold old.legs.items (since_end h)
       → AreTold new.legs.items ((record { moment = moment; event = Prepare call (added signal) keys dropped }) ∷ since_end h)
   prepare_told config old new h signal call keys dropped now gone moment for prepares opened before leg i half =
@@ -293,7 +293,7 @@ module _ {O : Type 0} (told : O → EndTold OutCall) (faults : O → ℕ) where
       by_case : (p : Partner holder_of (λ (l : Leg O). parts_of l) leg (filter (λ (l : Leg O). not (has dropped l.holder.section)) old.legs.items ++ signal.legs.items))
           → In p.other (filter (λ (l : Leg O). not (has dropped l.holder.section)) old.legs.items) ⊎ In p.other signal.legs.items
           → (In p.other (filter (λ (l : Leg O). not (has dropped l.holder.section)) old.legs.items) → (n : Holder) → In n (added signal) → same_leg p.other.holder n ≡ true → ⊥)
-          → WhereTold (told (ends_of half leg.sending)).calls (λ calls. calls ≡ sends_since leg.holder half ((record { moment = moment; event = Prepare call (added signal) keys dropped }) ∷ since_end h))
+          → WhereLogged (log (ends_of half leg.sending)).calls (λ calls. calls ≡ sends_since leg.holder half ((record { moment = moment; event = Prepare call (added signal) keys dropped }) ∷ since_end h))
       by_case p (inl j) apart =
           let none : list_any (same_leg leg.holder) (added signal) ≡ false
           = any_false (same_leg leg.holder) (added signal) (λ n k same. apart j n k (subst (λ (x : Holder). same_leg x n ≡ true) p.one same)) in
@@ -304,26 +304,26 @@ module _ {O : Type 0} (told : O → EndTold OutCall) (faults : O → ℕ) where
           let new_one : list_any (same_leg leg.holder) (added signal) ≡ true
           = any_true (same_leg leg.holder) p.other.holder (added signal) (maps holder_of signal.legs.items j)
           (subst (λ (x : Holder). same_leg leg.holder x ≡ true) p.one (same_itself leg.holder)) in
-          subst (λ (o : Option (List OutCall)). WhereTold o (λ calls. calls ≡ sends_since leg.holder half ((record { moment = moment; event = Prepare call (added signal) keys dropped }) ∷ since_end h)))
-          (sym (ap (λ (t : EndTold OutCall). t.calls) (end_told leg p.other p.two half)))
-          (subst (λ (cs : List OutCall). WhereTold (told (ends_of half p.other.sending)).calls (λ calls. calls ≡ cs))
+          subst (λ (o : Option (List OutCall)). WhereLogged o (λ calls. calls ≡ sends_since leg.holder half ((record { moment = moment; event = Prepare call (added signal) keys dropped }) ∷ since_end h)))
+          (sym (ap (λ (t : EndLog OutCall). t.calls) (end_told leg p.other p.two half)))
+          (subst (λ (cs : List OutCall). WhereLogged (log (ends_of half p.other.sending)).calls (λ calls. calls ≡ cs))
           (sym (ap (λ (t : Bool). cond t [] (sends_since leg.holder half (since_end h))) new_one))
-          (starts_empty (told (ends_of half p.other.sending)).calls (fresh half old.config p.other (opened p.other j))))
+          (starts_empty (log (ends_of half p.other.sending)).calls (fresh half old.config p.other (opened p.other j))))
 
   -- Any event of a cell.
 
   -- what a step of a cell keeps, and what it tells of the legs that go
   pub record TellsOn (config : Config) (new : cell.Cell O) (h : List CellEntry) (moment : ℕ) (event : CellEvent) (left : List LegLeft) : Type 0 where
     pub after : AreTold new.legs.items (since_end ((record { moment = moment; event = fill_cell config h event }) ∷ h))
-    pub going : is_parting (Cell event) ≡ true → AllZip (HasTold (since_end h)) left (legs_going (since_end h) event)
+    pub going : is_parting (Cell event) ≡ true → AllZip (HasLogged (since_end h)) left (legs_going (since_end h) event)
 
-  pub no_legs_told : (config : Config) (new : cell.Cell O) (h : List CellEntry) → LegsFor config [] new.legs.items → AreTold new.legs.items h
+  pub no_legs_told : (config : Config) (new : cell.Cell O) (h : List CellEntry) → LegsStandFor config [] new.legs.items → AreTold new.legs.items h
   no_legs_told config new h for leg i half =
       absurd (elim (subst (λ (ls : List (Leg O)). In leg ls)
       (nothing_in new.legs.items (let a = length-map new.legs.items holder_of in let b = ap length for.holders in omega (arith, a, b))) i) [ ])
 
   pub cell_tells : (config : Config) (old new : cell.Cell O) (made : Made) (event : CellEvent) (h : List CellEntry) (moment : ℕ)
-      → AreNew h (keys_of event) → CellStepsBy told faults old made event new
+      → AreNew h (keys_of event) → CellStepsBy log faults old made event new
       → CellFor config old h → AreTold old.legs.items (since_end h) → TellsOn config new h moment event made.left.legs
   cell_tells config old new made (Prepare call legs keys dropped) h moment fresh step for before =
       let s = step.steps config h for fresh in
@@ -361,7 +361,7 @@ module _ {O : Type 0} (told : O → EndTold OutCall) (faults : O → ℕ) where
       let s = step.steps config h for in
       record {
         after = no_legs_told config new [] s.1.stands.legs_for;
-        going = λ t. subst (λ (hs : List Holder). AllZip (HasTold (since_end h)) made.left.legs hs) (all_kept (legs (since_end h)))
+        going = λ t. subst (λ (hs : List Holder). AllZip (HasLogged (since_end h)) made.left.legs hs) (all_kept (legs (since_end h)))
             (gone_told config old h (λ (l : Holder). true) step.gone made.left.legs for before
             (s.1.went ∙ ap (map (λ (leg : Leg O). parts_of leg)) (sym (all_kept old.legs.items))) step.left_are);
       }

@@ -8,7 +8,7 @@ use Rattle.turn_table.specs.Histories as table_lists
 use Rattle.histories.specs.Words.{In, here, there}
 use Rattle.histories.proofs.Lists.{keeps}
 use Rattle.relay_core.specs.Entries.{Entry, is_at, history}
-use Rattle.relay_core.specs.Made.{Made, entry_of, list_of}
+use Rattle.relay_core.specs.Records.{Made, entry_of, list_of}
 use Rattle.relay_core.proofs.Histories.{same_at, is_there, Step, nothing, single, step}
 use Rattle.relay_core.proofs.Turns.{filter_append}
 use Rattle.relay_core.proofs.Stays.{onto}
@@ -20,7 +20,7 @@ same_some : {A : Type 0} {o : Option A} {x y : A} → o ≡ Some x → o ≡ Som
 same_some p q = let r = sym p ∙ q in cc
 
 module _ {T : Type 0} where
-  pub rows_in : {row : (table.Entry Made T)} (rows : List (table.Entry Made T)) → table_lists.In row rows → In (entry_of row) (list_of rows)
+  pub rows_in : {row : (table.Entry Made T)} (rows : List (table.Entry Made T)) → table_lists.IsMemberOf row rows → In (entry_of row) (list_of rows)
   rows_in [] i = elim i [ ]
   rows_in (r ∷ rows) (table_lists.here q) = here (ap (λ (x : (table.Entry Made T)). entry_of x) q)
   rows_in (r ∷ rows) (table_lists.there i) = there (rows_in rows i)
@@ -28,7 +28,7 @@ module _ {T : Type 0} where
   -- the row that an entry of the list is
   pub record IsRow (e : Entry) (rows : List (table.Entry Made T)) : Type 0 where
     pub row : (table.Entry Made T)
-    pub is_in : table_lists.In row rows
+    pub is_in : table_lists.IsMemberOf row rows
     pub is : entry_of row ≡ e
 
   pub in_rows : {e : Entry} (rows : List (table.Entry Made T)) → In e (list_of rows) → IsRow e rows
@@ -46,8 +46,8 @@ module _ {T : Type 0} where
   pub record IsOwn (p : Entry → Bool) (k : ℕ) (rows past : List (table.Entry Made T)) : Type 0 where
     pub numbered : (e : Entry) → In e (list_of rows) → length (filter (is_at e.place e.number) (list_of rows)) ≡ 1
     pub named : Named k past
-    pub own : (e : (table.Entry Made T)) → table_lists.In e rows → e.place ≡ k → slice_get past e.number ≡ Some e
-    pub all : (i : ℕ) (e : (table.Entry Made T)) → slice_get past i ≡ Some e → p (entry_of e) ≡ true → table_lists.In e rows
+    pub own : (e : (table.Entry Made T)) → table_lists.IsMemberOf e rows → e.place ≡ k → slice_get past e.number ≡ Some e
+    pub all : (i : ℕ) (e : (table.Entry Made T)) → slice_get past i ≡ Some e → p (entry_of e) ≡ true → table_lists.IsMemberOf e rows
 
   at_true : (p : Entry → Bool) (k i : ℕ) (rows past : List (table.Entry Made T)) (r : (table.Entry Made T)) → IsOwn p k rows past → slice_get past i ≡ Some r → p (entry_of r) ≡ true
       → Step (list_of rows) k i → filter p (filter (is_at k i) (list_of rows)) ≡ entry_of r ∷ []

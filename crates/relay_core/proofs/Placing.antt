@@ -4,7 +4,7 @@ use Rattle.std.specs.List.{filter_map, cons_option}
 use Rattle.relay_outside.specs.declared.ports.InCall.{InCall}
 use Rattle.relay_outside.specs.declared.ports.OutCall.{OutCall}
 use Rattle.relay_outside.specs.declared.settings.Config.{Config}
-use Rattle.relay_outside.specs.Told.{EndTold}
+use Rattle.relay_outside.specs.DeviceLogs.{EndLog}
 use Rattle.turn_table.specs.declared.machine.Entry as table
 use Rattle.turn_table.specs.Histories.{Leaves}
 use Rattle.histories.specs.Words.{In, here, there, greatest}
@@ -13,9 +13,9 @@ use Rattle.port_pool.specs.Signals.{NewKey}
 use Rattle.port_pool.specs.PairBoxes.{BoxFor}
 use Rattle.call_cell.specs.declared.cell.Cell as cell
 use Rattle.call_cell.specs.Cells.{CellEvent, CellEntry, Prepare, Commit, Relay, Expire, Read, End, keys_of, key_numbered}
-use Rattle.call_cell.specs.Asked.{FitsCell}
+use Rattle.call_cell.specs.Demands.{FitsCell}
 use Rattle.call_cell.specs.Good.{FittingCell, empty, longer}
-use Rattle.call_cell.specs.CellStanding as cells
+use Rattle.call_cell.specs.CellHistories as cells
 use Rattle.call_board.specs.declared.board.Board as board
 use Rattle.call_board.specs.Acts.{BoardEntry}
 use Rattle.call_board.specs.Boards.{BoardFor}
@@ -24,11 +24,11 @@ use Rattle.relay_core.specs.declared.part.Part.{Part}
 use Rattle.relay_core.specs.declared.part.Part.TheVariants as part
 use Rattle.relay_core.specs.Entries.{Event, Board, Cell, Box, Entry, board_at, cell_at, board_entry, cell_entry, box_event}
 use Rattle.relay_core.specs.Legal.{StandsAt}
-use Rattle.relay_core.specs.Made.{Made, entry_of, moment_of}
+use Rattle.relay_core.specs.Records.{Made, entry_of, moment_of}
 use Rattle.relay_core.specs.Steps.{BoardSteps, BoxSteps, CellStepsBy, CellSteps}
-use Rattle.relay_core.specs.Beginning.{BeginsAs}
-use Rattle.relay_core.specs.Joining.{IsAtPlace}
-use Rattle.relay_core.specs.Standing.{told_entry, CellStands, BringsNewKeys, Stands, IsCellPart}
+use Rattle.relay_core.specs.FirstPlaces.{BeginsAs}
+use Rattle.relay_core.specs.Joins.{IsAtPlace}
+use Rattle.relay_core.specs.PlaceHistories.{logged_entry, CellStands, BringsNewKeys, Stands, IsCellPart}
 use Rattle.relay_core.proofs.Stays.{Steps, new_recorded, GivesBack, board_step_at}
 use Rattle.relay_core.proofs.Filling.{cell_fills}
 use Rattle.relay_core.proofs.Filled.{FitsTold}
@@ -80,13 +80,13 @@ board_placed config k old new made (Board e) step is = (is, λ above. absurd (om
 board_placed config k old new made (Cell e) step is = absurd step
 board_placed config k old new made (Box e) step is = absurd step
 
-cell_placed : {O : Type 0} (ot : O → EndTold OutCall) (oc : O → ℕ) (config : Config) (k : ℕ) (old new : cell.Cell O) (made : Made) (v : Event)
+cell_placed : {O : Type 0} (ot : O → EndLog OutCall) (oc : O → ℕ) (config : Config) (k : ℕ) (old new : cell.Cell O) (made : Made) (v : Event)
     → CellSteps ot oc old made v new → (1 ≤ k) × (k ≤ config.max_sessions) → IsPlaced config k made.moment v
 cell_placed ot oc config k old new made (Cell e) step is = (is, λ above. absurd (let low = is.1 in omega (arith, low, above)))
 cell_placed ot oc config k old new made (Board e) step is = absurd step
 cell_placed ot oc config k old new made (Box e) step is = absurd step
 
-box_placed : {I : Type 0} (it : I → EndTold InCall) (ic : I → ℕ) (config : Config) (k : ℕ) (old new : PairBox I) (made : Made) (v : Event)
+box_placed : {I : Type 0} (it : I → EndLog InCall) (ic : I → ℕ) (config : Config) (k : ℕ) (old new : PairBox I) (made : Made) (v : Event)
     → BoxSteps it ic old made v new → config.max_sessions < k → IsPlaced config k made.moment v
 box_placed it ic config k old new made (Box e) step is = (is, λ above. step.moment_is)
 box_placed it ic config k old new made (Board e) step is = absurd step
@@ -136,7 +136,7 @@ box_moments config k (e ∷ h) placed above =
     omega (arith, m, rest)
 
 -- what is recorded of a cell's history has its moments
-told_moments : (h : List CellEntry) → map (λ (e : CellEntry). e.moment) (map told_entry h) ≡ map (λ (e : CellEntry). e.moment) h
+told_moments : (h : List CellEntry) → map (λ (e : CellEntry). e.moment) (map logged_entry h) ≡ map (λ (e : CellEntry). e.moment) h
 told_moments [] = refl
 told_moments (e ∷ h) = ap (λ (ms : List ℕ). e.moment ∷ ms) (told_moments h)
 
@@ -157,17 +157,17 @@ board_right config k old new made (Board e) past gives steps for placed is = (
 board_right config k old new made (Cell e) past gives steps for placed is = absurd steps
 board_right config k old new made (Box e) past gives steps for placed is = absurd steps
 
-box_right : {I : Type 0} (it : I → EndTold InCall) (ic : I → ℕ) (config : Config) (k : ℕ) (old new : PairBox I) (made : Made) (v : Event) (past : List Entry)
+box_right : {I : Type 0} (it : I → EndLog InCall) (ic : I → ℕ) (config : Config) (k : ℕ) (old new : PairBox I) (made : Made) (v : Event) (past : List Entry)
     → BoxSteps it ic old made v new → BoxFor old (filter_map box_event past) → ArePlaced config k past → config.max_sessions < k → IsRight config past made v
 box_right it ic config k old new made (Box e) past step for placed above =
     ((step.stands (filter_map box_event past) for).0, step.moment_is ∙ sym (box_moments config k past placed above))
 box_right it ic config k old new made (Board e) past step for placed above = absurd step
 box_right it ic config k old new made (Cell e) past step for placed above = absurd step
 
-cell_timed : {O : Type 0} (ot : O → EndTold OutCall) (oc : O → ℕ) (config : Config) (old new : cell.Cell O) (made : Made) (c : CellEvent)
+cell_timed : {O : Type 0} (ot : O → EndLog OutCall) (oc : O → ℕ) (config : Config) (old new : cell.Cell O) (made : Made) (c : CellEvent)
     (recorded : List CellEntry) → ((key : NewKey) → In key (keys_of c) → key_numbered recorded key.number ≡ None)
     → CellStepsBy ot oc old made c new → (for : CellStands config old recorded)
-    → made.moment ≡ moment_of (Cell c) made.handed (cells.last_moment for.history)
+    → made.moment ≡ moment_of (Cell c) made.handed (cells.cell_last_moment for.history)
 cell_timed ot oc config old new made (Prepare call legs keys dropped) recorded fresh step for =
     (step.steps config for.history for.stands (new_recorded for.history recorded keys for.is_recorded fresh)).0
 cell_timed ot oc config old new made (Commit signal) recorded fresh step for = (step.steps config for.history for.stands).0
@@ -183,7 +183,7 @@ abbrev head_event : CellEvent → List CellEntry → CellEvent
 head_event c [] = c
 head_event c (e ∷ h) = e.event
 
-cell_right : {O : Type 0} (ot : O → EndTold OutCall) (oc : O → ℕ) (config : Config) (k : ℕ) (old new : cell.Cell O) (made : Made) (v : Event)
+cell_right : {O : Type 0} (ot : O → EndLog OutCall) (oc : O → ℕ) (config : Config) (k : ℕ) (old new : cell.Cell O) (made : Made) (v : Event)
     (past : List Entry) → BringsNewKeys (cons_option (cell_at made.moment v) (filter_map cell_entry past)) → CellSteps ot oc old made v new
     → CellStands config old (filter_map cell_entry past) → CellStands config new (cons_option (cell_at made.moment v) (filter_map cell_entry past))
     → ArePlaced config k past → (1 ≤ k) × (k ≤ config.max_sessions) → IsRight config past made v
@@ -200,7 +200,7 @@ cell_right ot oc config k old new made (Box e) past fresh step for next placed i
 
 -- Any place.
 
-module _ {T I O : Type 0} (it : I → EndTold InCall) (ic : I → ℕ) (ot : O → EndTold OutCall) (oc : O → ℕ) where
+module _ {T I O : Type 0} (it : I → EndLog InCall) (ic : I → ℕ) (ot : O → EndLog OutCall) (oc : O → ℕ) where
   kind_step : (config : Config) (k : ℕ) (old new : Part I O) (made : Made) (o : T) → Steps it ic ot oc old made o new → IsAtPlace config k old → IsAtPlace config k new
   kind_step config k (part.Board old) (part.Board new) made o step is = is
   kind_step config k (part.Cell old) (part.Cell new) made o step is = is

@@ -12,14 +12,14 @@ use Rattle.histories.proofs.Lists.{in_left, in_right}
 use Rattle.port_pool.specs.Boxes.{Open, Take, Close}
 use Rattle.call_board.specs.Acts.{BoardEntry}
 use Rattle.call_board.specs.Futures.{closed_pairs}
-use Rattle.relay_core.specs.Beginning.{pair_at}
+use Rattle.relay_core.specs.FirstPlaces.{pair_at}
 use Rattle.relay_core.specs.Entries.{Event, Board, Cell, Box, Entry, is_nested, history, board_at, board_entry, board_history}
 use Rattle.relay_core.specs.Legal.{Orderly}
-use Rattle.relay_core.specs.Made.{Made, entry_of, list_of}
-use Rattle.relay_core.specs.Recorded.{is_boards, shuts_in, pairs_shut, AreReturned}
+use Rattle.relay_core.specs.Records.{Made, entry_of, list_of}
+use Rattle.relay_core.specs.ReturnedPairs.{is_boards, shuts_in, pairs_shut, AreReturned}
 use Rattle.relay_core.specs.Steps.{board_made}
-use Rattle.relay_core.specs.Told.{is_closing}
-use Rattle.relay_core.specs.Turning.{IsTurn, IsOfLane, with_turn}
+use Rattle.relay_core.specs.EndLogs.{is_closing}
+use Rattle.relay_core.specs.Turns.{IsTurn, IsOfLane, with_turn}
 use Rattle.relay_core.proofs.Own.{IsRow, rows_in, in_rows}
 use Rattle.relay_core.proofs.Returning.{shut_closed}
 use Rattle.relay_core.proofs.Stays.{GivesBack}
@@ -55,7 +55,7 @@ turn_shut config l ns b o t f x i q low =
     ap (λ (h : List BoardEntry). closed_pairs h x) (sym (turn_history config l ns b o t f.number low))
     ∙ sym (shut_closed config (with_turn l ns b) (turn_keeps config l ns b o t) f x i q)
 
-row_part : {A : Type 0} {x : A} (xs ys : List A) → table_lists.In x (xs ++ ys) → table_lists.In x xs ⊎ table_lists.In x ys
+row_part : {A : Type 0} {x : A} (xs ys : List A) → table_lists.IsMemberOf x (xs ++ ys) → table_lists.IsMemberOf x xs ⊎ table_lists.IsMemberOf x ys
 row_part [] ys i = inr i
 row_part (z ∷ xs) ys (table_lists.here q) = inl (table_lists.here q)
 row_part (z ∷ xs) ys (table_lists.there i) =
@@ -63,7 +63,7 @@ row_part (z ∷ xs) ys (table_lists.there i) =
 
 module _ {T : Type 0} where
   -- the board's history doesn't see rows that are none of the board's
-  pub unseen_rows : (rows ns : List (table.Entry Made T)) → ((row : table.Entry Made T) → table_lists.In row ns → is_boards row.event.event ≡ false) → (n : ℕ)
+  pub unseen_rows : (rows ns : List (table.Entry Made T)) → ((row : table.Entry Made T) → table_lists.IsMemberOf row ns → is_boards row.event.event ≡ false) → (n : ℕ)
       → board_history (list_of (rows ++ ns)) n ≡ board_history (list_of rows) n
   unseen_rows rows ns none n =
       ap (λ (l : List Entry). board_history l n) (map-append entry_of rows ns)
@@ -74,7 +74,7 @@ module _ {T : Type 0} where
 
   -- an event of the board in an orderly list is an entry that stands at the board's place
   pub gives_back : (config : Config) (rows : List (table.Entry Made T)) → Orderly config (list_of rows) → AreReturned config rows
-      → (row : table.Entry Made T) → table_lists.In row rows
+      → (row : table.Entry Made T) → table_lists.IsMemberOf row rows
       → GivesBack row.event row.event.event (filter_map board_entry (history (list_of rows) row.place row.number))
   gives_back config rows o returned row i = by_event row.event.event refl
     where
@@ -91,7 +91,7 @@ module _ {T : Type 0} where
 
   -- Lanes' rows shut no box.
 
-  lanes_shut : (config : Config) (rows ns : List (table.Entry Made T)) → ((row : table.Entry Made T) → table_lists.In row ns → IsOfLane row.event.event) → (n : ℕ)
+  lanes_shut : (config : Config) (rows ns : List (table.Entry Made T)) → ((row : table.Entry Made T) → table_lists.IsMemberOf row ns → IsOfLane row.event.event) → (n : ℕ)
       → pairs_shut config (list_of (rows ++ ns)) n ≡ pairs_shut config (list_of rows) n
   lanes_shut config rows ns lanes n =
       ap (λ (l : List Entry). map (λ (e : Entry). pair_at config e.place) l)
@@ -106,11 +106,11 @@ module _ {T : Type 0} where
           (ap (λ (t : Bool). t && (r.row.event.board == n)) (lane_no_closing r.row.event.event (lanes r.row r.is_in)))
 
   -- so they change nothing
-  pub returned_behind : (config : Config) (rows ns : List (table.Entry Made T)) → ((row : table.Entry Made T) → table_lists.In row ns → IsOfLane row.event.event)
+  pub returned_behind : (config : Config) (rows ns : List (table.Entry Made T)) → ((row : table.Entry Made T) → table_lists.IsMemberOf row ns → IsOfLane row.event.event)
       → AreReturned config rows → AreReturned config (rows ++ ns)
   returned_behind config rows ns lanes returned row i t = by_part (row_part rows ns i)
     where
-      by_part : table_lists.In row rows ⊎ table_lists.In row ns → row.event.returned ≡ pairs_shut config (list_of (rows ++ ns)) row.number
+      by_part : table_lists.IsMemberOf row rows ⊎ table_lists.IsMemberOf row ns → row.event.returned ≡ pairs_shut config (list_of (rows ++ ns)) row.number
       by_part (inl j) = returned row j t ∙ sym (lanes_shut config rows ns lanes row.number)
       by_part (inr j) = absurd (let k : false ≡ true = sym (lane_no_boards row.event.event (lanes row j)) ∙ t in cc)
 
@@ -132,7 +132,7 @@ module _ {T : Type 0} where
           → closed_pairs (board_history (list_of rows) f.number) x ≡ pairs_shut config (with_turn (list_of rows) (list_of ns) (entry_of b)) f.number
       shut f x j q low = turn_shut config (list_of rows) (list_of ns) (entry_of b) o t f x j q low
 
-      by_event : (v : Event) → row.event.event ≡ v → table_lists.In row rows
+      by_event : (v : Event) → row.event.event ≡ v → table_lists.IsMemberOf row rows
           → row.event.returned ≡ pairs_shut config (with_turn (list_of rows) (list_of ns) (entry_of b)) row.number
       by_event (Board x) q j =
           let f = board_made row.event x in
@@ -145,13 +145,13 @@ module _ {T : Type 0} where
       by_event (Cell c) q j = absurd (let z : false ≡ true = sym (ap is_boards q) ∙ boards in cc)
       by_event (Box x) q j = absurd (let z : false ≡ true = sym (ap is_boards q) ∙ boards in cc)
 
-      inner : table_lists.In row rows ⊎ table_lists.In row ns → row.event.returned ≡ pairs_shut config (with_turn (list_of rows) (list_of ns) (entry_of b)) row.number
+      inner : table_lists.IsMemberOf row rows ⊎ table_lists.IsMemberOf row ns → row.event.returned ≡ pairs_shut config (with_turn (list_of rows) (list_of ns) (entry_of b)) row.number
       inner (inl j) = by_event row.event.event refl j
       inner (inr j) =
           let nested = (turn_elsewhere config (list_of rows) (list_of ns) (entry_of b) o t (entry_of row) (rows_in ns j)).0 in
           absurd (let z : false ≡ true = sym (nested_no_boards row.event.event nested) ∙ boards in cc)
 
-      by_part : table_lists.In row (rows ++ ns) ⊎ table_lists.In row (b ∷ [])
+      by_part : table_lists.IsMemberOf row (rows ++ ns) ⊎ table_lists.IsMemberOf row (b ∷ [])
           → row.event.returned ≡ pairs_shut config (with_turn (list_of rows) (list_of ns) (entry_of b)) row.number
       by_part (inl j) = inner (row_part rows ns j)
       by_part (inr (table_lists.here q)) =

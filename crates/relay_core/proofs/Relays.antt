@@ -109,7 +109,7 @@ preparing (Prepare call legs keys dropped) number q =
 preparing (Commit signal) number q = absurd (let h = q in cc)
 preparing (Relay r) number q = absurd (let h = q in cc)
 preparing (Expire due) number q = absurd (let h = q in cc)
-preparing (Read told) number q = absurd (let h = q in cc)
+preparing (Read log) number q = absurd (let h = q in cc)
 preparing End number q = absurd (let h = q in cc)
 
 pub prepared : (config : Config) (l : List Entry) → Orderly config l → (place n : ℕ) (c : CellEntry) (number : ℕ)

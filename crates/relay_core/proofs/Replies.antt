@@ -4,7 +4,7 @@ use Rattle.std.specs.Prelude.{nat_le, ◌&&◌}
 use Rattle.std.specs.List.{list_any}
 use Rattle.relay_outside.specs.declared.settings.Config.{Config}
 use Rattle.ng_command.specs.declared.command.Options.{Options}
-use Rattle.ng_command.specs.Said as said
+use Rattle.ng_command.specs.Meanings as said
 use Rattle.ng_reply.specs.declared.code.ErrorCode.{ErrorCode}
 use Rattle.ng_reply.specs.declared.code.ErrorCode.TheVariants.{E13, E14, E17}
 use Rattle.histories.specs.Words.{In}
@@ -14,11 +14,11 @@ use Rattle.call_board.specs.Acts as act
 use Rattle.call_board.specs.Acts.{Act, Control, Turn, BoardEntry}
 use Rattle.call_board.specs.Calls.{live, rounds, find_call, new_call}
 use Rattle.call_board.specs.Pairs.{held, free, free_in, is_short, drawn}
-use Rattle.call_board.specs.Kept.{kept}
-use Rattle.call_board.specs.Asked.{Reads, asked}
+use Rattle.call_board.specs.KeptReplies.{kept_reply}
+use Rattle.call_board.specs.Requests.{ReadsBody, asked}
 use Rattle.call_board.specs.Replies.{Fault, reply_datagram}
 use Rattle.call_board.specs.Answers.{Answered, failing, leased_pairs, offer_ask, offer_leased, offer_unless, offer_to, answering_asked, answering_unless, spelled}
-use Rattle.call_board.specs.Fits.{FitsControl, is_read, is_heard, Hears, answer_of}
+use Rattle.call_board.specs.Fits.{FitsControl, is_read, is_request_read, ReadsRequest, answered_in}
 use Rattle.relay_core.specs.Entries.{Board, Entry, is_nested, board_at, board_entry, board_history}
 use Rattle.relay_core.specs.Scripts.{owed_by, script, script_of_act}
 use Rattle.relay_core.specs.Legal.{Orderly}
@@ -44,16 +44,16 @@ fits_turn config l o e c i q = (o.board_fits e (turn e c) i (is_turn e c q)).1
 
 -- what is recorded of a body and of its crypto lines is what it spells and says
 pub bodies_are : (config : Config) (l : List Entry) → Orderly config l → (e : Entry) (c : Control) → In e l → e.event ≡ Board (Turn c)
-    → is_read c ≡ true → Reads c.body c.pairs
+    → is_read c ≡ true → ReadsBody c.body c.pairs
 bodies_are config l o e c i q read = (fits_turn config l o e c i q).reads read
 
 pub lines_are : (config : Config) (l : List Entry) → Orderly config l → (e : Entry) (c : Control) → In e l → e.event ≡ Board (Turn c)
-    → is_heard c.act ≡ true → Hears (board_history l e.number) c (asked config c.too_long c.pairs)
+    → is_request_read c.act ≡ true → ReadsRequest (board_history l e.number) c (asked config c.too_long c.pairs)
 lines_are config l o e c i q heard = (fits_turn config l o e c i q).hears heard
 
 -- each reply is the one that is due
 pub replies_are : (config : Config) (l : List Entry) → Orderly config l → (e : Entry) (c : Control) → In e l → e.event ≡ Board (Turn c)
-    → answer_of c ≡ answering_unless config (board_history l e.number) c (kept (board_history l e.number) c.source c.cookie e.moment)
+    → answered_in c ≡ answering_unless config (board_history l e.number) c (kept_reply (board_history l e.number) c.source c.cookie e.moment)
 replies_are config l o e c i q = (fits_turn config l o e c i q).answers
 
 -- a repeat owes nothing
@@ -70,7 +70,7 @@ owes_nothing config l o e c i q a f j t m =
     elim none [ ]
 
 pub repeated : (config : Config) (l : List Entry) → Orderly config l → (e : Entry) (c : Control) (reply : List ℕ) → In e l → e.event ≡ Board (Turn c)
-    → kept (board_history l e.number) c.source c.cookie e.moment ≡ Some reply → IsRepeat config l e c reply
+    → kept_reply (board_history l e.number) c.source c.cookie e.moment ≡ Some reply → IsRepeat config l e c reply
 repeated config l o e c reply i q k =
     let h = board_history l e.number in
     let r = kept_repeats config h e.moment c reply (fits_turn config l o e c i q) k in
@@ -84,7 +84,7 @@ repeated config l o e c reply i q k =
       same_held = ap held m ∙ n.same_held;
       same_free = ap (free config) m ∙ n.same_free;
       same_drawn = ap drawn m ∙ n.same_drawn;
-      same_kept = λ source cookie now. ap (λ t. kept t source cookie now) m ∙ n.same_kept source cookie now;
+      same_kept = λ source cookie now. ap (λ t. kept_reply t source cookie now) m ∙ n.same_kept source cookie now;
     }
 
 -- What is told of a failure is its error.
@@ -127,12 +127,12 @@ found_tells config cookie body h given id ask (Some of) =
 
 out_of_memory_tells : (config : Config) (cookie body : List ℕ) (a : Answered) → TellsIt config cookie body a → (out_of_memory : Bool)
     → TellsIt config cookie body (cond out_of_memory (record { bytes = reply_datagram config cookie body (Fault E17); act = act.OutOfMemory }) a)
-out_of_memory_tells config cookie body a told true = refl
-out_of_memory_tells config cookie body a told false = told
+out_of_memory_tells config cookie body a log true = refl
+out_of_memory_tells config cookie body a log false = log
 
 -- the turn of an offer that isn't kept
 offer_tells : (config : Config) (h : List BoardEntry) (now : ℕ) (c : Control) (id from_tag sdp : List ℕ) (options : Options) → FitsControl config h now c
-    → kept h c.source c.cookie now ≡ None → asked config c.too_long c.pairs ≡ Ok (said.Offer id from_tag sdp options) → Tells config c.cookie c.body c.reply c.act
+    → kept_reply h c.source c.cookie now ≡ None → asked config c.too_long c.pairs ≡ Ok (said.Offer id from_tag sdp options) → Tells config c.cookie c.body c.reply c.act
 offer_tells config h now c id from_tag sdp options fits none is_asked =
     let ask = offer_ask from_tag sdp options c.chosen in
     let unkept = fits.answers ∙ ap (answering_unless config h c) none in
@@ -143,12 +143,12 @@ offer_tells config h now c id from_tag sdp options fits none is_asked =
 
 offer_reply : (config : Config) (h : List BoardEntry) (c : Control) (id : List ℕ) (ask : OfferAsk) → Tells config c.cookie c.body c.reply c.act
     → OfferEnds config h c id ask → IsOfferReply config h c id ask
-offer_reply config h c id ask told (ends.well o a b r) = well o a b r
-offer_reply config h c id ask told (ends.no_pair a s) = no_pair (subst (Tells config c.cookie c.body c.reply) a told) a s
-offer_reply config h c id ask told (ends.session_limit a f n) = session_limit (subst (Tells config c.cookie c.body c.reply) a told) a f n
-offer_reply config h c id ask told (ends.port_fault leases a i) = port_fault leases (subst (Tells config c.cookie c.body c.reply) a told) a i
-offer_reply config h c id ask told (ends.key_fault leases a t) = key_fault leases (subst (Tells config c.cookie c.body c.reply) a told) a t
-offer_reply config h c id ask told (ends.no_memory a) = no_memory (subst (Tells config c.cookie c.body c.reply) a told) a
+offer_reply config h c id ask log (ends.well o a b r) = well o a b r
+offer_reply config h c id ask log (ends.no_pair a s) = no_pair (subst (Tells config c.cookie c.body c.reply) a log) a s
+offer_reply config h c id ask log (ends.session_limit a f n) = session_limit (subst (Tells config c.cookie c.body c.reply) a log) a f n
+offer_reply config h c id ask log (ends.port_fault leases a i) = port_fault leases (subst (Tells config c.cookie c.body c.reply) a log) a i
+offer_reply config h c id ask log (ends.key_fault leases a t) = key_fault leases (subst (Tells config c.cookie c.body c.reply) a log) a t
+offer_reply config h c id ask log (ends.no_memory a) = no_memory (subst (Tells config c.cookie c.body c.reply) a log) a
 
 pub offers_answered : (config : Config) (l : List Entry) → Orderly config l → (e : Entry) (c : Control) (id : List ℕ) (ask : OfferAsk) → In e l → e.event ≡ Board (Turn c)
     → IsValidOffer config (board_history l e.number) c e.moment id ask → IsOfferReply config (board_history l e.number) c id ask

@@ -4,7 +4,7 @@ use Rattle.std.specs.Prelude.{◌&&◌, ◌==◌, Result, Ok, Err}
 use Rattle.std.specs.List.{flat_map}
 use Rattle.std.proofs.lemmas.List.{map-append}
 use Rattle.relay_outside.specs.declared.settings.Config.{Config}
-use Rattle.ng_command.specs.Said.{Said, Ping, Offer, Answer, Delete, Query, Listing}
+use Rattle.ng_command.specs.Meanings.{Said, Ping, Offer, Answer, Delete, Query, Listing}
 use Rattle.ng_reply.specs.declared.code.ErrorCode.{ErrorCode}
 use Rattle.histories.specs.Words.{In, has}
 use Rattle.port_pool.specs.declared.holder.Holder.{Holder}
@@ -13,17 +13,17 @@ use Rattle.port_pool.specs.Boxes.{Open, Take, Close}
 use Rattle.call_cell.specs.Cells.{Prepare, Expire}
 use Rattle.call_board.specs.Acts as act
 use Rattle.call_board.specs.Acts.{Call, Act, Control, BoardEvent, Turn, Tick, Stop, BoardEntry}
-use Rattle.call_board.specs.Asked.{asked}
+use Rattle.call_board.specs.Requests.{asked}
 use Rattle.call_board.specs.Calls.{live, ended_by_act, find_call}
 use Rattle.call_board.specs.Fits.{FitsBoard}
 use Rattle.call_board.specs.Futures.{closed_pairs}
 use Rattle.call_board.specs.Pairs.{signalled_by, closed_of}
-use Rattle.relay_core.specs.Beginning.{pair_at}
+use Rattle.relay_core.specs.FirstPlaces.{pair_at}
 use Rattle.relay_core.specs.Entries.{Event, Board, Cell, Box, Entry, is_nested, belongs_to, board_entry, board_history}
 use Rattle.relay_core.specs.Legal.{Orderly}
-use Rattle.relay_core.specs.Recorded.{shuts_in, pairs_shut}
-use Rattle.relay_core.specs.Scripts.{Owed, owed_by, opening, closing, in_cell, closings, ending, expiring, reading, reading_out_of_memory, script_of_act, script}
-use Rattle.relay_core.specs.Told.{is_closing}
+use Rattle.relay_core.specs.ReturnedPairs.{shuts_in, pairs_shut}
+use Rattle.relay_core.specs.Scripts.{Owed, owed_by, open_owed, closing, in_cell, closings, ending, expiring, reading, reading_out_of_memory, script_of_act, script}
+use Rattle.relay_core.specs.EndLogs.{is_closing}
 use Rattle.relay_core.proofs.Turns.{filter_append}
 
 -- the pairs of the boxes that these events shut, in order
@@ -37,7 +37,7 @@ shut_append config xs ys =
 
 -- By the script.
 
-shut_openings : (config : Config) (legs : List Holder) → shut_by config (map (opening config) legs) ≡ []
+shut_openings : (config : Config) (legs : List Holder) → shut_by config (map (open_owed config) legs) ≡ []
 shut_openings config [] = refl
 shut_openings config (leg ∷ legs) = shut_openings config legs
 
@@ -79,7 +79,7 @@ shut_act config h e c act.OutOfMemory = shut_out_of_memory config h c (asked con
 shut_act config h e c (act.Failed code) = refl
 shut_act config h e c (act.Undone code leases draws) = refl
 shut_act config h e c (act.Offered o) =
-    shut_append config (map (opening config) o.legs) (in_cell o.of (Prepare o.of.number o.legs o.keys o.dropped) ∷ closings config h e o.of)
+    shut_append config (map (open_owed config) o.legs) (in_cell o.of (Prepare o.of.number o.legs o.keys o.dropped) ∷ closings config h e o.of)
     ∙ ap (λ (ps : List ℕ). ps ++ shut_by config (closings config h e o.of)) (shut_openings config o.legs)
     ∙ one_call config h e o.of
 shut_act config h e c (act.Answered a) = one_call config h e a.of

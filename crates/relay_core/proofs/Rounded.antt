@@ -12,7 +12,7 @@ use Rattle.port_pool.specs.declared.signal.SectionSignal.{SectionSignal}
 use Rattle.port_pool.specs.Signals.{NewKey, same_leg, is_rejected}
 use Rattle.offer_answer.specs.Rounds.{Round, Offered, Answered, OfferAsk, AnswerAsk, NewLeg, drawn_for}
 use Rattle.offer_answer.specs.Sides.{MadeOffer, is_begun, last_offer, offered_sdp, has_answer, is_some_sides}
-use Rattle.offer_answer.specs.Sections.{most_sections, section_count, all_sections, active_sections, is_active_in, leases, life, has_pairs, is_committed, committed_count}
+use Rattle.offer_answer.specs.Sections.{most_sections, section_count, all_sections, active_sections, is_active_in, leases, section_life, has_pairs, is_committed, committed_count}
 use Rattle.offer_answer.specs.Keys.{leg_keys}
 use Rattle.offer_answer.specs.Faults.{is_strangers, lacks_line, may_answer, takes_no_line, fault_of_answer_to}
 use Rattle.offer_answer.specs.Signals.{answer_signal, section_signal}
@@ -24,7 +24,7 @@ use Rattle.offer_answer.proofs.Lives.{LifeOf, begins, goes_on, is_over, life-ste
 use Rattle.offer_answer.proofs.Standing.{rejects_what_goes, drops_what_goes}
 use Rattle.offer_answer.proofs.Secured.{active-within, some-passes, in-mapped}
 use Rattle.call_cell.specs.Cells.{CellEntry, Prepare, Commit, legs, keys_in}
-use Rattle.call_cell.specs.LegKeys.{keys_since, keys_for, is_for}
+use Rattle.call_cell.specs.LegKeys.{keys_since, keys_for, is_for_leg}
 use Rattle.call_cell.proofs.Legs.{is_same_leg}
 use Rattle.call_cell.proofs.Nested.{entry_at}
 use Rattle.call_cell.proofs.PrepareSteps.{any_true, any_false}
@@ -99,19 +99,19 @@ leases_none rounds ask new keys r section has = go (leases (Offered ask new keys
 
 -- a section that no answer committed, and that an offer doesn't use, has no pairs after it
 unused_goes : (rounds : List Round) (ask : OfferAsk) (new : List Holder) (keys : List NewKey) (section : ℕ) → leases (Offered ask new keys) section ≡ false
-    → is_active_in ask.sdp section ≡ false → has_answer (life rounds section) ≡ false → has_pairs (Offered ask new keys ∷ rounds) section ≡ false
-unused_goes rounds ask new keys section l a q = go (life rounds section) refl
+    → is_active_in ask.sdp section ≡ false → has_answer (section_life rounds section) ≡ false → has_pairs (Offered ask new keys ∷ rounds) section ≡ false
+unused_goes rounds ask new keys section l a q = go (section_life rounds section) refl
   where
-    go : (now : List Round) → life rounds section ≡ now → has_pairs (Offered ask new keys ∷ rounds) section ≡ false
+    go : (now : List Round) → section_life rounds section ≡ now → has_pairs (Offered ask new keys ∷ rounds) section ≡ false
     go [] e = rw (l, e) refl
     go (former ∷ before) e =
         let q' : has_answer (former ∷ before) ≡ false = subst (λ rs. has_answer rs ≡ false) e q in
         rw (l, e, a, q') refl
 
-no_life : (rounds : List Round) (section : ℕ) → life rounds section ≡ [] → has_pairs rounds section ≡ true → ⊥
+no_life : (rounds : List Round) (section : ℕ) → section_life rounds section ≡ [] → has_pairs rounds section ≡ true → ⊥
 no_life rounds section e h = true≢false (sym (subst (λ rs. is_begun rs ≡ true) e h))
 
-no_answer : (rounds : List Round) (section : ℕ) → life rounds section ≡ [] → is_committed rounds section ≡ true → ⊥
+no_answer : (rounds : List Round) (section : ℕ) → section_life rounds section ≡ [] → is_committed rounds section ≡ true → ⊥
 no_answer rounds section e h = true≢false (sym (subst (λ rs. has_answer rs ≡ true) e h))
 
 not_below : (m n : ℕ) → nat_lt m n ≡ false → n ≤ m
@@ -295,7 +295,7 @@ keys_drawn number (Offered ask new keys ∷ rounds) = ap (λ (l : List NewKey). 
 keys_drawn number (Answered ask ∷ rounds) = keys_drawn number rounds
 
 since_new : (number : ℕ) (rounds : List Round) (ask : OfferAsk) (new : List Holder) (keys : List NewKey) (leg : Holder) → In leg new
-    → keys_since (entries_of number (Offered ask new keys ∷ rounds)) leg ≡ drawn_for (life (Offered ask new keys ∷ rounds) leg.section)
+    → keys_since (entries_of number (Offered ask new keys ∷ rounds)) leg ≡ drawn_for (section_life (Offered ask new keys ∷ rounds) leg.section)
 since_new number rounds ask new keys leg i =
     let l = leases_its ask new keys leg i in
     let t : list_any (same_leg leg) new ≡ true = any_true (same_leg leg) leg new i (is_same_leg leg) in
@@ -304,8 +304,8 @@ since_new number rounds ask new keys leg i =
 since_old : (number : ℕ) (rounds : List Round) (ask : OfferAsk) (new : List Holder) (keys : List NewKey) (leg : Holder)
     → list_any (same_leg leg) new ≡ false → leases (Offered ask new keys) leg.section ≡ false
     → has_pairs (Offered ask new keys ∷ rounds) leg.section ≡ true
-    → keys_since (entries_of number rounds) leg ≡ drawn_for (life rounds leg.section) → LifeOf (Offered ask new keys) rounds leg.section
-    → keys_since (entries_of number (Offered ask new keys ∷ rounds)) leg ≡ drawn_for (life (Offered ask new keys ∷ rounds) leg.section)
+    → keys_since (entries_of number rounds) leg ≡ drawn_for (section_life rounds leg.section) → LifeOf (Offered ask new keys) rounds leg.section
+    → keys_since (entries_of number (Offered ask new keys ∷ rounds)) leg ≡ drawn_for (section_life (Offered ask new keys ∷ rounds) leg.section)
 since_old number rounds ask new keys leg t l h rest (begins m e) = absurd (true≢false (sym m ∙ l))
 since_old number rounds ask new keys leg t l h rest (goes_on m had e) =
     ap (λ (b : Bool). keys ++ cond b [] (keys_since (entries_of number rounds) leg)) t
@@ -313,15 +313,15 @@ since_old number rounds ask new keys leg t l h rest (goes_on m had e) =
 since_old number rounds ask new keys leg t l h rest (is_over e) = absurd (no_life (Offered ask new keys ∷ rounds) leg.section e h)
 
 since_answered : (number : ℕ) (rounds : List Round) (ask : AnswerAsk) (leg : Holder) → has_pairs (Answered ask ∷ rounds) leg.section ≡ true
-    → keys_since (entries_of number rounds) leg ≡ drawn_for (life rounds leg.section) → LifeOf (Answered ask) rounds leg.section
-    → keys_since (entries_of number (Answered ask ∷ rounds)) leg ≡ drawn_for (life (Answered ask ∷ rounds) leg.section)
+    → keys_since (entries_of number rounds) leg ≡ drawn_for (section_life rounds leg.section) → LifeOf (Answered ask) rounds leg.section
+    → keys_since (entries_of number (Answered ask ∷ rounds)) leg ≡ drawn_for (section_life (Answered ask ∷ rounds) leg.section)
 since_answered number rounds ask leg h rest (begins m e) = absurd (let q = m in cc)
 since_answered number rounds ask leg h rest (goes_on m had e) = rest ∙ ap (λ (rs : List Round). drawn_for rs) (sym e)
 since_answered number rounds ask leg h rest (is_over e) = absurd (no_life (Answered ask ∷ rounds) leg.section e h)
 
 -- the keys that came to a cell since it has a leg are those that were drawn since the leg's section has its pairs
 pub since_life : (number : ℕ) (rounds : List Round) → AreRounds rounds → AreFew rounds → LeaseAnew number rounds → (leg : Holder)
-    → In leg (legs (entries_of number rounds)) → keys_since (entries_of number rounds) leg ≡ drawn_for (life rounds leg.section)
+    → In leg (legs (entries_of number rounds)) → keys_since (entries_of number rounds) leg ≡ drawn_for (section_life rounds leg.section)
 since_life number [] rs few anew leg i = elim i [ ]
 since_life number (Offered ask new keys ∷ rounds) rs few anew leg i =
     let stay : Holder → Bool = λ (x : Holder). not (has (demand rounds ask).dropped x.section) in
@@ -346,4 +346,4 @@ since_life number (Answered ask ∷ rounds) rs few anew leg i =
 -- so a leg of the cell has the keys of its life
 pub keys_of_life : (number : ℕ) (rounds : List Round) → AreGood number rounds → (leg : Holder) → In leg (legs (entries_of number rounds))
     → keys_for (entries_of number rounds) leg ≡ leg_keys rounds leg.section leg.side
-keys_of_life number rounds g leg i = ap (λ (l : List NewKey). filter (is_for leg) l) (since_life number rounds g.come g.few g.anew leg i)
+keys_of_life number rounds g leg i = ap (λ (l : List NewKey). filter (is_for_leg leg) l) (since_life number rounds g.come g.few g.anew leg i)

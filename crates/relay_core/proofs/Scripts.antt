@@ -2,7 +2,7 @@
 use Rattle.std.proofs.Common.{◌≡◌, sym, subst, refl, ℕ, ◌⊎◌, inl, inr, List, [], ◌∷◌, Bool, true, false, cond, Option, Some, None, map, filter, ◌==◌}
 use Rattle.std.specs.Prelude.{Result, Ok, Err}
 use Rattle.relay_outside.specs.declared.settings.Config.{Config}
-use Rattle.ng_command.specs.Said.{Said, Ping, Offer, Answer, Delete, Query, Listing}
+use Rattle.ng_command.specs.Meanings.{Said, Ping, Offer, Answer, Delete, Query, Listing}
 use Rattle.ng_reply.specs.declared.code.ErrorCode.{ErrorCode}
 use Rattle.histories.specs.Words.{In, here, there, has}
 use Rattle.histories.proofs.Lists.{in_append, in_left, in_right, filtered, keeps, mapped, maps, spread, spreads, equal, equal_if}
@@ -13,22 +13,22 @@ use Rattle.call_board.specs.Acts as act
 use Rattle.call_board.specs.Acts.{Call, Act, Control, BoardEvent, Turn, Tick, Stop, BoardEntry}
 use Rattle.call_board.specs.Calls.{live, ended_by_act, ended_by, find_call}
 use Rattle.call_board.specs.Pairs.{signalled_by, calls_in, closed_of}
-use Rattle.call_board.specs.Asked.{asked}
+use Rattle.call_board.specs.Requests.{asked}
 use Rattle.call_board.specs.Fits.{FitsBoard, named_live}
 use Rattle.relay_core.specs.Entries.{Entry, is_nested, belongs_to, board_entry, board_history}
-use Rattle.relay_core.specs.Scripts.{Owed, owed_by, opening, closing, in_cell, closings, ending, expiring, reading, reading_out_of_memory, script_of_act, script}
+use Rattle.relay_core.specs.Scripts.{Owed, owed_by, open_owed, closing, in_cell, closings, ending, expiring, reading, reading_out_of_memory, script_of_act, script}
 use Rattle.relay_core.specs.Legal.{Orderly}
 use Rattle.relay_core.proofs.Histories.{both, and_true}
 
 -- what an owed event is, and of what it comes
 pub data IsOwed (config : Config) (h : List BoardEntry) (e : BoardEntry) (w : Owed) : Type 0 where
-  opens : (o : act.Offer) (leg : Holder) → act.act e ≡ act.Offered o → In leg o.legs → w ≡ opening config leg → IsOwed config h e w
+  opens : (o : act.Offer) (leg : Holder) → act.act e ≡ act.Offered o → In leg o.legs → w ≡ open_owed config leg → IsOwed config h e w
   prepares : (o : act.Offer) → act.act e ≡ act.Offered o → w ≡ in_cell o.of (Prepare o.of.number o.legs o.keys o.dropped) → IsOwed config h e w
   commits : (a : act.Answer) → act.act e ≡ act.Answered a → w ≡ in_cell a.of (Commit a.signal) → IsOwed config h e w
   closes : (c : Call) (leg : Holder) → In c (calls_in e) → In leg (closed_of h e c) → w ≡ closing config leg → IsOwed config h e w
   ends : (c : Call) → In c (ended_by e) → w ≡ in_cell c End → IsOwed config h e w
   expires : (c : Call) (due : Bool) → In c (live h) → w ≡ in_cell c (Expire due) → IsOwed config h e w
-  reads : (c : Call) (told : List LegReport) → w ≡ in_cell c (Read told) → IsOwed config h e w
+  reads : (c : Call) (all_reports : List LegReport) → w ≡ in_cell c (Read all_reports) → IsOwed config h e w
 
 -- Inversion.
 
@@ -43,12 +43,12 @@ owed_ending : (config : Config) (h : List BoardEntry) (e : BoardEntry) (c : Call
 owed_ending config h e c w j (here q) = ends c j q
 owed_ending config h e c w j (there i) = owed_closing config h e c w (in_right (signalled_by (act.act e)) (ended_by e) j) i
 
-owed_read : (config : Config) (h : List BoardEntry) (e : BoardEntry) (o : Option Call) (told : Option (List LegReport)) (w : Owed)
-    → In w (reading o told) → IsOwed config h e w
-owed_read config h e None told w i = elim i [ ]
+owed_read : (config : Config) (h : List BoardEntry) (e : BoardEntry) (o : Option Call) (all_reports : Option (List LegReport)) (w : Owed)
+    → In w (reading o all_reports) → IsOwed config h e w
+owed_read config h e None all_reports w i = elim i [ ]
 owed_read config h e (Some c) None w i = elim i [ ]
-owed_read config h e (Some c) (Some told) w (here q) = reads c told q
-owed_read config h e (Some c) (Some told) w (there i) = elim i [ ]
+owed_read config h e (Some c) (Some all_reports) w (here q) = reads c all_reports q
+owed_read config h e (Some c) (Some all_reports) w (there i) = elim i [ ]
 
 owed_out_of_memory : (config : Config) (h : List BoardEntry) (e : BoardEntry) (c : Control) (r : Result Said ErrorCode) (w : Owed)
     → In w (reading_out_of_memory h c r) → IsOwed config h e w
@@ -61,10 +61,10 @@ owed_out_of_memory config h e c (Ok (Listing limit)) w i = elim i [ ]
 owed_out_of_memory config h e c (Err code) w i = elim i [ ]
 
 owed_offer : (config : Config) (h : List BoardEntry) (e : BoardEntry) (o : act.Offer) (w : Owed) → act.act e ≡ act.Offered o
-    → In w (map (opening config) o.legs) ⊎ In w (in_cell o.of (Prepare o.of.number o.legs o.keys o.dropped) ∷ closings config h e o.of)
+    → In w (map (open_owed config) o.legs) ⊎ In w (in_cell o.of (Prepare o.of.number o.legs o.keys o.dropped) ∷ closings config h e o.of)
     → In o.of (calls_in e) → IsOwed config h e w
 owed_offer config h e o w q (inl i) j =
-    let m = mapped (opening config) o.legs i in opens o m.from q m.is_in (sym m.makes)
+    let m = mapped (open_owed config) o.legs i in opens o m.from q m.is_in (sym m.makes)
 owed_offer config h e o w q (inr (here p)) j = prepares o q p
 owed_offer config h e o w q (inr (there i)) j = owed_closing config h e o.of w j i
 
@@ -83,7 +83,7 @@ owed_act config h moment c w (act.Failed code) q i = elim i [ ]
 owed_act config h moment c w (act.Undone code leases draws) q i = elim i [ ]
 owed_act config h moment c w (act.Offered o) q i =
     owed_offer config h (turn moment c) o w q
-    (in_append (map (opening config) o.legs) (in_cell o.of (Prepare o.of.number o.legs o.keys o.dropped) ∷ closings config h (turn moment c) o.of) i)
+    (in_append (map (open_owed config) o.legs) (in_cell o.of (Prepare o.of.number o.legs o.keys o.dropped) ∷ closings config h (turn moment c) o.of) i)
     (signals (turn moment c) o.of (act.Offered o) q (here refl))
 owed_act config h moment c w (act.Answered a) q (here p) = commits a q p
 owed_act config h moment c w (act.Answered a) q (there i) =
@@ -131,22 +131,22 @@ by_act : (config : Config) (h : List BoardEntry) (moment : ℕ) (v : BoardEvent)
     → (a ≡ act.Told → ⊥)
     → ((c : Control) → v ≡ Turn c → In w (script_of_act config h (record { moment = moment; event = v }) c a))
     → In w (script config h (record { moment = moment; event = v }))
-by_act config h moment (Turn c) w a q told f = subst (λ b. In w (script_of_act config h (turn moment c) c b)) (sym q) (f c refl)
-by_act config h moment (Tick calls) w a q told f = absurd (told (sym q))
-by_act config h moment (Stop calls) w a q told f = absurd (told (sym q))
+by_act config h moment (Turn c) w a q log f = subst (λ b. In w (script_of_act config h (turn moment c) c b)) (sym q) (f c refl)
+by_act config h moment (Tick calls) w a q log f = absurd (log (sym q))
+by_act config h moment (Stop calls) w a q log f = absurd (log (sym q))
 
 -- an accepted offer owes an opening for each new leg, and a Prepare
 pub has_opening : (config : Config) (h : List BoardEntry) (e : BoardEntry) (o : act.Offer) (leg : Holder) → act.act e ≡ act.Offered o → In leg o.legs
-    → In (opening config leg) (script config h e)
+    → In (open_owed config leg) (script config h e)
 has_opening config h e o leg q i =
-    by_act config h e.moment e.event (opening config leg) (act.Offered o) q (λ t. let k = t in cc)
-    (λ c v. in_left (map (opening config) o.legs) (in_cell o.of (Prepare o.of.number o.legs o.keys o.dropped) ∷ closings config h e o.of) (maps (opening config) o.legs i))
+    by_act config h e.moment e.event (open_owed config leg) (act.Offered o) q (λ t. let k = t in cc)
+    (λ c v. in_left (map (open_owed config) o.legs) (in_cell o.of (Prepare o.of.number o.legs o.keys o.dropped) ∷ closings config h e o.of) (maps (open_owed config) o.legs i))
 
 pub has_prepare : (config : Config) (h : List BoardEntry) (e : BoardEntry) (o : act.Offer) → act.act e ≡ act.Offered o
     → In (in_cell o.of (Prepare o.of.number o.legs o.keys o.dropped)) (script config h e)
 has_prepare config h e o q =
     by_act config h e.moment e.event (in_cell o.of (Prepare o.of.number o.legs o.keys o.dropped)) (act.Offered o) q (λ t. let k = t in cc)
-    (λ c v. in_right (map (opening config) o.legs) (in_cell o.of (Prepare o.of.number o.legs o.keys o.dropped) ∷ closings config h e o.of) (here refl))
+    (λ c v. in_right (map (open_owed config) o.legs) (in_cell o.of (Prepare o.of.number o.legs o.keys o.dropped) ∷ closings config h e o.of) (here refl))
 
 -- an accepted answer owes a Commit
 pub has_commit : (config : Config) (h : List BoardEntry) (e : BoardEntry) (a : act.Answer) → act.act e ≡ act.Answered a
@@ -195,7 +195,7 @@ signalled_closing : (config : Config) (h : List BoardEntry) (e : BoardEntry) (le
     → In c (signalled_by a) → In leg (closed_of h e c) → In (closing config leg) (script config h e)
 signalled_closing config h e leg c (act.Offered o) q (here p) i =
     by_act config h e.moment e.event (closing config leg) (act.Offered o) q (λ t. let k = t in cc)
-    (λ d v. in_right (map (opening config) o.legs) (in_cell o.of (Prepare o.of.number o.legs o.keys o.dropped) ∷ closings config h e o.of)
+    (λ d v. in_right (map (open_owed config) o.legs) (in_cell o.of (Prepare o.of.number o.legs o.keys o.dropped) ∷ closings config h e o.of)
     (there (maps (closing config) (closed_of h e o.of) (subst (λ x. In leg (closed_of h e x)) p i))))
 signalled_closing config h e leg c (act.Offered o) q (there j) i = elim j [ ]
 signalled_closing config h e leg c (act.Answered a) q (here p) i =

@@ -4,7 +4,7 @@ use Rattle.relay_outside.specs.declared.settings.Config.{Config}
 use Rattle.histories.specs.Words.{In}
 use Rattle.call_cell.specs.Cells.{CellEvent, CellEntry, Prepare, Commit, Relay, Expire, Read, End, Relayed, Shield, is_end, since_end}
 use Rattle.call_cell.specs.Deeds.{deed}
-use Rattle.call_cell.specs.Asked.{FitsCell, FitsRelay}
+use Rattle.call_cell.specs.Demands.{FitsCell, FitsRelay}
 use Rattle.call_cell.specs.Good.{FittingCell, empty, longer}
 use Rattle.call_board.specs.Acts as act
 use Rattle.call_board.specs.Acts.{Call, BoardEntry}
@@ -62,7 +62,7 @@ shielding (Cell (Relay x)) s q = record { relayed = x; is = refl; shield = q }
 shielding (Cell (Prepare call legs keys dropped)) s q = absurd (let h = q in cc)
 shielding (Cell (Commit signal)) s q = absurd (let h = q in cc)
 shielding (Cell (Expire due)) s q = absurd (let h = q in cc)
-shielding (Cell (Read told)) s q = absurd (let h = q in cc)
+shielding (Cell (Read log)) s q = absurd (let h = q in cc)
 shielding (Cell End) s q = absurd (let h = q in cc)
 shielding (Board b) s q = absurd (let h = q in cc)
 shielding (Box b) s q = absurd (let h = q in cc)

@@ -10,14 +10,14 @@ use Rattle.port_pool.specs.declared.holder.Holder.{Holder}
 use Rattle.port_pool.specs.Boxes.{BoxEvent, Open, Close, holder}
 use Rattle.call_cell.specs.Cells.{Prepare}
 use Rattle.port_pool.specs.declared.reports.LegReport.{LegReport}
-use Rattle.ng_command.specs.Said.{Said, Ping, Offer, Answer, Delete, Query, Listing}
+use Rattle.ng_command.specs.Meanings.{Said, Ping, Offer, Answer, Delete, Query, Listing}
 use Rattle.ng_reply.specs.declared.code.ErrorCode.{ErrorCode}
 use Rattle.std.specs.Prelude.{Result, Ok, Err}
 use Rattle.call_board.specs.Acts as act
 use Rattle.call_board.specs.Acts.{Act, Call, Control, BoardEvent, Turn, Tick, Stop, BoardEntry}
 use Rattle.call_board.specs.Calls.{live, find_call}
 use Rattle.call_board.specs.Pairs.{Once, held, closed_of, closes_leg}
-use Rattle.call_board.specs.Asked.{asked}
+use Rattle.call_board.specs.Requests.{asked}
 use Rattle.call_board.specs.Fits.{FitsBoard, IsFitting}
 use Rattle.call_board.proofs.Once.{once_equal, once_append, once_filtered}
 use Rattle.call_board.proofs.Calls.{live_numbers}
@@ -25,7 +25,7 @@ use Rattle.call_board.proofs.Cells.{live_cells_once}
 use Rattle.call_board.proofs.Held.{closed_of_held}
 use Rattle.call_board.proofs.Free.{free_not_held, new_leg_free, new_legs_once, held_once, held_apart}
 use Rattle.relay_core.specs.Entries.{Event, Board, Cell, Box, Entry, is_nested, belongs_to, front, board_history, history, box_in, box_event, box_history, box_of}
-use Rattle.relay_core.specs.Scripts.{Owed, owed_by, opening, closing, in_cell, closings, ending, expiring, reading, reading_out_of_memory, script_of_act, script}
+use Rattle.relay_core.specs.Scripts.{Owed, owed_by, open_owed, closing, in_cell, closings, ending, expiring, reading, reading_out_of_memory, script_of_act, script}
 use Rattle.relay_core.specs.Legal.{Orderly}
 use Rattle.relay_core.specs.Safe.{box_before}
 use Rattle.relay_core.proofs.Histories.{and_true, both, same_at, good_history}
@@ -60,7 +60,7 @@ box_of_leg config leg = box_of config leg.pair
 places_append : (ws vs : List Owed) → box_places (ws ++ vs) ≡ box_places ws ++ box_places vs
 places_append ws vs = ap (map place_of) (filter_append is_boxed ws vs) ∙ map-append place_of (filter is_boxed ws) (filter is_boxed vs)
 
-opening_places : (config : Config) (legs : List Holder) → box_places (map (opening config) legs) ≡ map (box_of_leg config) legs
+opening_places : (config : Config) (legs : List Holder) → box_places (map (open_owed config) legs) ≡ map (box_of_leg config) legs
 opening_places config [] = refl
 opening_places config (leg ∷ legs) = ap (λ ps. box_of config leg.pair ∷ ps) (opening_places config legs)
 
@@ -150,10 +150,10 @@ expiring_by config h e calls good = record {
   from = λ c p i. due_from config h e c p (has (map (λ (d : Call). d.number) calls) c.number) i;
 }
 
-read_once : (o : Option Call) (told : Option (List LegReport)) → Once (box_places (reading o told))
-read_once None told = tt
+read_once : (o : Option Call) (all_reports : Option (List LegReport)) → Once (box_places (reading o all_reports))
+read_once None all_reports = tt
 read_once (Some c) None = tt
-read_once (Some c) (Some told) = tt
+read_once (Some c) (Some all_reports) = tt
 
 out_of_memory_once : (h : List BoardEntry) (c : Control) (r : Result Said ErrorCode) → Once (box_places (reading_out_of_memory h c r))
 out_of_memory_once h c (Ok (Query id)) = read_once (find_call h id) c.given.report
@@ -175,8 +175,8 @@ act_once config h moment c good fits (act.Failed code) q = tt
 act_once config h moment c good fits (act.Undone code leases draws) q = tt
 act_once config h moment c good fits (act.Offered o) q =
     let e = turn moment c in
-    subst Once (sym (places_append (map (opening config) o.legs) (in_cell o.of (Prepare o.of.number o.legs o.keys o.dropped) ∷ closings config h e o.of)))
-    (once_append (box_places (map (opening config) o.legs)) (box_places (closings config h e o.of))
+    subst Once (sym (places_append (map (open_owed config) o.legs) (in_cell o.of (Prepare o.of.number o.legs o.keys o.dropped) ∷ closings config h e o.of)))
+    (once_append (box_places (map (open_owed config) o.legs)) (box_places (closings config h e o.of))
     (subst Once (sym (opening_places config o.legs)) (boxes_once config o.legs (new_legs_once config h e o fits q)))
     (closed_once config h e o.of good)
     (λ p i j. (

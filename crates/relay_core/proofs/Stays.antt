@@ -4,7 +4,7 @@ use Rattle.std.specs.List.{filter_map, cons_option}
 use Rattle.relay_outside.specs.declared.ports.InCall.{InCall}
 use Rattle.relay_outside.specs.declared.ports.OutCall.{OutCall}
 use Rattle.relay_outside.specs.declared.settings.Config.{Config}
-use Rattle.relay_outside.specs.Told.{EndTold}
+use Rattle.relay_outside.specs.DeviceLogs.{EndLog}
 use Rattle.turn_table.specs.declared.machine.Entry as table
 use Rattle.turn_table.specs.Histories.{Leaves}
 use Rattle.histories.specs.Words.{In, first}
@@ -16,7 +16,7 @@ use Rattle.relay_outside.specs.declared.ports.InGiven.{InGiven}
 use Rattle.rtp_packet.specs.declared.head.Half.{Half}
 use Rattle.rtp_packet.specs.declared.head.Half.TheVariants.{Rtp, Rtcp}
 use Rattle.port_pool.specs.Ports.{AreOfPair, port_address}
-use Rattle.port_pool.specs.Taking.{given_of, GainsTake, IsTakenFrom, EndsTaken}
+use Rattle.port_pool.specs.Takes.{given_of, GainsTake, IsTakenFrom, EndsTaken}
 use Rattle.port_pool.specs.Boxes.{BoxEvent, Taken, Open, Take, Close}
 use Rattle.port_pool.specs.PairBoxes.{BoxFor, at_of, cells_of, ends_in}
 use Rattle.call_cell.specs.declared.cell.Cell as cell
@@ -25,11 +25,11 @@ use Rattle.call_cell.specs.Good.{FittingCell, longer}
 use Rattle.call_cell.specs.declared.outcome.Outcome.{Outcome}
 use Rattle.call_cell.specs.Cells.{Relayed}
 use Rattle.call_cell.specs.Deeds.{deed}
-use Rattle.call_cell.specs.Asked.{FitsCell}
-use Rattle.call_cell.specs.Standing.{sent_ok}
-use Rattle.call_cell.specs.Preparing.{added}
-use Rattle.call_cell.specs.Reading.{read_after}
-use Rattle.call_cell.specs.CellStanding.{CellFor, relayed_at}
+use Rattle.call_cell.specs.Demands.{FitsCell}
+use Rattle.call_cell.specs.LegHistories.{sent_ok}
+use Rattle.call_cell.specs.Preparations.{added}
+use Rattle.call_cell.specs.LegReports.{read_after}
+use Rattle.call_cell.specs.CellHistories.{CellFor, relayed_at}
 use Rattle.call_board.specs.declared.board.Board as board
 use Rattle.call_board.specs.Acts.{BoardEvent, BoardEntry}
 use Rattle.call_board.specs.Boards.{BoardFor}
@@ -39,13 +39,13 @@ use Rattle.call_cell.proofs.NewKeys.{none_since}
 use Rattle.relay_core.specs.declared.part.Part.{Part}
 use Rattle.relay_core.specs.declared.part.Part.TheVariants as part
 use Rattle.relay_core.specs.Entries.{Event, Board, Cell, Box, Entry, board_at, cell_at, box_in, board_entry, cell_entry, box_event}
-use Rattle.relay_core.specs.Made.{Left, Made, entry_of, told_cell, told_relay}
+use Rattle.relay_core.specs.Records.{Left, Made, entry_of, logged_cell, logged_relay}
 use Rattle.relay_core.specs.Steps.{board_made, BoardStep, BoardSteps, BoxEnds, BoxSteps, CellStepsBy, CellSteps, Relates, AreNew}
-use Rattle.relay_core.specs.Standing.{told_entry, FittingBox, CellStands, BringsNewKeys, Stands, IsBoardPart, IsCellPart, IsBoxPart, AreHome, BoxHome}
+use Rattle.relay_core.specs.PlaceHistories.{logged_entry, FittingBox, CellStands, BringsNewKeys, Stands, IsBoardPart, IsCellPart, IsBoxPart, AreHome, BoxHome}
 
 -- The keys that were brought.
 
-told_keys : (c : CellEvent) → keys_of (told_cell c) ≡ keys_of c
+told_keys : (c : CellEvent) → keys_of (logged_cell c) ≡ keys_of c
 told_keys (Prepare call legs keys dropped) = refl
 told_keys (Commit signal) = refl
 told_keys (Relay x) = refl
@@ -53,13 +53,13 @@ told_keys (Expire due) = refl
 told_keys (Read reports) = refl
 told_keys End = refl
 
-told_keys_in : (h : List CellEntry) → keys_in (map told_entry h) ≡ keys_in h
+told_keys_in : (h : List CellEntry) → keys_in (map logged_entry h) ≡ keys_in h
 told_keys_in [] = refl
 told_keys_in (e ∷ h) =
-    ap (λ (ks : List NewKey). ks ++ keys_in (map told_entry h)) (told_keys e.event) ∙ ap (λ (ks : List NewKey). keys_of e.event ++ ks) (told_keys_in h)
+    ap (λ (ks : List NewKey). ks ++ keys_in (map logged_entry h)) (told_keys e.event) ∙ ap (λ (ks : List NewKey). keys_of e.event ++ ks) (told_keys_in h)
 
 -- so what is recorded tells which keys are new
-pub new_recorded : (history recorded : List CellEntry) (keys : List NewKey) → map told_entry history ≡ recorded
+pub new_recorded : (history recorded : List CellEntry) (keys : List NewKey) → map logged_entry history ≡ recorded
     → ((key : NewKey) → In key keys → key_numbered recorded key.number ≡ None) → AreNew history keys
 new_recorded history recorded keys is new key i =
     let P : List NewKey → Type 0 = λ (ks : List NewKey). first (filter (λ (k : NewKey). k.number == key.number) ks) ≡ None in
@@ -91,13 +91,13 @@ after_board config old new made (Board e) h gives steps for =
 after_board config old new made (Cell e) h gives steps for = absurd steps
 after_board config old new made (Box e) h gives steps for = absurd steps
 
-after_box : {I : Type 0} (it : I → EndTold InCall) (ic : I → ℕ) (old new : PairBox I) (made : Made) (ev : Event) (h : List BoxEvent)
+after_box : {I : Type 0} (it : I → EndLog InCall) (ic : I → ℕ) (old new : PairBox I) (made : Made) (ev : Event) (h : List BoxEvent)
     → BoxSteps it ic old made ev new → FittingBox h × BoxFor old h → FittingBox (cons_option (box_in ev) h) × BoxFor new (cons_option (box_in ev) h)
 after_box it ic old new made (Box e) h step for = let s = step.stands h for.1 in ((s.0, for.0), s.1)
 after_box it ic old new made (Cell e) h step for = absurd step
 after_box it ic old new made (Board e) h step for = absurd step
 
-box_cells : {I : Type 0} (it : I → EndTold InCall) (ic : I → ℕ) (cells : ℕ) (old new : PairBox I) (made : Made) (ev : Event)
+box_cells : {I : Type 0} (it : I → EndLog InCall) (ic : I → ℕ) (cells : ℕ) (old new : PairBox I) (made : Made) (ev : Event)
     → BoxSteps it ic old made ev new → cells_of old ≡ cells → cells_of new ≡ cells
 box_cells it ic cells old new made (Box e) step is = step.cells_are ∙ is
 box_cells it ic cells old new made (Cell e) step is = absurd step
@@ -106,58 +106,58 @@ box_cells it ic cells old new made (Board e) step is = absurd step
 -- The ends of a box.
 
 -- an end that was taken from once is of the same port
-taken_at : {I : Type 0} (told : I → EndTold InCall) (faults : I → ℕ) (old new : I) (g : Option InGiven) → GainsTake told faults old new g → (told new).at ≡ (told old).at
-taken_at told faults old new None gains = absurd gains
-taken_at told faults old new (Some gave) gains = gains.same
+taken_at : {I : Type 0} (log : I → EndLog InCall) (faults : I → ℕ) (old new : I) (g : Option InGiven) → GainsTake log faults old new g → (log new).at ≡ (log old).at
+taken_at log faults old new None gains = absurd gains
+taken_at log faults old new (Some gave) gains = gains.same
 
-home_from : {I : Type 0} (told : I → EndTold InCall) (faults : I → ℕ) (half : Half) (at : Addr) (old new : I × I) (taken : Taken)
-    → IsTakenFrom told faults half old new taken → AreOfPair told at old.0 old.1 → AreOfPair told at new.0 new.1
-home_from told faults Rtp at old new taken is home = record {
-  rtp_at = taken_at told faults old.0 new.0 (given_of taken) is.0.gains ∙ home.rtp_at;
-  rtcp_at = ap (λ (e : _). (told e).at) is.1 ∙ home.rtcp_at;
+home_from : {I : Type 0} (log : I → EndLog InCall) (faults : I → ℕ) (half : Half) (at : Addr) (old new : I × I) (taken : Taken)
+    → IsTakenFrom log faults half old new taken → AreOfPair log at old.0 old.1 → AreOfPair log at new.0 new.1
+home_from log faults Rtp at old new taken is home = record {
+  rtp_at = taken_at log faults old.0 new.0 (given_of taken) is.0.gains ∙ home.rtp_at;
+  rtcp_at = ap (λ (e : _). (log e).at) is.1 ∙ home.rtcp_at;
 }
-home_from told faults Rtcp at old new taken is home = record {
-  rtp_at = ap (λ (e : _). (told e).at) is.0 ∙ home.rtp_at;
-  rtcp_at = taken_at told faults old.1 new.1 (given_of taken) is.1.gains ∙ home.rtcp_at;
+home_from log faults Rtcp at old new taken is home = record {
+  rtp_at = ap (λ (e : _). (log e).at) is.0 ∙ home.rtp_at;
+  rtcp_at = taken_at log faults old.1 new.1 (given_of taken) is.1.gains ∙ home.rtcp_at;
 }
 
-home_taken : {I : Type 0} (told : I → EndTold InCall) (faults : I → ℕ) (half : Half) (at : Addr) (old new : Option (I × I)) (taken : Taken)
-    → EndsTaken told faults half old new taken → AreHome told at old → AreHome told at new
-home_taken {I} told faults half at None new taken is home = subst (λ (o : Option (I × I)). AreHome told at o) (sym is) tt
-home_taken told faults half at (Some old) None taken is home = absurd is
-home_taken told faults half at (Some old) (Some new) taken is home = home_from told faults half at old new taken is home
+home_taken : {I : Type 0} (log : I → EndLog InCall) (faults : I → ℕ) (half : Half) (at : Addr) (old new : Option (I × I)) (taken : Taken)
+    → EndsTaken log faults half old new taken → AreHome log at old → AreHome log at new
+home_taken {I} log faults half at None new taken is home = subst (λ (o : Option (I × I)). AreHome log at o) (sym is) tt
+home_taken log faults half at (Some old) None taken is home = absurd is
+home_taken log faults half at (Some old) (Some new) taken is home = home_from log faults half at old new taken is home
 
-home_by : {I : Type 0} (told : I → EndTold InCall) (faults : I → ℕ) (at : Addr) (e : BoxEvent) (left : Left) (old new : Option (I × I))
-    → BoxEnds told faults at e left old new → AreHome told at old → AreHome told at new
-home_by {I} told faults at (Open leg) left old new ends home =
-    subst (λ (o : Option (I × I)). AreHome told at o) (sym ends.1.are_in) (record { rtp_at = ends.1.rtp_is_new.at_is; rtcp_at = ends.1.rtcp_is_new.at_is })
-home_by told faults at (Take half taken) left old new ends home = home_taken told faults half at old new taken ends home
-home_by {I} told faults at Close left old new ends home = subst (λ (o : Option (I × I)). AreHome told at o) (sym ends.0) tt
+home_by : {I : Type 0} (log : I → EndLog InCall) (faults : I → ℕ) (at : Addr) (e : BoxEvent) (left : Left) (old new : Option (I × I))
+    → BoxEnds log faults at e left old new → AreHome log at old → AreHome log at new
+home_by {I} log faults at (Open leg) left old new ends home =
+    subst (λ (o : Option (I × I)). AreHome log at o) (sym ends.1.are_in) (record { rtp_at = ends.1.rtp_is_new.at_is; rtcp_at = ends.1.rtcp_is_new.at_is })
+home_by log faults at (Take half taken) left old new ends home = home_taken log faults half at old new taken ends home
+home_by {I} log faults at Close left old new ends home = subst (λ (o : Option (I × I)). AreHome log at o) (sym ends.0) tt
 
-box_home : {I : Type 0} (told : I → EndTold InCall) (faults : I → ℕ) (at : Addr) (old new : PairBox I) (made : Made) (ev : Event)
-    → BoxSteps told faults old made ev new → (at_of old ≡ at) × AreHome told (at_of old) (ends_in old) → (at_of new ≡ at) × AreHome told (at_of new) (ends_in new)
-box_home told faults at old new made (Box e) step is = (
+box_home : {I : Type 0} (log : I → EndLog InCall) (faults : I → ℕ) (at : Addr) (old new : PairBox I) (made : Made) (ev : Event)
+    → BoxSteps log faults old made ev new → (at_of old ≡ at) × AreHome log (at_of old) (ends_in old) → (at_of new ≡ at) × AreHome log (at_of new) (ends_in new)
+box_home log faults at old new made (Box e) step is = (
   step.at_is ∙ is.0,
-  subst (λ (a : Addr). AreHome told a (ends_in new)) (sym step.at_is) (home_by told faults (at_of old) e made.left (ends_in old) (ends_in new) step.ends is.1),
+  subst (λ (a : Addr). AreHome log a (ends_in new)) (sym step.at_is) (home_by log faults (at_of old) e made.left (ends_in old) (ends_in new) step.ends is.1),
 )
-box_home told faults at old new made (Cell e) step is = absurd step
-box_home told faults at old new made (Board e) step is = absurd step
+box_home log faults at old new made (Cell e) step is = absurd step
+box_home log faults at old new made (Board e) step is = absurd step
 
 -- a cell that makes one more entry, which is recorded so
-one_more : {O : Type 0} (config : Config) (new : cell.Cell O) (history recorded : List CellEntry) (e r : CellEntry) → map told_entry history ≡ recorded
-    → FittingCell config history → FitsCell config history e → CellFor config new (e ∷ history) → told_entry e ≡ r → CellStands config new (r ∷ recorded)
-one_more config new history recorded e r is fitting fits stands told = record {
+one_more : {O : Type 0} (config : Config) (new : cell.Cell O) (history recorded : List CellEntry) (e r : CellEntry) → map logged_entry history ≡ recorded
+    → FittingCell config history → FitsCell config history e → CellFor config new (e ∷ history) → logged_entry e ≡ r → CellStands config new (r ∷ recorded)
+one_more config new history recorded e r is fitting fits stands log = record {
   history = e ∷ history;
-  is_recorded = ap (λ (x : CellEntry). x ∷ map told_entry history) told ∙ ap (λ (h : List CellEntry). r ∷ h) is;
+  is_recorded = ap (λ (x : CellEntry). x ∷ map logged_entry history) log ∙ ap (λ (h : List CellEntry). r ∷ h) is;
   fitting = longer fits fitting;
   stands = stands;
 }
 
-at_same : (a b : ℕ) (event : CellEvent) → a ≡ b → told_cell event ≡ event → told_entry (record { moment = a; event = event }) ≡ record { moment = b; event = event }
+at_same : (a b : ℕ) (event : CellEvent) → a ≡ b → logged_cell event ≡ event → logged_entry (record { moment = a; event = event }) ≡ record { moment = b; event = event }
 at_same a b event p q =
-    ap (λ (m : ℕ). told_entry (record { moment = m; event = event })) p ∙ ap (λ (c : CellEvent). record { moment = b; event = c }) q
+    ap (λ (m : ℕ). logged_entry (record { moment = m; event = event })) p ∙ ap (λ (c : CellEvent). record { moment = b; event = c }) q
 
-after_cell_by : {O : Type 0} (ot : O → EndTold OutCall) (oc : O → ℕ) (config : Config) (old new : cell.Cell O) (made : Made) (ev : CellEvent)
+after_cell_by : {O : Type 0} (ot : O → EndLog OutCall) (oc : O → ℕ) (config : Config) (old new : cell.Cell O) (made : Made) (ev : CellEvent)
     (recorded : List CellEntry) → ((key : NewKey) → In key (keys_of ev) → key_numbered recorded key.number ≡ None)
     → CellStepsBy ot oc old made ev new → CellStands config old recorded
     → CellStands config new ((record { moment = made.moment; event = ev }) ∷ recorded)
@@ -172,11 +172,11 @@ after_cell_by ot oc config old new made (Commit signal) recorded fresh step for 
 after_cell_by ot oc config old new made (Relay x) recorded fresh step for =
     let s = step.steps config for.history for.stands in
     let d = deed config (since_end for.history) x.packet (sent_ok x.deed.outcome) in
-    let told : told_relay x.packet d.outcome ≡ x = ap (λ (o : Outcome). told_relay x.packet o) (sym s.1.outcome) ∙ sym step.is_told in
+    let shown : logged_relay x.packet d.outcome ≡ x = ap (λ (o : Outcome). logged_relay x.packet o) (sym s.1.outcome) ∙ sym step.is_told in
     one_more config new for.history recorded (relayed_at config for.history x.packet made.handed x.deed.outcome) (record { moment = made.moment; event = Relay x })
     for.is_recorded for.fitting s.1.fits s.1.stands
-    (ap (λ (m : ℕ). record { moment = m; event = Relay (told_relay x.packet d.outcome) }) (sym s.0)
-    ∙ ap (λ (r : Relayed). record { moment = made.moment; event = Relay r }) told)
+    (ap (λ (m : ℕ). record { moment = m; event = Relay (logged_relay x.packet d.outcome) }) (sym s.0)
+    ∙ ap (λ (r : Relayed). record { moment = made.moment; event = Relay r }) shown)
 after_cell_by ot oc config old new made (Expire due) recorded fresh step for =
     let s = step config for.history for.stands in
     one_more config new for.history recorded _ _ for.is_recorded for.fitting s.1.fits s.1.stands (at_same _ _ (Expire due) (sym s.0) refl)
@@ -189,7 +189,7 @@ after_cell_by ot oc config old new made End recorded fresh step for =
     let s = step.steps config for.history for.stands in
     one_more config new for.history recorded _ _ for.is_recorded for.fitting s.1.fits s.1.stands (at_same _ _ End (sym s.0) refl)
 
-after_cell : {O : Type 0} (ot : O → EndTold OutCall) (oc : O → ℕ) (config : Config) (old new : cell.Cell O) (made : Made) (ev : Event)
+after_cell : {O : Type 0} (ot : O → EndLog OutCall) (oc : O → ℕ) (config : Config) (old new : cell.Cell O) (made : Made) (ev : Event)
     (recorded : List CellEntry) → BringsNewKeys (cons_option (cell_at made.moment ev) recorded)
     → CellSteps ot oc old made ev new → CellStands config old recorded → CellStands config new (cons_option (cell_at made.moment ev) recorded)
 after_cell ot oc config old new made (Cell e) recorded fresh step for = after_cell_by ot oc config old new made e recorded fresh.0 step for
@@ -229,7 +229,7 @@ module _ {T : Type 0} where
   give_back_taken (suc n) [] h r = tt
   give_back_taken (suc n) (row ∷ rows) h r = (r.0, give_back_taken n rows (entry_of row ∷ h) r.1)
 
-  module _ {I O : Type 0} (it : I → EndTold InCall) (ic : I → ℕ) (ot : O → EndTold OutCall) (oc : O → ℕ) where
+  module _ {I O : Type 0} (it : I → EndLog InCall) (ic : I → ℕ) (ot : O → EndLog OutCall) (oc : O → ℕ) where
     abbrev pub Steps : Part I O → Made → T → Part I O → Type 0
     Steps old made outcome new = Relates it ic ot oc old made new
 

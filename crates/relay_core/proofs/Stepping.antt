@@ -6,15 +6,15 @@ use Rattle.call_board.specs.Acts.{BoardEvent, Turn, Tick, Stop, BoardEntry}
 use Rattle.call_board.specs.Boards.{BoardFor}
 use Rattle.call_board.specs.Fits.{IsFitting}
 use Rattle.call_board.specs.Futures.{closed_pairs}
-use Rattle.call_board.specs.Views.{last_moment}
+use Rattle.call_board.specs.Views.{board_last_moment}
 use Rattle.call_board.specs.Whole.{IsTimely}
 use Rattle.call_board.proofs.OneBoard.{one_board_fits, one_board_goes_on}
 use Rattle.relay_core.specs.Entries.{Board}
-use Rattle.relay_core.specs.Made.{Made, moment_of}
+use Rattle.relay_core.specs.Records.{Made, moment_of}
 use Rattle.relay_core.specs.Steps.{board_made, BoardStep, BoardSteps}
 
 -- the moment of a step of the board is never before the last one
-timely : (h : List BoardEntry) (made : Made) (event : BoardEvent) → made.moment ≡ moment_of (Board event) made.handed (last_moment h) → IsTimely h (board_made made event)
+timely : (h : List BoardEntry) (made : Made) (event : BoardEvent) → made.moment ≡ moment_of (Board event) made.handed (board_last_moment h) → IsTimely h (board_made made event)
 timely h made (Turn c) is = omega (arith, is)
 timely h made (Tick calls) is = omega (arith, is)
 timely h made (Stop calls) is = is

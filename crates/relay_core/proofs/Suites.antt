@@ -8,7 +8,7 @@ use Rattle.port_pool.specs.declared.holder.Side.{Side}
 use Rattle.port_pool.specs.declared.holder.Holder.{Holder}
 use Rattle.port_pool.specs.Signals.{NewKey, side_eq}
 use Rattle.offer_answer.specs.Rounds.{Round, Offered, Answered, OfferAsk, AnswerAsk, KeyPlace, drawn_for}
-use Rattle.offer_answer.specs.Sections.{life}
+use Rattle.offer_answer.specs.Sections.{section_life}
 use Rattle.offer_answer.specs.Keys.{is_for, leg_keys, leg_key}
 use Rattle.offer_answer.specs.Laws.{key_place, IsOfferRound, AreRounds}
 use Rattle.offer_answer.proofs.Numbers.{Ordered}
@@ -94,16 +94,16 @@ one_offered rounds ask new keys r section side one (begins l e) =
     (one_of_both rounds ask new keys r section side [] (λ key i q. elim i [ ]) one)
 one_offered rounds ask new keys r section side one (goes_on l had e) =
     subst (λ (rs : List Round). OnePerSuite (filter (is_for section side) (drawn_for rs))) (sym e)
-    (one_of_both rounds ask new keys r section side (drawn_for (life rounds section))
-    (λ key i q. keeps (is_for section side) (drawn_for (life rounds section)) i q) one)
-one_offered rounds ask new keys r section side one (is_over e) = one_of_none section side (life (Offered ask new keys ∷ rounds) section) e
+    (one_of_both rounds ask new keys r section side (drawn_for (section_life rounds section))
+    (λ key i q. keeps (is_for section side) (drawn_for (section_life rounds section)) i q) one)
+one_offered rounds ask new keys r section side one (is_over e) = one_of_none section side (section_life (Offered ask new keys ∷ rounds) section) e
 
 one_answered : (rounds : List Round) (ask : AnswerAsk) (section : ℕ) (side : Side) → OnePerSuite (leg_keys rounds section side)
     → LifeOf (Answered ask) rounds section → OnePerSuite (leg_keys (Answered ask ∷ rounds) section side)
 one_answered rounds ask section side one (begins l e) = absurd (let q = l in cc)
 one_answered rounds ask section side one (goes_on l had e) =
     subst (λ (rs : List Round). OnePerSuite (filter (is_for section side) (drawn_for rs))) (sym e) one
-one_answered rounds ask section side one (is_over e) = one_of_none section side (life (Answered ask ∷ rounds) section) e
+one_answered rounds ask section side one (is_over e) = one_of_none section side (section_life (Answered ask ∷ rounds) section) e
 
 pub one_suite : (rounds : List Round) → AreRounds rounds → (section : ℕ) (side : Side) → OnePerSuite (leg_keys rounds section side)
 one_suite [] rs section side = λ a b i j suites. elim i [ ]

@@ -11,7 +11,7 @@ use Rattle.call_board.specs.Fits.{FitsBoard}
 use Rattle.relay_core.specs.Entries.{Event, Board, Cell, Box, Entry, is_nested, is_at, belongs_to, history, board_at, board_entry, board_history}
 use Rattle.relay_core.specs.Scripts.{owed_by, script}
 use Rattle.relay_core.specs.Legal.{Orderly}
-pub use Rattle.relay_core.specs.Turning.{Numbered, IsAbove, IsTurn, with_turn, IsOfLane}
+pub use Rattle.relay_core.specs.Turns.{Numbered, IsAbove, IsTurn, with_turn, IsOfLane}
 use Rattle.relay_core.proofs.Elsewhere.{IsElsewhere, owed_elsewhere}
 use Rattle.relay_core.proofs.Histories.{good_history, both, and_true, at_place, is_there}
 
@@ -326,7 +326,7 @@ lane_not_nested (Cell (Prepare call legs keys dropped)) h = absurd h
 lane_not_nested (Cell (Commit signal)) h = absurd h
 lane_not_nested (Cell (Relay r)) h = refl
 lane_not_nested (Cell (Expire due)) h = absurd h
-lane_not_nested (Cell (Read told)) h = absurd h
+lane_not_nested (Cell (Read log)) h = absurd h
 lane_not_nested (Cell End) h = absurd h
 lane_not_nested (Box (Open leg)) h = absurd h
 lane_not_nested (Box (Take half taken)) h = refl

@@ -5,8 +5,8 @@ use Rattle.turn_table.specs.declared.view.View.{View}
 use Rattle.turn_table.specs.Steps.{AreKnown}
 use Rattle.turn_table.proofs.Lists.{below_in}
 use Rattle.relay_core.specs.Entries.{Entry, is_at}
-use Rattle.relay_core.specs.Made.{Made, list_of}
-use Rattle.relay_core.specs.Turning.{Numbered}
+use Rattle.relay_core.specs.Records.{Made, list_of}
+use Rattle.relay_core.specs.Turns.{Numbered}
 use Rattle.relay_core.proofs.Closed.{in_range, count_is}
 use Rattle.relay_core.proofs.Own.{in_rows}
 

@@ -52,26 +52,26 @@ token_code =
     code_by Numbers (coded⊎ coded_ℤ (coded⊎ (coded_list coded_ℕ) (coded⊎ (coded_list coded_ℕ) coded_ℕ))) number_of token_of token_back
 
 -- what stands on the stack
-pub data Made : Type 0 where
-  tree : Tree → Made
-  trees : Trees → Made
-  entries : Entries → Made
+pub data Stacked : Type 0 where
+  tree : Tree → Stacked
+  trees : Trees → Stacked
+  entries : Entries → Stacked
 
 -- what a token makes of the stack
-abbrev pub act : Token → List Made → List Made
-act (IntToken z) stack = tree (Int z) ∷ stack
-act (BytesToken bytes) stack = tree (Bytes bytes) ∷ stack
-act NoItems stack = trees no_items ∷ stack
-act NoEntries stack = entries no_entries ∷ stack
-act ItemToken (tree t ∷ trees rest ∷ stack) = trees (item t rest) ∷ stack
-act ItemsToken (trees all ∷ stack) = tree (Items all) ∷ stack
-act (EntryToken key) (tree t ∷ entries rest ∷ stack) = entries (entry key t rest) ∷ stack
-act DictToken (entries all ∷ stack) = tree (Dict all) ∷ stack
-act _ stack = stack
+abbrev pub apply_token : Token → List Stacked → List Stacked
+apply_token (IntToken z) stack = tree (Int z) ∷ stack
+apply_token (BytesToken bytes) stack = tree (Bytes bytes) ∷ stack
+apply_token NoItems stack = trees no_items ∷ stack
+apply_token NoEntries stack = entries no_entries ∷ stack
+apply_token ItemToken (tree t ∷ trees rest ∷ stack) = trees (item t rest) ∷ stack
+apply_token ItemsToken (trees all ∷ stack) = tree (Items all) ∷ stack
+apply_token (EntryToken key) (tree t ∷ entries rest ∷ stack) = entries (entry key t rest) ∷ stack
+apply_token DictToken (entries all ∷ stack) = tree (Dict all) ∷ stack
+apply_token _ stack = stack
 
-abbrev pub act_all : List Token → List Made → List Made
+abbrev pub act_all : List Token → List Stacked → List Stacked
 act_all [] stack = stack
-act_all (t ∷ ts) stack = act_all ts (act t stack)
+act_all (t ∷ ts) stack = act_all ts (apply_token t stack)
 
 -- the tokens of a value, and then these
 abbrev mutual
@@ -90,34 +90,34 @@ abbrev mutual
   of_entries (entry key t rest) more = of_entries rest (of_tree t (EntryToken key ∷ more))
 
 mutual
-  pub tree_made : (t : Tree) (more : List Token) (stack : List Made) → act_all (of_tree t more) stack ≡ act_all more (tree t ∷ stack)
+  pub tree_made : (t : Tree) (more : List Token) (stack : List Stacked) → act_all (of_tree t more) stack ≡ act_all more (tree t ∷ stack)
   tree_made (Int z) more stack = refl
   tree_made (Bytes bytes) more stack = refl
   tree_made (Items all) more stack = trees_made all (ItemsToken ∷ more) stack
   tree_made (Dict all) more stack = entries_made all (DictToken ∷ more) stack
 
-  pub trees_made : (all : Trees) (more : List Token) (stack : List Made) → act_all (of_trees all more) stack ≡ act_all more (trees all ∷ stack)
+  pub trees_made : (all : Trees) (more : List Token) (stack : List Stacked) → act_all (of_trees all more) stack ≡ act_all more (trees all ∷ stack)
   trees_made no_items more stack = refl
   trees_made (item t rest) more stack =
       trees_made rest (of_tree t (ItemToken ∷ more)) stack ∙ tree_made t (ItemToken ∷ more) (trees rest ∷ stack)
 
-  pub entries_made : (all : Entries) (more : List Token) (stack : List Made) → act_all (of_entries all more) stack ≡ act_all more (entries all ∷ stack)
+  pub entries_made : (all : Entries) (more : List Token) (stack : List Stacked) → act_all (of_entries all more) stack ≡ act_all more (entries all ∷ stack)
   entries_made no_entries more stack = refl
   entries_made (entry key t rest) more stack =
       entries_made rest (of_tree t (EntryToken key ∷ more)) stack ∙ tree_made t (EntryToken key ∷ more) (entries rest ∷ stack)
 
-abbrev pub top : List Made → Entries
+abbrev pub top : List Stacked → Entries
 top (entries all ∷ stack) = all
 top _ = no_entries
 
 abbrev pub tokens_of : Entries → List Token
 tokens_of all = of_entries all []
 
-abbrev pub entries_of : List Token → Entries
-entries_of tokens = top (act_all tokens [])
+abbrev pub coded_entries : List Token → Entries
+coded_entries tokens = top (act_all tokens [])
 
-pub entries_back : (all : Entries) → entries_of (tokens_of all) ≡ all
+pub entries_back : (all : Entries) → coded_entries (tokens_of all) ≡ all
 entries_back all = ap top (entries_made all [] [])
 
 abbrev pub entries_code : Coded Entries
-entries_code = code_by (List Token) (coded_list token_code) tokens_of entries_of entries_back
+entries_code = code_by (List Token) (coded_list token_code) tokens_of coded_entries entries_back

@@ -4,7 +4,7 @@ use Rattle.relay_outside.specs.declared.settings.Config.{Config}
 use Rattle.histories.specs.Words.{In, Before, greatest}
 use Rattle.port_pool.specs.Boxes.{Take, Datagram, FitsBox}
 use Rattle.call_cell.specs.Cells.{Prepare, Commit, Relay, Expire, Relayed, Receipt}
-use Rattle.call_cell.specs.Asked.{FitsCell}
+use Rattle.call_cell.specs.Demands.{FitsCell}
 use Rattle.call_board.specs.Acts.{BoardEntry, Turn, Tick}
 use Rattle.call_board.specs.Fits.{FitsBoard}
 use Rattle.relay_core.specs.Entries.{Event, Board, Cell, Box, Entry, is_nested, is_at, belongs_to, history, board_entry, board_history, cell_history, box_history, box_of}

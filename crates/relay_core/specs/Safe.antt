@@ -2,7 +2,7 @@
 use Rattle.std.specs.Prelude.{◌≡◌, ◌<◌, ℕ, suc, ◌&&◌, nat_lt, true, false, List, [], map, length, Option, Some, None, filter, filter_map, Ok, IsSome}
 use Rattle.relay_outside.specs.declared.address.Addr.{Addr}
 use Rattle.relay_outside.specs.declared.settings.Config.{Config}
-use Rattle.ng_command.specs.Said as said
+use Rattle.ng_command.specs.Meanings as said
 use Rattle.ng_reply.specs.declared.code.ErrorCode.TheVariants.{E13, E14, E15, E16, E17}
 use Rattle.histories.specs.Words.{In, Before}
 use Rattle.port_pool.specs.declared.holder.Holder.{Holder}
@@ -16,20 +16,20 @@ use Rattle.offer_answer.specs.Rounds.{OfferAsk}
 use Rattle.offer_answer.specs.Profiles.{is_srtp_leg, profile_offered}
 use Rattle.call_cell.specs.declared.outcome.Outcome.TheVariants.{Sent}
 use Rattle.call_cell.specs.Cells.{CellEvent, CellEntry, Commit, Relay, Relayed, Sending, Shield, call, legs, opposite, in_force, keys_of, key_numbered}
-use Rattle.call_cell.specs.Keyed.{shield_of_relay}
+use Rattle.call_cell.specs.Protection.{shield_of_relay}
 use Rattle.call_cell.specs.LegKeys.{keys_for}
-use Rattle.call_cell.specs.Learning.{endpoint}
+use Rattle.call_cell.specs.Lessons.{endpoint}
 use Rattle.call_cell.specs.Deeds.{deed, way, transform}
 use Rattle.call_cell.specs.Cells as cells
 use Rattle.call_board.specs.Acts as act
 use Rattle.call_board.specs.Acts.{Control, Turn, BoardEntry}
 use Rattle.call_board.specs.Calls.{live, rounds, find_call, rounds_of_call}
 use Rattle.call_board.specs.Pairs.{Once, held, free, free_in, is_short, drawn}
-use Rattle.call_board.specs.Kept.{kept}
-use Rattle.call_board.specs.Asked.{Reads, asked}
+use Rattle.call_board.specs.KeptReplies.{kept_reply}
+use Rattle.call_board.specs.Requests.{ReadsBody, asked}
 use Rattle.call_board.specs.Replies.{Fault, reply_datagram}
 use Rattle.call_board.specs.Answers.{answering_unless, offering, spelled}
-use Rattle.call_board.specs.Fits.{is_read, is_heard, Hears, answer_of}
+use Rattle.call_board.specs.Fits.{is_read, is_request_read, ReadsRequest, answered_in}
 use Rattle.relay_core.specs.Entries.{Event, Board, Cell, Box, Entry, is_nested, history, front, box_event, board_entry, board_history, cell_before, box_history, box_of}
 use Rattle.relay_core.specs.Legal.{Legal}
 
@@ -67,7 +67,7 @@ abbrev pub shield_at : Entry → Option Shield
 shield_at e = shield_by e.event
 
 -- the cell got the key for this leg, in the leg's life: since the leg was added, or together with it
-pub record HasKey (h : List CellEntry) (leg : Holder) (number : ℕ) : Type 0 where
+pub record GotKey (h : List CellEntry) (leg : Holder) (number : ℕ) : Type 0 where
   pub key : NewKey
   pub is_there : key_numbered h number ≡ Some key
   pub in_life : In key (keys_for h leg)
@@ -76,7 +76,7 @@ pub record HasKey (h : List CellEntry) (leg : Holder) (number : ℕ) : Type 0 wh
 pub record IsProtectedBy (l : List Entry) (e : Entry) (x : Relayed) (s : Shield) : Type 0 where
   pub other : Holder
   pub is_opposite : opposite (cell_before l e) x.packet.holder ≡ Some other
-  pub has_key : HasKey (cell_before l e) other s.key
+  pub has_key : GotKey (cell_before l e) other s.key
 
 -- The leg by which a packet leaves was committed last by an answer after which the profile of its side isn't SRTP (RFC 3711): the answer is
 -- the act of an entry of the board, and the profile is what the call's offers and answers before that entry say
@@ -124,13 +124,13 @@ pub record IsRepeat (config : Config) (l : List Entry) (e : Entry) (c : Control)
   pub same_held : held (board_history l (suc e.number)) ≡ held (board_history l e.number)
   pub same_free : free config (board_history l (suc e.number)) ≡ free config (board_history l e.number)
   pub same_drawn : drawn (board_history l (suc e.number)) ≡ drawn (board_history l e.number)
-  pub same_kept : (source : Addr) (cookie : List ℕ) (now : ℕ) → kept (board_history l (suc e.number)) source cookie now ≡ kept (board_history l e.number) source cookie now
+  pub same_kept : (source : Addr) (cookie : List ℕ) (now : ℕ) → kept_reply (board_history l (suc e.number)) source cookie now ≡ kept_reply (board_history l e.number) source cookie now
 
 -- Offers.
 
 -- nothing is kept for the datagram, and it is an offer without a fault
 pub record IsValidOffer (config : Config) (h : List BoardEntry) (c : Control) (now : ℕ) (id : List ℕ) (ask : OfferAsk) : Type 0 where
-  pub nothing_kept : kept h c.source c.cookie now ≡ None
+  pub nothing_kept : kept_reply h c.source c.cookie now ≡ None
   pub is_asked : asked config c.too_long c.pairs ≡ Ok (said.Offer id ask.from_tag ask.sdp ask.options)
   pub is_heard : ask.chosen ≡ c.chosen
   pub no_fault : plan.offer_fault (rounds_of_call h (find_call h id)) ask ≡ None
@@ -163,17 +163,17 @@ pub record BoardSafe (config : Config) (l : List Entry) : Type 0 where
   pub keys_apart : (e f : Entry) (k j : NewKey) → In e l → In f l → In k (keys_at e) → In j (keys_at f) → k.number ≡ j.number → (e ≡ f) × (k ≡ j)
   -- and it belongs to one leg, which is one lease of a pair, in whatever cells and at whatever times legs have it
   pub one_leg : (e f : Entry) (a b : Holder) (number : ℕ) → In e l → In f l → In a (legs (cell_before l e)) → In b (legs (cell_before l f))
-      → HasKey (cell_before l e) a number → HasKey (cell_before l f) b number → a ≡ b
+      → GotKey (cell_before l e) a number → GotKey (cell_before l f) b number → a ≡ b
   -- what is read of a datagram is what its body says, and the lines that are chosen are those of its description
-  pub bodies_are : (e : Entry) (c : Control) → In e l → e.event ≡ Board (Turn c) → is_read c ≡ true → Reads c.body c.pairs
-  pub lines_are : (e : Entry) (c : Control) → In e l → e.event ≡ Board (Turn c) → is_heard c.act ≡ true
-      → Hears (board_history l e.number) c (asked config c.too_long c.pairs)
+  pub bodies_are : (e : Entry) (c : Control) → In e l → e.event ≡ Board (Turn c) → is_read c ≡ true → ReadsBody c.body c.pairs
+  pub lines_are : (e : Entry) (c : Control) → In e l → e.event ≡ Board (Turn c) → is_request_read c.act ≡ true
+      → ReadsRequest (board_history l e.number) c (asked config c.too_long c.pairs)
   -- each reply, and what is done, are what the board's history demands
   pub replies_are : (e : Entry) (c : Control) → In e l → e.event ≡ Board (Turn c)
-      → answer_of c ≡ answering_unless config (board_history l e.number) c (kept (board_history l e.number) c.source c.cookie e.moment)
+      → answered_in c ≡ answering_unless config (board_history l e.number) c (kept_reply (board_history l e.number) c.source c.cookie e.moment)
   -- a kept cookie gives its first reply and changes nothing
   pub repeated : (e : Entry) (c : Control) (reply : List ℕ) → In e l → e.event ≡ Board (Turn c)
-      → kept (board_history l e.number) c.source c.cookie e.moment ≡ Some reply → IsRepeat config l e c reply
+      → kept_reply (board_history l e.number) c.source c.cookie e.moment ≡ Some reply → IsRepeat config l e c reply
   -- a valid offer fails only for a named shortage
   pub offers_answered : (e : Entry) (c : Control) (id : List ℕ) (ask : OfferAsk) → In e l → e.event ≡ Board (Turn c)
       → IsValidOffer config (board_history l e.number) c e.moment id ask → IsOfferReply config (board_history l e.number) c id ask
@@ -193,7 +193,7 @@ pub record Safe (config : Config) (l : List Entry) : Type 0 where
   pub clear : (e : Entry) (x : Relayed) (w : Sending) → In e l → e.event ≡ Cell (Relay x) → x.deed.sending ≡ Some w → x.deed.shield ≡ None → IsClear l e x
   -- the key that is in force on a leg is there, so that no packet is lost for lack of it
   pub keys_are_there : (e : Entry) (leg : Holder) (s : LegSignal) (number : ℕ) → In e l → In leg (legs (cell_before l e))
-      → in_force (cell_before l e) leg ≡ Some s → s.outbound ≡ Some number → HasKey (cell_before l e) leg number
+      → in_force (cell_before l e) leg ≡ Some s → s.outbound ≡ Some number → GotKey (cell_before l e) leg number
 
 -- Two relays of one receipt, with one result of the send, after one history of their cells since the last End, do the same,
 -- whatever else happens

@@ -2,7 +2,7 @@
 use Rattle.std.specs.Prelude.{ℕ, List, [], ◌∷◌, ◌++◌, map, Option, Some, None, Result, Ok, if◌then◌else◌}
 use Rattle.std.specs.List.{flat_map}
 use Rattle.relay_outside.specs.declared.settings.Config.{Config}
-use Rattle.ng_command.specs.Said.{Said, Query}
+use Rattle.ng_command.specs.Meanings.{Said, Query}
 use Rattle.ng_reply.specs.declared.code.ErrorCode.{ErrorCode}
 use Rattle.histories.specs.Words.{has}
 use Rattle.port_pool.specs.declared.holder.Holder.{Holder}
@@ -13,7 +13,7 @@ use Rattle.call_board.specs.Acts as act
 use Rattle.call_board.specs.Acts.{Call, Act, Control, BoardEvent, Turn, Tick, Stop, BoardEntry}
 use Rattle.call_board.specs.Calls.{live, find_call}
 use Rattle.call_board.specs.Pairs.{closed_of}
-use Rattle.call_board.specs.Asked.{asked}
+use Rattle.call_board.specs.Requests.{asked}
 use Rattle.relay_core.specs.Entries.{Event, Cell, Box, Entry, box_of}
 
 -- an event that is owed at a place
@@ -24,8 +24,8 @@ pub record Owed : Type 0 where
 abbrev pub owed_by : Entry → Owed
 owed_by e = record { place = e.place; event = e.event }
 
-abbrev pub opening : Config → Holder → Owed
-opening config leg = record { place = box_of config leg.pair; event = Box (Open leg) }
+abbrev pub open_owed : Config → Holder → Owed
+open_owed config leg = record { place = box_of config leg.pair; event = Box (Open leg) }
 
 abbrev pub closing : Config → Holder → Owed
 closing config leg = record { place = box_of config leg.pair; event = Box Close }
@@ -63,7 +63,7 @@ script_of_act config h e c act.OutOfMemory = reading_out_of_memory h c (asked co
 script_of_act config h e c (act.Failed code) = []
 script_of_act config h e c (act.Undone code leases draws) = []
 script_of_act config h e c (act.Offered o) =
-    map (opening config) o.legs ++ in_cell o.of (Prepare o.of.number o.legs o.keys o.dropped) ∷ closings config h e o.of
+    map (open_owed config) o.legs ++ in_cell o.of (Prepare o.of.number o.legs o.keys o.dropped) ∷ closings config h e o.of
 script_of_act config h e c (act.Answered a) = in_cell a.of (Commit a.signal) ∷ closings config h e a.of
 script_of_act config h e c (act.Deleted of) = ending config h e of
 script_of_act config h e c (act.Queried of) = reading (Some of) c.given.report

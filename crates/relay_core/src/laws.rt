@@ -3,10 +3,10 @@ ghost use Rattle.relay_outside.specs.declared.settings.Config.{Config};
 ghost use Rattle.turn_table.specs.declared.machine.Entry as table;
 ghost use Rattle.relay_core.specs.Entries.{Entry};
 ghost use Rattle.relay_core.specs.Legal.{Orderly, Legal};
-ghost use Rattle.relay_core.specs.Carried.{CarriesCalls};
+ghost use Rattle.relay_core.specs.WholeCalls.{CarriesCalls};
 ghost use Rattle.relay_core.specs.Safe.{BoardSafe, Safe, IsIsolated};
-ghost use Rattle.relay_core.specs.Made.{Made};
-ghost use Rattle.relay_core.specs.Joining.{IsLane, IsSound};
+ghost use Rattle.relay_core.specs.Records.{Made};
+ghost use Rattle.relay_core.specs.Joins.{IsLaneRows, IsSound};
 
 /// A legal list is safe, for every configuration and every list: every packet sent is the transform of one received packet,
 /// sent once, to the opposite side's endpoint in that moment's state of the call that held the receiving port at receipt; no
@@ -46,5 +46,5 @@ pub fn a_legal_list_exists()
 /// What is known of the main hand's list when the table is closed is known of it with the list of a lane's hand behind it, as
 /// `join_hand` leaves it: so it is known whichever lanes' hands were taken in, and in which order.
 pub fn joined_lists_are_sound()
-    ensures { (config : Config) (rows others : List (table.Entry Made (Unit {0}))) → IsSound config rows → IsLane config others → IsSound config (rows ++ others) }
+    ensures { (config : Config) (rows others : List (table.Entry Made (Unit {0}))) → IsSound config rows → IsLaneRows config others → IsSound config (rows ++ others) }
 {}

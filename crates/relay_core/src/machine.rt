@@ -15,7 +15,7 @@ pub struct Happening {
 impl Model for Happening {
     ghost use Rattle.std.specs.Prelude.{[]};
     ghost use Rattle.relay_core.specs.Entries.{Box};
-    ghost use Rattle.relay_core.specs.Made.{Made, nothing_left};
+    ghost use Rattle.relay_core.specs.Records.{Made, nothing_left};
     ghost use Rattle.port_pool.specs.Boxes.{Close};
     ghost use Rattle.std.specs.Coded.{codes};
     ghost use Rattle.relay_core.specs.Codes.{entries_code};
@@ -46,14 +46,14 @@ impl<I: InEnd, O: OutEnd> Machine for Relay<I, O> {
 
     type Outcome = ();
 
-    ghost relates = { λ old made outcome new. Relates I.told I.faults O.told O.faults old made new };
+    ghost relates = { λ old made outcome new. Relates I.log I.faults O.log O.faults old made new };
 
     ghost reserved = { IsReserved };
 }
 
 /// A step, which the proof of a call picks from the call's arguments.
 pub trait Says {
-    ghost use Rattle.relay_core.specs.Made.{Made};
+    ghost use Rattle.relay_core.specs.Records.{Made};
 
     ghost made: { Made };
 }
@@ -61,7 +61,7 @@ pub trait Says {
 impl Says for Brand {
     ghost use Rattle.std.specs.Prelude.{[]};
     ghost use Rattle.relay_core.specs.Entries.{Box};
-    ghost use Rattle.relay_core.specs.Made.{nothing_left};
+    ghost use Rattle.relay_core.specs.Records.{nothing_left};
     ghost use Rattle.port_pool.specs.Boxes.{Close};
 
     ghost made = { record { handed = 0; moment = 0; board = 0; returned = []; event = Box Close; left = nothing_left } };

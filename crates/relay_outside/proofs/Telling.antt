@@ -1,9 +1,9 @@
 -- what a list of calls gained over several calls
 use Rattle.std.proofs.Common.{◌∙◌, sym, ap, List, [], ◌∷◌, ◌++◌, Option, Some, None, append_assoc, append-nil}
-use Rattle.relay_outside.specs.Told.{Gains, Gained}
+use Rattle.relay_outside.specs.DeviceLogs.{Gains, Gained}
 
 -- no call
-pub gained_none : {C : Type 0} (told : Option (List C)) (P : List C → Type 0) → P [] → Gained told told P
+pub gained_none : {C : Type 0} (log : Option (List C)) (P : List C → Type 0) → P [] → Gained log log P
 gained_none None P here = tt
 gained_none (Some calls) P here = ([], sym (append-nil calls), here)
 

@@ -1,9 +1,9 @@
 -- What the timer in memory gives.
 use Rattle.std.specs.Prelude.{ℕ, Option, List, [], ◌∷◌}
 
--- a timer in memory: what it tells, and the moments that are left, of which the last one stays
+-- a timer in memory: its log, and the moments that are left, of which the last one stays
 pub record TimerTape : Type 0 where
-  pub told : Option (List ℕ)
+  pub log : Option (List ℕ)
   pub moments : List ℕ
 
 -- the moment of the next call

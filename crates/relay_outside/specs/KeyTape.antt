@@ -4,18 +4,18 @@ use Rattle.std.specs.Int.{to_le_bytes, w64}
 use Rattle.relay_outside.specs.declared.keys.KeyCall.{KeyCall}
 use Rattle.relay_outside.specs.Failures.{Failures, next_count, next_fails, after_call}
 
--- a key source in memory that numbers its draws: what it tells, and the number of its next draw
+-- a key source in memory that numbers its draws: its log, and the number of its next draw
 pub record KeyTape : Type 0 where
-  pub told : Option (List KeyCall)
+  pub log : Option (List KeyCall)
   pub number : ℕ
 
 -- the eight bytes of the number, lowest first, and 22 zero bytes
 abbrev pub numbered_key : ℕ → List ℕ
 numbered_key number = to_le_bytes w64 number ++ replicate 22 0
 
--- a key source in memory that has a list of keys: what it tells, the keys that are left, which draws fail
+-- a key source in memory that has a list of keys: its log, the keys that are left, which draws fail
 pub record KeyState : Type 0 where
-  pub told : Option (List KeyCall)
+  pub log : Option (List KeyCall)
   pub keys : List (List ℕ)
   pub failures : Failures
 

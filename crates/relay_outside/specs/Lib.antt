@@ -10,4 +10,4 @@ pub mod PortTape
 pub mod Ports
 pub mod Settings
 pub mod SinkTape
-pub mod Told
+pub mod DeviceLogs

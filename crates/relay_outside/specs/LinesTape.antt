@@ -5,14 +5,14 @@ use Rattle.relay_outside.specs.declared.answers.LineRead.TheVariants as read
 use Rattle.relay_outside.specs.declared.lines.LineCall.{LineCall}
 use Rattle.relay_outside.specs.Failures.{Failures}
 
--- a line source in memory: what it tells, and the lines that are left
+-- a line source in memory: its log, and the lines that are left
 pub record LinesTape : Type 0 where
-  pub told : Option (List LineCall)
+  pub log : Option (List LineCall)
   pub lines : List (List ℕ)
 
 -- a line source in memory whose reads may fail
 pub record LinesState : Type 0 where
-  pub told : Option (List LineCall)
+  pub log : Option (List LineCall)
   pub lines : List (List ℕ)
   pub failures : Failures
 

@@ -1,4 +1,4 @@
--- What the control links in memory tell and give.
+-- What the control links in memory log and give.
 use Rattle.std.specs.Prelude.{◌≡◌, ℕ, min, Option, Some, None, List, [], ◌∷◌, length, take}
 use Rattle.std.specs.List.{last_or}
 use Rattle.relay_outside.specs.declared.address.Addr.{Addr}
@@ -10,14 +10,14 @@ use Rattle.relay_outside.specs.declared.memory.link.LinkGift.TheVariants as gift
 use Rattle.relay_outside.specs.Failures.{Failures}
 use Rattle.relay_outside.specs.Link.{sent}
 
--- a link in memory: what it tells, and what its takes are still to give
+-- a link in memory: its log, and what its takes are still to give
 pub record LinkTape : Type 0 where
-  pub told : Option (List LinkCall)
+  pub log : Option (List LinkCall)
   pub gifts : List LinkGift
 
 -- a link in memory whose calls may fail
 pub record LinkState : Type 0 where
-  pub told : Option (List LinkCall)
+  pub log : Option (List LinkCall)
   pub gifts : List LinkGift
   pub failures : Failures
 

@@ -6,13 +6,13 @@ use Rattle.relay_outside.specs.declared.ports.OutCall.{OutCall}
 use Rattle.relay_outside.specs.declared.ports.PortCall.{PortCall}
 use Rattle.relay_outside.specs.declared.memory.ports.Packet.{Packet}
 use Rattle.relay_outside.specs.Failures.{Failures, uncalled}
-use Rattle.relay_outside.specs.Told.{EndTold, opened_for}
+use Rattle.relay_outside.specs.DeviceLogs.{EndLog, opened_for}
 use Rattle.relay_outside.specs.Ports.{same_addr}
 use Rattle.relay_outside.specs.declared.memory.ports.Packet.TheVariants as packet
 
--- an in end in memory: what it tells, and what its takes are still to give
+-- an in end in memory: its log, and what its takes are still to give
 pub record InTape : Type 0 where
-  pub told : EndTold InCall
+  pub log : EndLog InCall
   pub packets : List Packet
 
 -- a take gives the front of the list, a datagram cut at the room of the buffer; after the list, nothing
@@ -23,9 +23,9 @@ GivesPacket (packet.Datagram from bytes ∷ packets) left answer buf =
     let len = min (length bytes) (length buf) in
     (answer ≡ Some (from, len)) × (take len buf ≡ take len bytes) × (left ≡ packets)
 
--- a port maker in memory: what it tells, and what the takes at each address are still to give
+-- a port maker in memory: its log, and what the takes at each address are still to give
 pub record MakerTape : Type 0 where
-  pub told : Option (List PortCall)
+  pub log : Option (List PortCall)
   pub arrivals : List (Addr × List Packet)
 
 -- an end gets the packets of the first entry for its address, which is left without any
@@ -49,13 +49,13 @@ GoesBack old at (packet ∷ packets) new =
 
 -- an in end in memory whose takes may fail
 pub record InState : Type 0 where
-  pub told : EndTold InCall
+  pub log : EndLog InCall
   pub packets : List Packet
   pub failures : Failures
 
 -- an out end in memory whose sends may fail
 pub record OutState : Type 0 where
-  pub told : EndTold OutCall
+  pub log : EndLog OutCall
   pub failures : Failures
 
 -- what the ends at one address are to give, and the numbers of their takes and sends that fail
@@ -65,9 +65,9 @@ pub record PortState : Type 0 where
   pub takes : List ℕ
   pub sends : List ℕ
 
--- a port maker in memory whose openings may fail: what it tells, what it has for the ends at each address
+-- a port maker in memory whose openings may fail: its log, what it has for the ends at each address
 pub record MakerState : Type 0 where
-  pub told : Option (List PortCall)
+  pub log : Option (List PortCall)
   pub ports : List PortState
   pub failures : Failures
 
@@ -75,18 +75,18 @@ pub record MakerState : Type 0 where
 abbrev pub nothing_at : Addr → PortState
 nothing_at at = record { at = at; packets = []; takes = []; sends = [] }
 
--- the in end for an address that gets what an entry holds: it tells, it was not called, and it counts from its opening
+-- the in end for an address that gets what an entry holds: it keeps a log, it was not called, and it counts from its opening
 abbrev pub in_from : Addr → PortState → InState
-in_from at port = record { told = opened_for at; packets = port.packets; failures = uncalled port.takes }
+in_from at port = record { log = opened_for at; packets = port.packets; failures = uncalled port.takes }
 
 -- the out end that gets what an entry holds, in the same way
 abbrev pub out_from : Addr → PortState → OutState
-out_from at port = record { told = opened_for at; failures = uncalled port.sends }
+out_from at port = record { log = opened_for at; failures = uncalled port.sends }
 
 -- an entry that gets back what its ends are left with: the packets that were not given, and the numbers of
 -- their failing calls, which count from the next opening on
-abbrev pub returned : Addr → InState → OutState → PortState
-returned at receiving sending = record {
+abbrev pub given_back : Addr → InState → OutState → PortState
+given_back at receiving sending = record {
   at = at;
   packets = receiving.packets;
   takes = receiving.failures.numbers;
@@ -109,4 +109,4 @@ MovesBack old at receiving sending new =
     (new ≡ old)
     (λ place.
     let port = slice_index_or old place (nothing_at at) in
-    new ≡ slice_set old place (returned port.at receiving sending))
+    new ≡ slice_set old place (given_back port.at receiving sending))

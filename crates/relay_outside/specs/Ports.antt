@@ -36,7 +36,7 @@ pub record IsOpen (calls : List PortCall) (at : Addr) : Type 0 where
   pub opened : calls ≡ before ++ port.Open at true ∷ after
   pub kept : All (ClosesNot at) after
 
--- two lists joined, where both are told
+-- two logs joined, where both are kept
 abbrev pub joined : {C : Type 0} → Option (List C) → Option (List C) → Option (List C)
 joined (Some front) (Some back) = Some (front ++ back)
 joined (Some front) None = None
@@ -53,13 +53,13 @@ same_ip (ip.V6 a) (ip.V6 b) = pointwise nat_eq a b
 abbrev pub same_addr : Addr → Addr → Bool
 same_addr a b = same_ip a.ip b.ip && (a.port == b.port)
 
--- for an address, what its in ends told that were given back, joined in the order of their closing
+-- for an address, the logs of its in ends that were given back, joined in the order of their closing
 abbrev pub taken_at : List PortCall → Addr → Option (List InCall)
 taken_at [] at = Some []
 taken_at (port.Open there done ∷ rest) at = taken_at rest at
 taken_at (port.Close there taken sent ∷ rest) at = if same_addr there at then joined taken (taken_at rest at) else taken_at rest at
 
--- for an address, what its out ends told that were given back, joined in the order of their closing
+-- for an address, the logs of its out ends that were given back, joined in the order of their closing
 abbrev pub sent_at : List PortCall → Addr → Option (List OutCall)
 sent_at [] at = Some []
 sent_at (port.Open there done ∷ rest) at = sent_at rest at

@@ -1,5 +1,5 @@
 ghost use Rattle.std.specs.Prelude.{◌≡◌, ℕ, Option, Some, None, List, [], ◌∷◌, ◌++◌, MatchOption, IsSome, IsTrue, ◌↔◌};
-ghost use Rattle.relay_outside.specs.Told.{where_told, Gains};
+ghost use Rattle.relay_outside.specs.DeviceLogs.{where_logged, Gains};
 
 use std::alloc::Global;
 use std::marker::Model;
@@ -38,9 +38,9 @@ impl Copied {
     }
 }
 
-/// The list of a device's calls, which ends to be told where its growth is refused.
+/// The log of a device, which ends where its growth is refused.
 ///
-/// Contracts see `Some` list while the device tells it, and `None` from the first call on that could not
+/// Contracts see `Some` list while the device keeps it, and `None` from the first call on that could not
 /// be kept: the call was made all the same.
 #[derive(Drop)]
 pub struct CallList<C> {
@@ -50,11 +50,11 @@ pub struct CallList<C> {
 
 impl<C> Model for CallList<C> {
     ghost use Rattle.std.specs.Prelude.{List, Option};
-    ghost use Rattle.relay_outside.specs.Told.{where_told};
+    ghost use Rattle.relay_outside.specs.DeviceLogs.{where_logged};
 
     ghost Value = { Option (List C) };
 
-    ghost view = { λ list. where_told list.telling list.calls.items };
+    ghost view = { λ list. where_logged list.telling list.calls.items };
 }
 
 impl<C: Drop> CallList<C> {
@@ -82,14 +82,14 @@ impl<C: Drop> CallList<C> {
         }
     }
 
-    /// Whether the list is still told.
+    /// Whether the log is still kept.
     pub fn tells(&self) -> bool
         ensures { IsTrue result ↔ IsSome self.now }
     {
         self.telling
     }
 
-    /// The calls in their order, where they are told.
+    /// The calls in their order, where they are logged.
     pub fn get(&self) -> Option<&[C]>
         ensures { MatchOption result (self.now ≡ None) (λ calls. self.now ≡ Some calls.now) }
     {

@@ -1,22 +1,22 @@
 /// The moments of the control loop, in milliseconds.
 pub trait Timer {
     ghost use Rattle.std.specs.Prelude.{ℕ, Option, List};
-    ghost use Rattle.relay_outside.specs.Told.{Gains};
+    ghost use Rattle.relay_outside.specs.DeviceLogs.{Gains};
 
-    /// The moments that were returned since the timer was made, where it tells them.
-    ghost told: { Self → Option (List ℕ) };
+    /// The moments that were returned since the timer was made, where it logs them.
+    ghost log: { Self → Option (List ℕ) };
 
     /// The moment of this call.
     fn now(&mut self) -> u64
-        ensures { Gains (told self.old) (told self.new) result };
+        ensures { Gains (log self.old) (log self.new) result };
 }
 
 /// The moment that the lanes of media share, in milliseconds.
 pub trait Clock {
     ghost use Rattle.std.specs.Prelude.{ℕ, ◌≤◌, Option};
-    ghost use Rattle.relay_outside.specs.Told.{WhereInRange};
+    ghost use Rattle.relay_outside.specs.DeviceLogs.{WhereInRange};
 
-    /// The least and the greatest moment of this clock, where it tells them.
+    /// The least and the greatest moment of this clock, where it logs them.
     ghost range: { Self → Option (ℕ × ℕ) };
 
     /// A moment in the clock's range.

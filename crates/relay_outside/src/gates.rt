@@ -1,4 +1,4 @@
-/// What a test may watch or hold while a cell's turn is held; it tells no list of its calls.
+/// What a test may watch or hold while a cell's turn is held; it keeps no log.
 pub trait Gate {
     ghost use Rattle.std.specs.Prelude.{ℕ};
 

@@ -18,18 +18,18 @@ pub enum KeyCall {
 /// The source of master keys and salts.
 pub trait KeySource {
     ghost use Rattle.std.specs.Prelude.{ℕ, Option, List};
-    ghost use Rattle.relay_outside.specs.Told.{Gains, HasCause};
+    ghost use Rattle.relay_outside.specs.DeviceLogs.{Gains, HasCause};
     ghost use Rattle.relay_outside.specs.Keys.{drawn_as};
     ghost use Rattle.relay_outside.specs.declared.keys.KeyCall.{KeyCall};
 
-    /// The draws since the source was made, where it tells them.
-    ghost told: { Self → Option (List KeyCall) };
+    /// The draws since the source was made, where it logs them.
+    ghost log: { Self → Option (List KeyCall) };
 
     /// The count of faults.
     ghost faults: { Self → ℕ };
 
     /// Draws a master key and its salt.
     fn draw(&mut self) -> Result<KeyAndSalt, Failed>
-        ensures told { Gains (told self.old) (told self.new) (drawn_as result) }
+        ensures log { Gains (log self.old) (log self.new) (drawn_as result) }
         ensures cause { HasCause (faults self.old) (faults self.new) result };
 }

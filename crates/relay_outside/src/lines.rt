@@ -45,13 +45,13 @@ pub enum WriteCall {
 /// outside it, or a comment.
 pub trait LineSource {
     ghost use Rattle.std.specs.Prelude.{ℕ, Option, List, length};
-    ghost use Rattle.relay_outside.specs.Told.{Gains, HasCause};
+    ghost use Rattle.relay_outside.specs.DeviceLogs.{Gains, HasCause};
     ghost use Rattle.relay_outside.specs.Lines.{FitsLine, line_given};
     ghost use Rattle.relay_outside.specs.declared.lines.LineCall.{LineCall};
     ghost use Rattle.relay_outside.specs.declared.lines.LineCall.TheVariants.{Line};
 
-    /// The calls since the source was made, where it tells them.
-    ghost told: { Self → Option (List LineCall) };
+    /// The calls since the source was made, where it logs them.
+    ghost log: { Self → Option (List LineCall) };
 
     /// The count of faults.
     ghost faults: { Self → ℕ };
@@ -60,25 +60,25 @@ pub trait LineSource {
     /// buffer, the line is at least so long.
     fn line(&mut self, buf: &mut [u8]) -> Result<LineRead, Failed>
         ensures within { FitsLine result (length buf.old) }
-        ensures told { Gains (told self.old) (told self.new) (Line (length buf.old) (line_given result buf.new)) }
+        ensures log { Gains (log self.old) (log self.new) (Line (length buf.old) (line_given result buf.new)) }
         ensures cause { HasCause (faults self.old) (faults self.new) result };
 }
 
 /// Where the printed lines go.
 pub trait LineSink {
     ghost use Rattle.std.specs.Prelude.{ℕ, Option, List};
-    ghost use Rattle.relay_outside.specs.Told.{Gains, HasCause, is_done};
+    ghost use Rattle.relay_outside.specs.DeviceLogs.{Gains, HasCause, is_done};
     ghost use Rattle.relay_outside.specs.declared.lines.WriteCall.{WriteCall};
     ghost use Rattle.relay_outside.specs.declared.lines.WriteCall.TheVariants.{Write};
 
-    /// The calls since the sink was made, where it tells them.
-    ghost told: { Self → Option (List WriteCall) };
+    /// The calls since the sink was made, where it logs them.
+    ghost log: { Self → Option (List WriteCall) };
 
     /// The count of faults.
     ghost faults: { Self → ℕ };
 
     /// Writes one line. Its callers give it lines that end in their line feed; it isn't promised that.
     fn write(&mut self, line: &[u8]) -> Result<(), Failed>
-        ensures told { Gains (told self.old) (told self.new) (Write line.now (is_done result)) }
+        ensures log { Gains (log self.old) (log self.new) (Write line.now (is_done result)) }
         ensures cause { HasCause (faults self.old) (faults self.new) result };
 }

@@ -1,5 +1,5 @@
 ghost use Rattle.std.specs.Prelude.{◌≡◌, ℕ, ◌<◌, Option, List, length};
-ghost use Rattle.relay_outside.specs.Told.{Gains, HasCause, is_done};
+ghost use Rattle.relay_outside.specs.DeviceLogs.{Gains, HasCause, is_done};
 
 use crate::address::Addr;
 use crate::answers::{Failed, Taken};
@@ -54,20 +54,20 @@ pub enum LinkCall {
 /// The socket of the ng control protocol: it takes commands and sends replies.
 pub trait ControlLink {
     ghost use Rattle.std.specs.Prelude.{◌≡◌, ℕ, ◌<◌, Option, List, length};
-    ghost use Rattle.relay_outside.specs.Told.{Gains, HasCause, is_done};
+    ghost use Rattle.relay_outside.specs.DeviceLogs.{Gains, HasCause, is_done};
     ghost use Rattle.relay_outside.specs.Link.{FitsRoom, link_given};
     ghost use Rattle.relay_outside.specs.declared.link.LinkCall.{LinkCall};
     ghost use Rattle.relay_outside.specs.declared.link.LinkCall.TheVariants.{Bind, Take, Send};
 
-    /// The calls since the link was made, where it tells them.
-    ghost told: { Self → Option (List LinkCall) };
+    /// The calls since the link was made, where it logs them.
+    ghost log: { Self → Option (List LinkCall) };
 
     /// The count of faults.
     ghost faults: { Self → ℕ };
 
     /// Binds the link to this local address.
     fn bind(&mut self, at: Addr) -> Result<(), Failed>
-        ensures told { Gains (told self.old) (told self.new) (Bind at (is_done result)) }
+        ensures log { Gains (log self.old) (log self.new) (Bind at (is_done result)) }
         ensures cause { HasCause (faults self.old) (faults self.new) result };
 
     /// Takes one datagram into the front of the buffer, cut at the buffer's length.
@@ -77,11 +77,11 @@ pub trait ControlLink {
     fn take(&mut self, buf: &mut [u8]) -> Result<Taken, Failed>
         requires { 0 < length buf.old }
         ensures within { FitsRoom result (length buf.old) }
-        ensures told { Gains (told self.old) (told self.new) (Take (length buf.old) (link_given result buf.new)) }
+        ensures log { Gains (log self.old) (log self.new) (Take (length buf.old) (link_given result buf.new)) }
         ensures cause { HasCause (faults self.old) (faults self.new) result };
 
     /// Sends one datagram.
     fn send(&mut self, to: Addr, bytes: &[u8]) -> Result<(), Failed>
-        ensures told { Gains (told self.old) (told self.new) (Send to bytes.now (is_done result)) }
+        ensures log { Gains (log self.old) (log self.new) (Send to bytes.now (is_done result)) }
         ensures cause { HasCause (faults self.old) (faults self.new) result };
 }

@@ -47,13 +47,13 @@ pub enum OutCall {
 /// The receiving end of an open port.
 pub trait InEnd {
     ghost use Rattle.std.specs.Prelude.{ℕ, ◌<◌, length};
-    ghost use Rattle.relay_outside.specs.Told.{EndTold, EndGains, HasCause};
+    ghost use Rattle.relay_outside.specs.DeviceLogs.{EndLog, EndGains, HasCause};
     ghost use Rattle.relay_outside.specs.Ports.{FitsTake, in_given};
     ghost use Rattle.relay_outside.specs.declared.ports.InCall.{InCall};
     ghost use Rattle.relay_outside.specs.declared.ports.InCall.TheVariants.{Take};
 
-    /// The address that the end was opened for, and its calls since then, where it tells them.
-    ghost told: { Self → EndTold InCall };
+    /// The address that the end was opened for, and its calls since then, where it logs them.
+    ghost log: { Self → EndLog InCall };
 
     /// The count of faults.
     ghost faults: { Self → ℕ };
@@ -65,26 +65,26 @@ pub trait InEnd {
     fn take(&mut self, buf: &mut [u8]) -> Result<Option<(Addr, usize)>, Failed>
         requires { 0 < length buf.old }
         ensures within { FitsTake result (length buf.old) }
-        ensures told { EndGains (told self.old) (told self.new) (Take (length buf.old) (in_given result buf.new)) }
+        ensures log { EndGains (log self.old) (log self.new) (Take (length buf.old) (in_given result buf.new)) }
         ensures cause { HasCause (faults self.old) (faults self.new) result };
 }
 
 /// The sending end of an open port.
 pub trait OutEnd {
     ghost use Rattle.std.specs.Prelude.{ℕ};
-    ghost use Rattle.relay_outside.specs.Told.{EndTold, EndGains, HasCause, is_done};
+    ghost use Rattle.relay_outside.specs.DeviceLogs.{EndLog, EndGains, HasCause, is_done};
     ghost use Rattle.relay_outside.specs.declared.ports.OutCall.{OutCall};
     ghost use Rattle.relay_outside.specs.declared.ports.OutCall.TheVariants.{Send};
 
-    /// The address that the end was opened for, and its calls since then, where it tells them.
-    ghost told: { Self → EndTold OutCall };
+    /// The address that the end was opened for, and its calls since then, where it logs them.
+    ghost log: { Self → EndLog OutCall };
 
     /// The count of faults.
     ghost faults: { Self → ℕ };
 
     /// Sends one datagram from the port.
     fn send(&mut self, to: Addr, bytes: &[u8]) -> Result<(), Failed>
-        ensures told { EndGains (told self.old) (told self.new) (Send to bytes.now (is_done result)) }
+        ensures log { EndGains (log self.old) (log self.new) (Send to bytes.now (is_done result)) }
         ensures cause { HasCause (faults self.old) (faults self.new) result };
 }
 
@@ -99,13 +99,13 @@ pub enum PortCall {
         done: bool,
     },
     /// A port was closed and its ends were given back.
-    /// It carries what both ends told, so the joined lists of an address need no store of their own.
+    /// It carries the logs of both ends, so the joined lists of an address need no store of their own.
     Close {
         /// Its local address.
         at: Addr,
-        /// What its in end told.
+        /// The log of its in end.
         taken: CallList<InCall>,
-        /// What its out end told.
+        /// The log of its out end.
         sent: CallList<OutCall>,
     },
 }
@@ -113,7 +113,7 @@ pub enum PortCall {
 /// What opens and closes the ports of media.
 pub trait PortMaker {
     ghost use Rattle.std.specs.Prelude.{◌≡◌, ℕ, ◌≤◌, Option, List, IfOk};
-    ghost use Rattle.relay_outside.specs.Told.{Gains, HasCause, IsOpenedFor, WhereTold, is_done};
+    ghost use Rattle.relay_outside.specs.DeviceLogs.{Gains, HasCause, IsOpenedFor, WhereLogged, is_done};
     ghost use Rattle.relay_outside.specs.Ports.{IsOpen};
     ghost use Rattle.relay_outside.specs.declared.ports.PortCall.{PortCall};
     ghost use Rattle.relay_outside.specs.declared.ports.PortCall.TheVariants.{Open, Close};
@@ -124,27 +124,27 @@ pub trait PortMaker {
     /// The sending end of a port.
     type Out: OutEnd;
 
-    /// The calls since the maker was made, where it tells them. They say which addresses are open, and
+    /// The calls since the maker was made, where it logs them. They say which addresses are open, and
     /// for each address what the ends that were given back took and sent.
-    ghost told: { Self → Option (List PortCall) };
+    ghost log: { Self → Option (List PortCall) };
 
     /// The count of faults.
     ghost faults: { Self → ℕ };
 
     /// Opens an address that isn't open. Its ends are opened for it, and have not been called.
     fn open(&mut self, at: Addr) -> Result<(Self::In, Self::Out), Failed>
-        requires { WhereTold (told self.old) (λ calls. IsOpen calls at → ⊥) }
-        ensures told { Gains (told self.old) (told self.new) (Open at (is_done result)) }
-        ensures receiving { IfOk result (λ ends. IsOpenedFor at (Self.In.told ends.0)) }
-        ensures sending { IfOk result (λ ends. IsOpenedFor at (Self.Out.told ends.1)) }
+        requires { WhereLogged (log self.old) (λ calls. IsOpen calls at → ⊥) }
+        ensures log { Gains (log self.old) (log self.new) (Open at (is_done result)) }
+        ensures receiving { IfOk result (λ ends. IsOpenedFor at (Self.In.log ends.0)) }
+        ensures sending { IfOk result (λ ends. IsOpenedFor at (Self.Out.log ends.1)) }
         ensures cause { HasCause (faults self.old) (faults self.new) result };
 
     /// Closes an open address and takes its ends back: those that were opened for it. It can't fail.
     /// Ends that were never called, as after an offer that was undone, add nothing to the joined lists
     /// of the address.
     fn close(&mut self, at: Addr, receiving: Self::In, sending: Self::Out)
-        requires open { WhereTold (told self.old) (λ calls. IsOpen calls at) }
-        requires ends { ((Self.In.told receiving).at ≡ at) × ((Self.Out.told sending).at ≡ at) }
-        ensures told { Gains (told self.old) (told self.new) (Close at (Self.In.told receiving).calls (Self.Out.told sending).calls) }
+        requires open { WhereLogged (log self.old) (λ calls. IsOpen calls at) }
+        requires ends { ((Self.In.log receiving).at ≡ at) × ((Self.Out.log sending).at ≡ at) }
+        ensures log { Gains (log self.old) (log self.new) (Close at (Self.In.log receiving).calls (Self.Out.log sending).calls) }
         ensures later { faults self.old ≤ faults self.new };
 }

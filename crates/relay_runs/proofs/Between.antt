@@ -4,7 +4,7 @@ use Rattle.std.proofs.lemmas.List.{map-append}
 use Rattle.std.proofs.lemmas.Option.{slice_get_within}
 use Rattle.std.specs.Prelude.{◌&&◌, ◌==◌, Result, Ok, Err}
 use Rattle.relay_outside.specs.declared.settings.Config.{Config}
-use Rattle.ng_command.specs.Said.{Said, Ping, Offer, Answer, Delete, Query, Listing}
+use Rattle.ng_command.specs.Meanings.{Said, Ping, Offer, Answer, Delete, Query, Listing}
 use Rattle.ng_reply.specs.declared.code.ErrorCode.{ErrorCode}
 use Rattle.turn_table.specs.declared.view.View.{View}
 use Rattle.turn_table.specs.Histories.{times, one_if}
@@ -20,19 +20,19 @@ use Rattle.call_board.specs.Acts as act
 use Rattle.call_board.specs.Acts.{Call, Act, Control, BoardEvent, Turn, Tick, Stop, BoardEntry}
 use Rattle.call_board.specs.Calls.{live, find_call}
 use Rattle.call_board.specs.Pairs.{closed_of}
-use Rattle.call_board.specs.Asked.{asked}
+use Rattle.call_board.specs.Requests.{asked}
 use Rattle.relay_core.specs.Entries.{Event, Board, Cell, Box, Entry, is_nested, is_at, board_history}
 use Rattle.relay_core.specs.Legal.{Orderly}
-use Rattle.relay_core.specs.Made.{Made, entry_of, list_of, told, told_event, told_relay}
-use Rattle.relay_core.specs.Scripts.{Owed, owed_by, opening, closing, in_cell, closings, ending, expiring, reading, reading_out_of_memory, script_of_act, script_of, script}
-use Rattle.relay_core.specs.Turning.{Numbered}
+use Rattle.relay_core.specs.Records.{Made, entry_of, list_of, as_logged, logged_event, logged_relay}
+use Rattle.relay_core.specs.Scripts.{Owed, owed_by, open_owed, closing, in_cell, closings, ending, expiring, reading, reading_out_of_memory, script_of_act, script_of, script}
+use Rattle.relay_core.specs.Turns.{Numbered}
 use Rattle.relay_core.proofs.Closed.{in_range}
 use Rattle.relay_core.proofs.Joins.{not_in_both}
 use Rattle.relay_core.proofs.Own.{in_rows, rows_in}
 use Rattle.media_lane.specs.Visits.{Row}
-use Rattle.board_turns.specs.Stopping.{stop_entry}
+use Rattle.board_turns.specs.Stops.{stop_entry}
 use Rattle.relay_runs.specs.Loads.{AreBetween}
-use Rattle.relay_runs.specs.Rounds.{Round, with_heard, tick_of, history_after, entry_due, IsBoardTurn, MakesEntry, AreRounds}
+use Rattle.relay_runs.specs.Rounds.{ControlRound, with_request, tick_of, history_after, entry_due, IsBoardTurn, MakesEntry, AreControlRounds}
 use Rattle.relay_runs.specs.Threads.{CountsUp}
 use Rattle.relay_runs.proofs.Gates.{nested_no_relay, board_no_relay}
 use Rattle.relay_runs.proofs.Orders.{AreOfLane, lanes_no_nested, board_not_nested}
@@ -63,9 +63,9 @@ in_spent h c (Ok (Listing limit)) w i = elim i [ ]
 in_spent h c (Err code) w i = elim i [ ]
 
 module _ (config : Config) (h : List BoardEntry) (e : BoardEntry) where
-  in_offer : (o : act.Offer) (w : Owed) → In w (map (opening config) o.legs) ⊎ In w (in_cell o.of (Prepare o.of.number o.legs o.keys o.dropped) ∷ closings config h e o.of)
+  in_offer : (o : act.Offer) (w : Owed) → In w (map (open_owed config) o.legs) ⊎ In w (in_cell o.of (Prepare o.of.number o.legs o.keys o.dropped) ∷ closings config h e o.of)
       → is_nested w.event ≡ true
-  in_offer o w (inl i) = (let m = mapped (opening config) o.legs i in subst (λ (v : Owed). is_nested v.event ≡ true) m.makes refl)
+  in_offer o w (inl i) = (let m = mapped (open_owed config) o.legs i in subst (λ (v : Owed). is_nested v.event ≡ true) m.makes refl)
   in_offer o w (inr (here p)) = ap (λ (v : Owed). is_nested v.event) p
   in_offer o w (inr (there j)) = in_closings config h e o.of w j
 
@@ -75,7 +75,7 @@ module _ (config : Config) (h : List BoardEntry) (e : BoardEntry) where
   in_act c (act.Failed code) w i = elim i [ ]
   in_act c (act.Undone code leases draws) w i = elim i [ ]
   in_act c (act.Offered o) w i =
-      in_offer o w (in_append (map (opening config) o.legs) (in_cell o.of (Prepare o.of.number o.legs o.keys o.dropped) ∷ closings config h e o.of) i)
+      in_offer o w (in_append (map (open_owed config) o.legs) (in_cell o.of (Prepare o.of.number o.legs o.keys o.dropped) ∷ closings config h e o.of) i)
   in_act c (act.Answered a) w (here p) = ap (λ (v : Owed). is_nested v.event) p
   in_act c (act.Answered a) w (there j) = in_closings config h e a.of w j
   in_act c (act.Deleted of) w i = in_ending config h e of w i
@@ -155,7 +155,7 @@ module _ (config : Config) where
   entry_none before (Some e) rows turn = turn_none before e rows turn
 
   -- where threads relay media, the main hand relays nothing
-  rounds_none : (more : ℕ) (range : Option (ℕ × ℕ)) (rounds : List Round) (rows : List Row) → AreRounds config (suc more) range rounds rows → RelaysNone rows
+  rounds_none : (more : ℕ) (range : Option (ℕ × ℕ)) (rounds : List ControlRound) (rows : List Row) → AreControlRounds config (suc more) range rounds rows → RelaysNone rows
   rounds_none more range [] rows none = nothing_none rows none
   rounds_none more range (r ∷ rounds) rows are =
       let before = are.0 in
@@ -168,9 +168,9 @@ module _ (config : Config) where
       (none_both (before ++ turn) sweep
       (none_both before turn (rounds_none more range rounds before are.8) (entry_none before (entry_due config h r.handed r.heard) turn are.9))
       (nothing_none sweep are.10))
-      (entry_none ((before ++ turn) ++ sweep) (tick_of (with_heard config h r) r) tick are.11))
+      (entry_none ((before ++ turn) ++ sweep) (tick_of (with_request config h r) r) tick are.11))
 
-  main_none : (threads : ℕ) (range : Option (ℕ × ℕ)) (rounds : List Round) (rows : List Row) → 0 < threads → AreRounds config threads range rounds rows → RelaysNone rows
+  main_none : (threads : ℕ) (range : Option (ℕ × ℕ)) (rounds : List ControlRound) (rows : List Row) → 0 < threads → AreControlRounds config threads range rounds rows → RelaysNone rows
   main_none zero range rounds rows some are = absurd (omega (arith, some))
   main_none (suc more) range rounds rows some are = rounds_none more range rounds rows are
 
@@ -209,7 +209,7 @@ module _ {S : Type 0} (v : View S Made (Unit {0})) (known : AreKnown v) where
 
 -- Relays between turns of the board.
 
-told_nested : (v : Event) → is_nested (told_event v) ≡ is_nested v
+told_nested : (v : Event) → is_nested (logged_event v) ≡ is_nested v
 told_nested (Board b) = refl
 told_nested (Cell (Prepare call legs keys dropped)) = refl
 told_nested (Cell (Commit signal)) = refl
@@ -229,8 +229,8 @@ data Stands (main beside nested : List Entry) (b e : Entry) : Type 0 where
 pub low_or : (a b : ℕ) → (a < b) ⊎ (b ≤ a)
 low_or a b = grind arith
 
-module _ (config : Config) (threads : ℕ) (range : Option (ℕ × ℕ)) (some : 0 < threads) (rounds : List Round) (h : List BoardEntry) (main beside stop : List Row)
-    (are : AreRounds config threads range rounds main) (orderly : Orderly config (list_of main)) (counted : CountsUp (list_of main)) (lanes : AreOfLane beside)
+module _ (config : Config) (threads : ℕ) (range : Option (ℕ × ℕ)) (some : 0 < threads) (rounds : List ControlRound) (h : List BoardEntry) (main beside stop : List Row)
+    (are : AreControlRounds config threads range rounds main) (orderly : Orderly config (list_of main)) (counted : CountsUp (list_of main)) (lanes : AreOfLane beside)
     (numbered : Numbered (list_of (main ++ beside))) (t : IsBoardTurn config (main ++ beside) (stop_entry h) stop) where
   abbrev number : ℕ
   number = t.last.number
@@ -324,18 +324,18 @@ module _ (config : Config) (threads : ℕ) (range : Option (ℕ × ℕ)) (some :
       absurd (let k : false ≡ true = sym (last_not_nested config (main ++ beside) (stop_entry h) stop t) ∙ sym (ap (λ (y : Entry). is_nested y.event) is) ∙ ap (λ (v : Event). is_nested v) q in cc)
 
   -- what is recorded of the whole list is these rows
-  module _ (l : List Entry) (told_is : map told l ≡ list_of ((main ++ beside) ++ stop)) where
-    part_in : (e : Entry) → In e l → Part (told e)
-    part_in e i = part_of (told e) (subst (λ (xs : List Entry). In (told e) xs) told_is (maps told l i))
+  module _ (l : List Entry) (told_is : map as_logged l ≡ list_of ((main ++ beside) ++ stop)) where
+    part_in : (e : Entry) → In e l → Part (as_logged e)
+    part_in e i = part_of (as_logged e) (subst (λ (xs : List Entry). In (as_logged e) xs) told_is (maps as_logged l i))
 
-    relay_in : (e : Entry) (x : Relayed) → In e l → e.event ≡ Cell (Relay x) → In (told e) (list_of beside)
-    relay_in e x i q = relay_of (told e) (told_relay x.packet x.deed.outcome) (ap (λ (v : Event). told_event v) q) (part_in e i)
+    relay_in : (e : Entry) (x : Relayed) → In e l → e.event ≡ Cell (Relay x) → In (as_logged e) (list_of beside)
+    relay_in e x i q = relay_of (as_logged e) (logged_relay x.packet x.deed.outcome) (ap (λ (v : Event). logged_event v) q) (part_in e i)
 
     pub relays_between : AreBetween l number
     relays_between = record {
       after_commits = λ e f x signal i j q r p.
-          after_case (told e) (told f) (relay_in e x i q) (told_nested f.event ∙ ap (λ (v : Event). is_nested v) r) p
-          (commit_case (told f) signal (ap (λ (v : Event). told_event v) r) (part_in f j)) (part_in f j);
-      after_turns = λ e f x i j q nested p low. after_case (told e) (told f) (relay_in e x i q) (told_nested f.event ∙ nested) p low (part_in f j);
-      before_stop = λ e f x i j q nested p is. before_case (told e) (told f) (relay_in e x i q) (told_nested f.event ∙ nested) p is (part_in f j);
+          after_case (as_logged e) (as_logged f) (relay_in e x i q) (told_nested f.event ∙ ap (λ (v : Event). is_nested v) r) p
+          (commit_case (as_logged f) signal (ap (λ (v : Event). logged_event v) r) (part_in f j)) (part_in f j);
+      after_turns = λ e f x i j q nested p low. after_case (as_logged e) (as_logged f) (relay_in e x i q) (told_nested f.event ∙ nested) p low (part_in f j);
+      before_stop = λ e f x i j q nested p is. before_case (as_logged e) (as_logged f) (relay_in e x i q) (told_nested f.event ∙ nested) p is (part_in f j);
     }

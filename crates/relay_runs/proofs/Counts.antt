@@ -12,20 +12,20 @@ use Rattle.relay_outside.specs.declared.link.LinkCall.TheVariants as call
 use Rattle.relay_outside.specs.declared.settings.Config.{Config}
 use Rattle.relay_outside.specs.Link.{datagram_of, sent_of, datagrams, sent}
 use Rattle.call_board.specs.Acts.{BoardEntry}
-use Rattle.board_turns.specs.Controls.{Hearing}
-use Rattle.ng_server.specs.Taking.{turn_after, is_answered, is_too_long, DidReply, DidFollow, DidTurn}
-use Rattle.ng_server.specs.declared.taking.ControlTurn.{ControlTurn}
-use Rattle.ng_server.specs.declared.taking.ControlTurn.TheVariants as turn
+use Rattle.board_turns.specs.Controls.{RequestRecord}
+use Rattle.ng_server.specs.ControlTurns.{turn_after, is_answered, is_too_long, DidReply, DidFollow, DidTurn}
+use Rattle.ng_server.specs.declared.control_turn.ControlTurn.{ControlTurn}
+use Rattle.ng_server.specs.declared.control_turn.ControlTurn.TheVariants as turn
 use Rattle.relay_runs.specs.declared.status.Status.{Status}
 use Rattle.relay_runs.specs.declared.status.Status.TheVariants as status
 use Rattle.relay_runs.specs.declared.totals.Counts.{Counts}
-use Rattle.relay_runs.specs.Rounds.{Round, status_after, history_after}
-use Rattle.relay_runs.specs.Served.{counts_of, turn_counts, sum_of, counts_in, is_turn, Counted, AreExchanges, last_take, HasEnded}
+use Rattle.relay_runs.specs.Rounds.{ControlRound, status_after, history_after}
+use Rattle.relay_runs.specs.ServeRuns.{counts_of, turn_counts, sum_of_counts, counts_in, is_turn, Counted, AreExchanges, last_take, HasEnded}
 
 count_append : (p : LinkCall → Bool) (xs ys : List LinkCall) → count_by p (xs ++ ys) ≡ count_by p xs + count_by p ys
 count_append p xs ys = sum_by-append (λ x. cond (p x) 1 0) xs ys
 
-both_counted : (xs ys : List LinkCall) (m n : Counts) → Counted m xs → Counted n ys → Counted (sum_of m n) (xs ++ ys)
+both_counted : (xs ys : List LinkCall) (m n : Counts) → Counted m xs → Counted n ys → Counted (sum_of_counts m n) (xs ++ ys)
 both_counted xs ys m n a b = record {
   turns_are = omega (arith, count_append is_turn xs ys, a.turns_are, b.turns_are);
   datagrams_are = rw (filter_map-append datagram_of xs ys) (omega (arith, length-append (datagrams xs) (datagrams ys), a.datagrams_are, b.datagrams_are));
@@ -55,7 +55,7 @@ behind : (gave : LinkGiven) (sends same : List LinkCall) → sends ≡ same → 
 behind gave sends same is = ap (λ (xs : List LinkCall). call.Take 16385 gave ∷ xs) is
 
 module _ (config : Config) (h : List BoardEntry) (now : ℕ) where
-  reply_counted : (from : Addr) (datagram : List ℕ) (answer : ControlTurn) (made : Option Hearing) (sends : List LinkCall) (parts : Option (List ℕ × List ℕ)) (too_long : Bool)
+  reply_counted : (from : Addr) (datagram : List ℕ) (answer : ControlTurn) (made : Option RequestRecord) (sends : List LinkCall) (parts : Option (List ℕ × List ℕ)) (too_long : Bool)
       → DidReply config h now from parts too_long answer made sends → Counted (turn_counts answer) (call.Take 16385 (given.Datagram from datagram) ∷ sends)
   reply_counted from datagram answer made sends None too_long did =
       counted_as answer turn.Silent _ _ did.0 (behind (given.Datagram from datagram) sends [] did.2) (record { turns_are = refl; datagrams_are = refl; replies_are = refl })
@@ -63,7 +63,7 @@ module _ (config : Config) (h : List BoardEntry) (now : ℕ) where
   reply_counted from datagram answer (Some x) sends (Some parts) too_long did =
       counted_as answer (turn_after did.done) _ _ did.answer_is (behind (given.Datagram from datagram) sends _ did.sends_are) (exchange_counted did.done from datagram _)
 
-  turn_counted : (gave : LinkGiven) (answer : ControlTurn) (made : Option Hearing) (sends : List LinkCall) → DidFollow config h now gave answer made sends
+  turn_counted : (gave : LinkGiven) (answer : ControlTurn) (made : Option RequestRecord) (sends : List LinkCall) → DidFollow config h now gave answer made sends
       → Counted (turn_counts answer) (call.Take 16385 gave ∷ sends)
   turn_counted (given.Datagram from datagram) answer made sends did = reply_counted from datagram answer made sends (frame datagram) (is_too_long datagram) did
   turn_counted given.Nothing answer made sends did =
@@ -73,13 +73,13 @@ module _ (config : Config) (h : List BoardEntry) (now : ℕ) where
   turn_counted given.Failed answer made sends did =
       counted_as answer turn.ReadFault _ _ did.0 (behind given.Failed sends [] did.2) (record { turns_are = refl; datagrams_are = refl; replies_are = refl })
 
-  did_counted : (answer : ControlTurn) (made : Option Hearing) (calls : List LinkCall) → DidTurn config h now answer made calls → Counted (turn_counts answer) calls
+  did_counted : (answer : ControlTurn) (made : Option RequestRecord) (calls : List LinkCall) → DidTurn config h now answer made calls → Counted (turn_counts answer) calls
   did_counted answer made calls did =
       subst (λ (xs : List LinkCall). Counted (turn_counts answer) xs) (sym did.calls_are) (turn_counted did.gave answer made did.sends did.followed)
 
 -- All rounds.
 
-exchanges_counted : (config : Config) (rounds : List Round) (calls : List LinkCall) → AreExchanges config rounds calls → Counted (counts_in rounds) calls
+exchanges_counted : (config : Config) (rounds : List ControlRound) (calls : List LinkCall) → AreExchanges config rounds calls → Counted (counts_in rounds) calls
 exchanges_counted config [] calls none =
     subst (λ (xs : List LinkCall). Counted (counts_of 0 0 0) xs) (sym none) (record { turns_are = refl; datagrams_are = refl; replies_are = refl })
 exchanges_counted config (r ∷ rounds) calls e =
@@ -87,7 +87,7 @@ exchanges_counted config (r ∷ rounds) calls e =
     (both_counted e.0 e.1 (counts_in rounds) (turn_counts r.answer) (exchanges_counted config rounds e.0 e.3)
     (did_counted config (history_after config rounds) r.handed r.answer r.heard e.1 e.4))
 
-pub sum_none : (n : Counts) → sum_of n (counts_of 0 0 0) ≡ n
+pub sum_none : (n : Counts) → sum_of_counts n (counts_of 0 0 0) ≡ n
 sum_none n =
     let t : n.turns + 0 ≡ n.turns = omega arith in
     let d : n.datagrams + 0 ≡ n.datagrams = omega arith in
@@ -104,7 +104,7 @@ last_counted status.Usage = record { turns_are = refl; datagrams_are = refl; rep
 last_counted status.ScriptFault = record { turns_are = refl; datagrams_are = refl; replies_are = refl }
 last_counted status.ScriptRead = record { turns_are = refl; datagrams_are = refl; replies_are = refl }
 
-pub calls_counted : (config : Config) (rounds : List Round) (ended : Status) (calls : List LinkCall) → AreExchanges config rounds calls → Counted (counts_in rounds) (calls ++ last_take ended)
+pub calls_counted : (config : Config) (rounds : List ControlRound) (ended : Status) (calls : List LinkCall) → AreExchanges config rounds calls → Counted (counts_in rounds) (calls ++ last_take ended)
 calls_counted config rounds ended calls e =
     subst (λ (n : Counts). Counted n (calls ++ last_take ended)) (sum_none (counts_in rounds))
     (both_counted calls (last_take ended) (counts_in rounds) (counts_of 0 0 0) (exchanges_counted config rounds calls e) (last_counted ended))

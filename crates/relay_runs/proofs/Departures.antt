@@ -25,7 +25,7 @@ use Rattle.call_board.proofs.Free.{free_below, new_leg_free}
 use Rattle.relay_core.specs.Entries.{Event, Cell, Entry, board_history, cell_entry, cell_history, cell_before, front}
 use Rattle.relay_core.specs.Legal.{Orderly, Legal}
 use Rattle.relay_core.specs.Safe.{Safe}
-use Rattle.relay_core.specs.Told.{is_parting, behind, sent_of, sent_by, sends_since, legs_going}
+use Rattle.relay_core.specs.EndLogs.{is_parting, with_call, out_call_of, sent_by, sends_since, legs_going}
 use Rattle.relay_core.proofs.Boards.{le_or_eq, lt_or_eq}
 use Rattle.relay_core.proofs.Boxes.{below_front}
 use Rattle.relay_core.proofs.Commits.{event_of, entry_of}
@@ -36,12 +36,12 @@ use Rattle.relay_core.proofs.Keys.{prepare_of}
 use Rattle.relay_core.proofs.Lasting.{lasting}
 use Rattle.relay_core.proofs.LegStays.{IsAdded, is_added, other_section}
 use Rattle.board_turns.specs.Between.{board_of}
-use Rattle.board_turns.specs.Stopping.{stop_entry}
+use Rattle.board_turns.specs.Stops.{stop_entry}
 use Rattle.relay_runs.specs.Ends.{sends_of, sends_going, sends_in, sends_at}
 
 -- Lists.
 
-in_behind : (call : OutCall) (calls : List OutCall) (more : Option OutCall) → In call calls → In call (behind calls more)
+in_behind : (call : OutCall) (calls : List OutCall) (more : Option OutCall) → In call calls → In call (with_call calls more)
 in_behind call calls None i = i
 in_behind call calls (Some other) i = in_left calls (other ∷ []) i
 
@@ -55,7 +55,7 @@ in_first call false xs rest passes i = absurd (let k = passes in cc)
 
 -- a send by a half is one of that half's
 sent_itself : (half other : Half) (pair : ℕ) (to : Addr) (bytes : List ℕ) (ok : Bool) → half ≡ other
-    → sent_of half ok (Some (record { pair = pair; half = other; to = to; bytes = bytes })) ≡ Some (out.Send to bytes ok)
+    → out_call_of half ok (Some (record { pair = pair; half = other; to = to; bytes = bytes })) ≡ Some (out.Send to bytes ok)
 sent_itself Rtp Rtp pair to bytes ok q = refl
 sent_itself Rtp Rtcp pair to bytes ok q = absurd (let k = q in cc)
 sent_itself Rtcp Rtp pair to bytes ok q = absurd (let k = q in cc)
@@ -102,7 +102,7 @@ module _ (config : Config) (l : List Entry) (o : Orderly config l) (place : ℕ)
       subst Has (sym grown) (
         in_left (filter (λ (a : Holder). not (takes_away v a.section)) (legs h)) (legs_of v)
             (keeps (λ (a : Holder). not (takes_away v a.section)) (legs h) there_is.0 (ap not stays)),
-        subst (λ (b : Bool). In call (cond b [] (behind (sends_since leg half h) (sent_by leg half h v)))) (sym other)
+        subst (λ (b : Bool). In call (cond b [] (with_call (sends_since leg half h) (sent_by leg half h v)))) (sym other)
             (in_behind call (sends_since leg half h) (sent_by leg half h v) there_is.1),
       )
 
@@ -271,10 +271,10 @@ module _ (config : Config) (l : List Entry) (h : List BoardEntry) (legal : Legal
   -- it leaves by the other leg's end
   leaves : (other leg : Holder) → found b x.packet ≡ Some leg → opposite_of b (Some leg) ≡ Some other → sent_by other w.half b (Relay x) ≡ Some call
   leaves other leg is_found is_opposite =
-      ap (λ (f : Option Holder). cond (is_leaving (opposite_of b f) other) (sent_of w.half x.sent_ok x.deed.sending) None) is_found
-      ∙ ap (λ (f : Option Holder). cond (is_leaving f other) (sent_of w.half x.sent_ok x.deed.sending) None) is_opposite
-      ∙ ap (λ (t : Bool). cond t (sent_of w.half x.sent_ok x.deed.sending) None) (is_same_leg other)
-      ∙ ap (λ (s : Option Sending). sent_of w.half x.sent_ok s) sending
+      ap (λ (f : Option Holder). cond (is_leaving (opposite_of b f) other) (out_call_of w.half x.sent_ok x.deed.sending) None) is_found
+      ∙ ap (λ (f : Option Holder). cond (is_leaving f other) (out_call_of w.half x.sent_ok x.deed.sending) None) is_opposite
+      ∙ ap (λ (t : Bool). cond t (out_call_of w.half x.sent_ok x.deed.sending) None) (is_same_leg other)
+      ∙ ap (λ (s : Option Sending). out_call_of w.half x.sent_ok s) sending
       ∙ sent_itself w.half w.half w.pair w.to w.bytes x.sent_ok refl
 
   -- the cell has the leg after it, and the call is one of its sends
@@ -292,7 +292,7 @@ module _ (config : Config) (l : List Entry) (h : List BoardEntry) (legal : Legal
       subst (Has config l o e.place other w.half call) (sym grown) (
         in_left (filter (λ (a : Holder). not (takes_away (Relay x) a.section)) (legs b)) []
             (keeps (λ (a : Holder). not (takes_away (Relay x) a.section)) (legs b) is_leg refl),
-        subst (λ (more : Option OutCall). In call (behind (sends_since other w.half b) more)) (sym (leaves other leg is_found is_opposite))
+        subst (λ (more : Option OutCall). In call (with_call (sends_since other w.half b) more)) (sym (leaves other leg is_found is_opposite))
             (in_right (sends_since other w.half b) (call ∷ []) (here refl)),
       )
 

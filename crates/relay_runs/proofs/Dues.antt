@@ -11,10 +11,10 @@ use Rattle.std.proofs.lemmas.List.Sorted.{sum_by-IsPermutation}
 use Rattle.std.proofs.lemmas.List.Sums.{sum_by-cons}
 use Rattle.media_lane.specs.declared.answers.Totals.{Totals}
 use Rattle.relay_runs.specs.declared.lanes.OwnLane.{OwnLane}
-use Rattle.relay_runs.specs.declared.threads.MediaThread.{MediaThread}
-use Rattle.relay_runs.specs.declared.threads.Until.{Until}
-use Rattle.relay_runs.specs.declared.threads.Until.TheVariants as until
-use Rattle.relay_runs.specs.Threads.{AddsEach, AddsLane, Each, GoesOn, HasRoom, Swept, all_lanes, due_in, due_of, pairs_before, pairs_of_lane, taken_by}
+use Rattle.relay_runs.specs.declared.media_thread.MediaThread.{MediaThread}
+use Rattle.relay_runs.specs.declared.media_thread.Until.{Until}
+use Rattle.relay_runs.specs.declared.media_thread.Until.TheVariants as until
+use Rattle.relay_runs.specs.Threads.{AddsEach, AddsLane, Each, GoesOn, HasRoomForLanes, Swept, all_lanes, due_in, due_of, pairs_before, pairs_of_lane, lanes_took}
 use Rattle.relay_runs.proofs.MediaThreads.{zip_each}
 
 -- How pairs are shared out among lanes.
@@ -75,10 +75,10 @@ module _ {I O : Type 0} {gi : _} {go : _} {gm : _} where
   due_push (x ∷ xs) y = let rest = due_push xs y in omega (arith, rest)
 
   -- one more thread has room
-  pub room_push : (lanes : ℕ) (xs zs : List (MediaThread I O gi go gm)) (y : MediaThread I O gi go gm) → zs ≡ xs ++ y ∷ [] → All (λ (thread : MediaThread I O gi go gm). HasRoom lanes thread) xs
-      → y.lanes.items ≡ [] → lanes ≤ vec_capacity y.lanes → All (λ (thread : MediaThread I O gi go gm). HasRoom lanes thread) zs
+  pub room_push : (lanes : ℕ) (xs zs : List (MediaThread I O gi go gm)) (y : MediaThread I O gi go gm) → zs ≡ xs ++ y ∷ [] → All (λ (thread : MediaThread I O gi go gm). HasRoomForLanes lanes thread) xs
+      → y.lanes.items ≡ [] → lanes ≤ vec_capacity y.lanes → All (λ (thread : MediaThread I O gi go gm). HasRoomForLanes lanes thread) zs
   room_push lanes xs zs y is all empty room =
-      let P : MediaThread I O gi go gm → Type 0 = λ thread. HasRoom lanes thread in
+      let P : MediaThread I O gi go gm → Type 0 = λ thread. HasRoomForLanes lanes thread in
       subst (λ (ts : List (MediaThread I O gi go gm)). All P ts) (sym is)
       (All-append P xs (y ∷ []) all (All-cons P y [] (record { empty = empty; room = room }) (All-nil P)))
 
@@ -105,23 +105,23 @@ module _ {I O : Type 0} {gi : _} {go : _} {gm : _} where
 
   -- Lanes.
 
-  taken_both : (xs ys : List (OwnLane I O gi go gm)) → taken_by (xs ++ ys) ≡ taken_by xs + taken_by ys
+  taken_both : (xs ys : List (OwnLane I O gi go gm)) → lanes_took (xs ++ ys) ≡ lanes_took xs + lanes_took ys
   taken_both [] ys = omega arith
   taken_both (x ∷ xs) ys = let rest = taken_both xs ys in omega (arith, rest)
 
   -- one lane more
   pub taken_next : (xs items : List (OwnLane I O gi go gm)) (index : ℕ) (x : OwnLane I O gi go gm) (old new : ℕ) → items ≡ xs → index < length xs → x ≡ get_or items index x
-      → old ≡ min (taken_by (take index xs)) (2 ^ 64 - 1) → new ≡ min (old + x.totals.taken) (2 ^ 64 - 1) → new ≡ min (taken_by (take (index + 1) xs)) (2 ^ 64 - 1)
+      → old ≡ min (lanes_took (take index xs)) (2 ^ 64 - 1) → new ≡ min (old + x.totals.taken) (2 ^ 64 - 1) → new ≡ min (lanes_took (take (index + 1) xs)) (2 ^ 64 - 1)
   taken_next xs items index x old new same lt is before sum =
       let next : index + 1 ≡ suc index = omega arith in
       let here : get_or xs index x ≡ x = sym (is ∙ ap (λ (zs : List (OwnLane I O gi go gm)). get_or zs index x) same) in
-      let more = ap (λ (n : ℕ). taken_by (take n xs)) next
-      ∙ ap (λ (zs : List (OwnLane I O gi go gm)). taken_by zs) (take-suc xs index x lt)
+      let more = ap (λ (n : ℕ). lanes_took (take n xs)) next
+      ∙ ap (λ (zs : List (OwnLane I O gi go gm)). lanes_took zs) (take-suc xs index x lt)
       ∙ taken_both (take index xs) (get_or xs index x ∷ [])
-      ∙ ap (λ (own : OwnLane I O gi go gm). taken_by (take index xs) + (own.totals.taken + 0)) here in
+      ∙ ap (λ (own : OwnLane I O gi go gm). lanes_took (take index xs) + (own.totals.taken + 0)) here in
       omega (arith, more, before, sum)
 
-  zip_taken : (n : ℕ) (range : Option (ℕ × ℕ)) (gate : ℕ → Type 0) (xs ys : List (OwnLane I O gi go gm)) → AllZip (Swept n range gate) xs ys → taken_by xs ≤ taken_by ys
+  zip_taken : (n : ℕ) (range : Option (ℕ × ℕ)) (gate : ℕ → Type 0) (xs ys : List (OwnLane I O gi go gm)) → AllZip (Swept n range gate) xs ys → lanes_took xs ≤ lanes_took ys
   zip_taken n range gate [] [] swept = omega arith
   zip_taken n range gate [] (y ∷ ys) swept = absurd swept
   zip_taken n range gate (x ∷ xs) [] swept = absurd swept
@@ -131,22 +131,22 @@ module _ {I O : Type 0} {gi : _} {go : _} {gm : _} where
       omega (arith, here, rest)
 
   -- sweeps take more
-  pub each_taken : (n : ℕ) (range : Option (ℕ × ℕ)) (gate : ℕ → Type 0) (xs ys : List (OwnLane I O gi go gm)) → Each (Swept n range gate) xs ys → taken_by xs ≤ taken_by ys
+  pub each_taken : (n : ℕ) (range : Option (ℕ × ℕ)) (gate : ℕ → Type 0) (xs ys : List (OwnLane I O gi go gm)) → Each (Swept n range gate) xs ys → lanes_took xs ≤ lanes_took ys
   each_taken n range gate xs ys each = zip_taken n range gate xs ys (zip_each (Swept n range gate) xs ys each.as_many each.at)
 
   -- the sum of what lanes took, up to the end of its type
-  pub adds_least : (xs : List (OwnLane I O gi go gm)) (old new : Totals) (n : ℕ) → AddsEach xs old new → n < 2 ^ 64 → n ≤ old.taken + taken_by xs → n ≤ new.taken
+  pub adds_least : (xs : List (OwnLane I O gi go gm)) (old new : Totals) (n : ℕ) → AddsEach xs old new → n < 2 ^ 64 → n ≤ old.taken + lanes_took xs → n ≤ new.taken
   adds_least [] old new n adds few le = subst (λ (t : Totals). n ≤ t.taken) (sym adds) (omega (arith, le))
   adds_least (x ∷ xs) old new n adds few le =
       let sum = adds.1.taken in
       adds_least xs adds.0 new n adds.2 few (omega (arith, sum, few, le))
 
-  taken_sum : (xs : List (OwnLane I O gi go gm)) → taken_by xs ≡ sum_by (λ (own : OwnLane I O gi go gm). own.totals.taken) xs
+  taken_sum : (xs : List (OwnLane I O gi go gm)) → lanes_took xs ≡ sum_by (λ (own : OwnLane I O gi go gm). own.totals.taken) xs
   taken_sum [] = refl
   taken_sum (x ∷ xs) = ap (λ (n : ℕ). x.totals.taken + n) (taken_sum xs) ∙ sym (sum_by-cons (λ (own : OwnLane I O gi go gm). own.totals.taken) x xs)
 
   -- in whatever order they stand
-  pub same_taken : (xs ys : List (OwnLane I O gi go gm)) → IsPermutation xs ys → taken_by ys ≡ taken_by xs
+  pub same_taken : (xs ys : List (OwnLane I O gi go gm)) → IsPermutation xs ys → lanes_took ys ≡ lanes_took xs
   same_taken xs ys are = taken_sum ys ∙ sum_by-IsPermutation (λ (own : OwnLane I O gi go gm). own.totals.taken) xs ys are ∙ sym (taken_sum xs)
 
 -- All work was done.
@@ -160,18 +160,18 @@ due_least (until.Taken due) taken done =
     ]
 
 module _ {I O : Type 0} {gi : _} {go : _} {gm : _} where
-  zip_done : (xs ys : List (MediaThread I O gi go gm)) → AllZip (λ (x y : MediaThread I O gi go gm). GoesOn x.until (taken_by y.lanes.items) → ⊥) xs ys → due_in xs ≤ taken_by (all_lanes ys)
+  zip_done : (xs ys : List (MediaThread I O gi go gm)) → AllZip (λ (x y : MediaThread I O gi go gm). GoesOn x.until (lanes_took y.lanes.items) → ⊥) xs ys → due_in xs ≤ lanes_took (all_lanes ys)
   zip_done [] [] done = omega arith
   zip_done [] (y ∷ ys) done = absurd done
   zip_done (x ∷ xs) [] done = absurd done
   zip_done (x ∷ xs) (y ∷ ys) done =
-      let here = due_least x.until (taken_by y.lanes.items) done.0 in
+      let here = due_least x.until (lanes_took y.lanes.items) done.0 in
       let rest = zip_done xs ys done.1 in
       let both = taken_both y.lanes.items (all_lanes ys) in
       omega (arith, here, rest, both)
 
   -- xs are the threads before their work, and ys after it
   pub all_done : (xs ys : List (MediaThread I O gi go gm)) → length ys ≡ length xs
-      → ((i : ℕ) (d : MediaThread I O gi go gm) → i < length xs → GoesOn (get_or xs i d).until (taken_by (get_or ys i d).lanes.items) → ⊥)
-      → due_in xs ≤ taken_by (all_lanes ys)
-  all_done xs ys many done = zip_done xs ys (zip_each (λ (x y : MediaThread I O gi go gm). GoesOn x.until (taken_by y.lanes.items) → ⊥) xs ys many done)
+      → ((i : ℕ) (d : MediaThread I O gi go gm) → i < length xs → GoesOn (get_or xs i d).until (lanes_took (get_or ys i d).lanes.items) → ⊥)
+      → due_in xs ≤ lanes_took (all_lanes ys)
+  all_done xs ys many done = zip_done xs ys (zip_each (λ (x y : MediaThread I O gi go gm). GoesOn x.until (lanes_took y.lanes.items) → ⊥) xs ys many done)

@@ -11,19 +11,19 @@ use Rattle.call_board.specs.Acts.{Call, BoardEntry}
 use Rattle.relay_core.specs.declared.part.Part.{Part}
 use Rattle.relay_core.specs.Entries.{Event, Cell, Entry, is_nested, board_at}
 use Rattle.relay_core.specs.Legal.{Orderly}
-use Rattle.relay_core.specs.Made.{Made, entry_of, list_of, told, told_event, told_relay}
-use Rattle.relay_core.specs.Turning.{IsTurn, with_turn, made_by}
+use Rattle.relay_core.specs.Records.{Made, entry_of, list_of, as_logged, logged_event, logged_relay}
+use Rattle.relay_core.specs.Turns.{IsTurn, with_turn, made_by}
 use Rattle.relay_core.proofs.Recording.{turn_list}
 use Rattle.relay_core.proofs.Turns.{turn_elsewhere}
-use Rattle.media_lane.specs.Gated.{AreGated, GainsGated}
+use Rattle.media_lane.specs.Gates.{AreGated, GainsGated}
 use Rattle.media_lane.specs.Visits.{Row}
 use Rattle.media_lane.proofs.Gates.{gated_more, gated_both}
 use Rattle.board_turns.specs.Between.{MakesTurn}
-use Rattle.board_turns.specs.Controls.{Hearing}
-use Rattle.ng_server.specs.declared.taking.ControlTurn.{ControlTurn}
-use Rattle.ng_server.specs.Taking.{Follows}
+use Rattle.board_turns.specs.Controls.{RequestRecord}
+use Rattle.ng_server.specs.declared.control_turn.ControlTurn.{ControlTurn}
+use Rattle.ng_server.specs.ControlTurns.{FollowsTake}
 use Rattle.relay_runs.specs.Rounds.{all_of}
-use Rattle.relay_runs.specs.Turned.{DidTick}
+use Rattle.relay_runs.specs.RunStates.{DidTick}
 
 -- A turn of the board relays nothing.
 
@@ -62,7 +62,7 @@ module _ {M I O : Type 0} {g : _} (gate : ℕ → Type 0) (config : Config) (old
   still_gated same gated = subst (λ (h : Hand M (Part I O) Made (Unit {0}) g). AreGated gate (made_by h)) (sym same) gated
 
   -- a control turn
-  pub follows_gated : (now : ℕ) (answer : ControlTurn) (made : Option Hearing) → Orderly config (made_by old) → Follows config old new now answer made
+  pub follows_gated : (now : ℕ) (answer : ControlTurn) (made : Option RequestRecord) → Orderly config (made_by old) → FollowsTake config old new now answer made
       → AreGated gate (made_by old) → AreGated gate (made_by new)
   follows_gated now answer None orderly follows gated = still_gated follows.1 gated
   follows_gated now answer (Some x) orderly follows gated = makes_gated _ orderly follows.1 gated
@@ -82,5 +82,5 @@ module _ {M I O : Type 0} {g : _} (gate : ℕ → Type 0) (config : Config) (old
       (gated_both gate (made_by old) (list_of (all_of beside)) main threads))
 
 -- of what is recorded of a list it is known, and so of the list
-pub told_gated : (gate : ℕ → Type 0) (l : List Entry) → AreGated gate (map told l) → AreGated gate l
-told_gated gate l gated e x i q = gated (told e) (told_relay x.packet x.deed.outcome) (maps told l i) (ap (λ (v : Event). told_event v) q)
+pub told_gated : (gate : ℕ → Type 0) (l : List Entry) → AreGated gate (map as_logged l) → AreGated gate l
+told_gated gate l gated e x i q = gated (as_logged e) (logged_relay x.packet x.deed.outcome) (maps as_logged l i) (ap (λ (v : Event). logged_event v) q)

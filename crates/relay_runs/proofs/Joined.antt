@@ -9,22 +9,22 @@ use Rattle.turn_table.specs.Histories.{phase_at}
 use Rattle.turn_table.specs.Hands.{IsHandOf, HasNoTurn, IsUnchanged, KnowsAll, view, starts, entries}
 use Rattle.relay_core.specs.declared.part.Part.{Part}
 use Rattle.relay_core.specs.declared.machine.Relay.{Relay}
-use Rattle.relay_core.specs.Beginning.{AreParts}
-use Rattle.relay_core.specs.Handed.{IsHanded}
-use Rattle.relay_core.specs.Joining.{TakesOwnPairs, IsSound}
+use Rattle.relay_core.specs.FirstPlaces.{AreParts}
+use Rattle.relay_core.specs.NestedMoments.{IsHanded}
+use Rattle.relay_core.specs.Joins.{TakesOwnPairs, IsSound}
 use Rattle.relay_core.specs.Legal.{Orderly}
-use Rattle.relay_core.specs.Made.{Made, list_of}
-use Rattle.relay_core.specs.Recorded.{AreReturned}
-use Rattle.relay_core.specs.Turning.{Numbered, IsReceiving, made_by}
+use Rattle.relay_core.specs.Records.{Made, list_of}
+use Rattle.relay_core.specs.ReturnedPairs.{AreReturned}
+use Rattle.relay_core.specs.Turns.{Numbered, IsReceiving, made_by}
 use Rattle.relay_core.proofs.Recording.{lane_no_boards}
 use Rattle.media_lane.specs.declared.answers.Totals.{Totals}
-use Rattle.media_lane.specs.Gated.{AreGated}
+use Rattle.media_lane.specs.Gates.{AreGated}
 use Rattle.media_lane.specs.Totals.{HasTotals}
 use Rattle.media_lane.specs.Visits.{Row}
 use Rattle.media_lane.proofs.Between.{lanes_board}
 use Rattle.board_turns.specs.Between.{board_of, IsBetween}
 use Rattle.board_turns.proofs.Betweens.{between_sound}
-use Rattle.relay_runs.specs.declared.threads.MediaThread.{MediaThread}
+use Rattle.relay_runs.specs.declared.media_thread.MediaThread.{MediaThread}
 use Rattle.relay_runs.specs.Rounds.{AreLanes, all_of}
 use Rattle.relay_runs.specs.Threads.{all_lanes, rows_each, CountsUp, JoinsInOrder}
 use Rattle.relay_runs.proofs.Between.{known_numbered, known_counted}

@@ -8,7 +8,7 @@ use Rattle.std.proofs.lemmas.List.{get_or-map, length-map}
 use Rattle.std.proofs.lemmas.List.Sorted.{IsPermutation-map, sum_by-IsPermutation}
 use Rattle.std.proofs.lemmas.List.Sums.{sum_by-cons}
 use Rattle.media_lane.specs.Lanes.{index_in}
-use Rattle.media_lane.specs.Visits.{one_if}
+use Rattle.media_lane.specs.Visits.{one_where}
 use Rattle.relay_runs.specs.declared.lanes.OwnLane.{OwnLane}
 use Rattle.relay_runs.specs.Threads.{AreNumbers, AreInOrder, numbers_of}
 
@@ -29,7 +29,7 @@ ascends_tail n ns up k d lt =
 times_here : (i n : ℕ) (ns : List ℕ) → n ≡ i → times i (n ∷ ns) ≡ 1 + times i ns
 times_here i n ns is = sum_by-cons _ n ns ∙ ap (λ (k : ℕ). k + times i ns) (here (n == i) (grind (arith, nat_tests)))
   where
-    here : (b : Bool) → b ≡ true → one_if b ≡ 1
+    here : (b : Bool) → b ≡ true → one_where b ≡ 1
     here true q = refl
     here false q = absurd (cc)
 
@@ -38,7 +38,7 @@ times_there i n ns is =
     let all : times i (n ∷ ns) ≡ 0 + times i ns = sum_by-cons _ n ns ∙ ap (λ (k : ℕ). k + times i ns) (there (n == i) (grind (arith, nat_tests))) in
     omega (arith, all)
   where
-    there : (b : Bool) → b ≡ false → one_if b ≡ 0
+    there : (b : Bool) → b ≡ false → one_where b ≡ 0
     there false q = refl
     there true q = absurd (cc)
 
@@ -102,24 +102,24 @@ module _ {I O : Type 0} {gi : _} {go : _} {gm : _} (xs ys : List (OwnLane I O gi
   long : length (numbers_of ys) ≡ length ys
   long = length-map ys (λ (own : OwnLane I O gi go gm). index_in own.lane)
 
-  same_times : (i : ℕ) → times i (numbers_of ys) ≡ one_if (nat_lt i (length xs))
+  same_times : (i : ℕ) → times i (numbers_of ys) ≡ one_where (nat_lt i (length xs))
   same_times i =
       sum_by-IsPermutation _ (numbers_of xs) (numbers_of ys) (IsPermutation-map (λ (own : OwnLane I O gi go gm). index_in own.lane) xs ys are) ∙ once i
 
   number_at : (k d : ℕ) (x : OwnLane I O gi go gm) → k < length ys → get_or (numbers_of ys) k d ≡ index_in (slice_index_or ys k x).lane
   number_at k d x lt = get_or-map (λ (own : OwnLane I O gi go gm). index_in own.lane) ys k x d lt
 
-  if_less : (i n : ℕ) → i < n → one_if (nat_lt i n) ≡ 1
+  if_less : (i n : ℕ) → i < n → one_where (nat_lt i n) ≡ 1
   if_less i n lt = case (nat_lt i n) (grind (arith, nat_tests))
     where
-      case : (b : Bool) → b ≡ true → one_if b ≡ 1
+      case : (b : Bool) → b ≡ true → one_where b ≡ 1
       case true q = refl
       case false q = absurd (cc)
 
-  if_not_less : (i n : ℕ) → n ≤ i → one_if (nat_lt i n) ≡ 0
+  if_not_less : (i n : ℕ) → n ≤ i → one_where (nat_lt i n) ≡ 0
   if_not_less i n le = case (nat_lt i n) (grind (arith, nat_tests))
     where
-      case : (b : Bool) → b ≡ false → one_if b ≡ 0
+      case : (b : Bool) → b ≡ false → one_where b ≡ 0
       case false q = refl
       case true q = absurd (cc)
 

@@ -4,7 +4,7 @@ use Rattle.relay_outside.specs.declared.keys.KeyCall.{KeyCall}
 use Rattle.relay_outside.specs.declared.link.LinkCall.{LinkCall}
 use Rattle.relay_outside.specs.declared.ports.PortCall.{PortCall}
 use Rattle.relay_outside.specs.declared.settings.Config.{Config}
-use Rattle.relay_outside.specs.Told.{Gained}
+use Rattle.relay_outside.specs.DeviceLogs.{Gained}
 use Rattle.turn_table.specs.declared.hands.Turns.{Turns}
 use Rattle.turn_table.specs.declared.hands.Hand.{Hand}
 use Rattle.turn_table.specs.declared.view.View.{View}
@@ -13,30 +13,30 @@ use Rattle.call_board.specs.Acts.{BoardEntry}
 use Rattle.relay_core.specs.declared.part.Part.{Part}
 use Rattle.relay_core.specs.Entries.{Entry}
 use Rattle.relay_core.specs.Legal.{Legal}
-use Rattle.relay_core.specs.Made.{Made, list_of, told}
+use Rattle.relay_core.specs.Records.{Made, list_of, as_logged}
 use Rattle.relay_core.specs.Safe.{Safe}
-use Rattle.relay_core.specs.Timed.{AreTimed}
-use Rattle.relay_core.specs.Told.{InOrder, InsAreTold, OutsAreTold}
-use Rattle.relay_core.specs.Turning.{Numbered, made_by}
-use Rattle.media_ports.specs.Held.{TellsHeld}
-use Rattle.media_ports.specs.Asked as asked
+use Rattle.relay_core.specs.RowMoments.{AreTimed}
+use Rattle.relay_core.specs.EndLogs.{InOrder, InsAreTold, OutsAreTold}
+use Rattle.relay_core.specs.Turns.{Numbered, made_by}
+use Rattle.media_ports.specs.OpenPorts.{LogsHeld}
+use Rattle.media_ports.specs.Openings as asked
 use Rattle.media_lane.specs.declared.answers.Totals.{Totals}
-use Rattle.media_lane.specs.Gated.{AreGated}
+use Rattle.media_lane.specs.Gates.{AreGated}
 use Rattle.media_lane.specs.Totals.{HasTotals}
 use Rattle.media_lane.specs.Visits.{Row}
 use Rattle.media_lane.proofs.Counts.{turn_totals, told_totals}
 use Rattle.board_turns.specs.Between.{board_of, IsBetween, MakesTurn}
-use Rattle.board_turns.specs.Stopping.{stop_entry}
-use Rattle.board_turns.specs.Ties.{AreTied, Ties}
+use Rattle.board_turns.specs.Stops.{stop_entry}
+use Rattle.board_turns.specs.Ties.{AreTied, PortsFollowRows}
 use Rattle.board_turns.proofs.Grown.{makes_history}
 use Rattle.ng_server.proofs.Tellings.{told_board}
 use Rattle.relay_runs.specs.declared.status.Status.{Status}
 use Rattle.relay_runs.specs.declared.totals.Counts.{Counts}
 use Rattle.relay_runs.specs.Loads.{IsLoadWhole, DidLoadTurns}
-use Rattle.relay_runs.specs.Rounds.{Round, history_after, IsBoardTurn, AreRounds, AreLanes, all_of}
+use Rattle.relay_runs.specs.Rounds.{ControlRound, history_after, IsBoardTurn, AreControlRounds, AreLanes, all_of}
 use Rattle.relay_runs.specs.Threads.{CountsUp, RelaysDue}
-use Rattle.relay_runs.specs.Served.{Outside}
-use Rattle.relay_runs.specs.Turned.{DidTurns}
+use Rattle.relay_runs.specs.ServeRuns.{Outside}
+use Rattle.relay_runs.specs.RunStates.{DidTurns}
 use Rattle.relay_runs.proofs.Between.{known_counted, relays_between}
 use Rattle.relay_runs.proofs.Gates.{makes_gated}
 use Rattle.relay_runs.proofs.Orders.{AreOfLane, lanes_of_lane, load_in_order}
@@ -64,13 +64,13 @@ module _ {M I O : Type 0} {g : _} (config : Config) (lanes : ℕ) (range : Optio
   }
 
 -- The whole load: first is the main hand after the control turns, joined that after the threads, last that after the stop.
-module _ {M I O : Type 0} {g : _} (config : Config) (threads : ℕ) (range : Option (ℕ × ℕ)) (gate : ℕ → Type 0) (rounds : List Round) (was is : Totals)
+module _ {M I O : Type 0} {g : _} (config : Config) (threads : ℕ) (range : Option (ℕ × ℕ)) (gate : ℕ → Type 0) (rounds : List ControlRound) (was is : Totals)
     (turns : Turns M (Part I O) Made (Unit {0})) (first joined last : Hand M (Part I O) Made (Unit {0}) g) (some : 0 < threads)
-    (are : AreRounds config threads range rounds (entries first)) (history_is : board_of (made_by first) ≡ history_after config rounds)
+    (are : AreControlRounds config threads range rounds (entries first)) (history_is : board_of (made_by first) ≡ history_after config rounds)
     (begun : IsBetween config turns first) (due : RelaysDue config threads range gate first joined was is) (same : board_of (made_by joined) ≡ board_of (made_by first))
     (before : IsBetween config turns joined) (after : IsBetween config turns last) (makes : MakesTurn config joined last (stop_entry (board_of (made_by joined))))
     (counts : HasTotals (made_by first) was)
-    (closed : (l : List Entry) × (map told l ≡ made_by last) × Legal config l × Safe config l × OutsAreTold (entries last) l) (timed : AreTimed (entries last)) where
+    (closed : (l : List Entry) × (map as_logged l ≡ made_by last) × Legal config l × Safe config l × OutsAreTold (entries last) l) (timed : AreTimed (entries last)) where
   abbrev rows : List Row
   rows = all_of due.beside
 
@@ -130,12 +130,12 @@ module _ {M I O : Type 0} {g : _} (config : Config) (threads : ℕ) (range : Opt
 
 -- With what the devices told of it.
 pub ran_load : (limit : ℕ) (config : Config) (threads : ℕ) (range : Option (ℕ × ℕ)) (gate : ℕ → Type 0) (l0 l1 : Option (List LinkCall)) (t0 t1 : Option (List ℕ)) (o0 o1 o2 : Option (List PortCall)) (k0 k1 : Option (List KeyCall))
-    (p0 p1 p2 q0 q1 : ℕ) (ended : Status) (counts : Counts) (totals : Totals) (rows beside joined all : List Row) → p1 ≤ p2 → Gained o1 o2 asked.OpensNone
+    (p0 p1 p2 q0 q1 : ℕ) (ended : Status) (counts : Counts) (totals : Totals) (rows beside joined all : List Row) → p1 ≤ p2 → Gained o1 o2 asked.NoneOpened
     → (turns : DidTurns limit config threads range
     (record { link = l0; link_now = l1; timer = t0; timer_now = t1; opened = o0; opened_now = o1; drew = k0; drew_now = k1; port_faults = p0; port_faults_now = p1; key_faults = q0; key_faults_now = q1 })
     ended counts rows)
-    → (whole : IsLoadWhole config threads range turns.rounds totals) × (whole.rows ≡ all) × OutsAreTold whole.rows whole.list → AreGated gate (list_of all) → Ties config o1 o2 joined all
-    → AreOfLane beside → joined ≡ rows ++ beside → (InOrder (list_of all) → InsAreTold config all) → TellsHeld config o0 [] → TellsHeld config o2 []
+    → (whole : IsLoadWhole config threads range turns.rounds totals) × (whole.rows ≡ all) × OutsAreTold whole.rows whole.list → AreGated gate (list_of all) → PortsFollowRows config o1 o2 joined all
+    → AreOfLane beside → joined ≡ rows ++ beside → (InOrder (list_of all) → InsAreTold config all) → LogsHeld config o0 [] → LogsHeld config o2 []
     → DidLoadTurns limit config threads range gate
     (record { link = l0; link_now = l1; timer = t0; timer_now = t1; opened = o0; opened_now = o2; drew = k0; drew_now = k1; port_faults = p0; port_faults_now = p2; key_faults = q0; key_faults_now = q1 })
     ended counts totals
@@ -154,7 +154,7 @@ ran_load limit config threads range gate l0 l1 t0 t1 o0 o1 o2 k0 k1 p0 p1 p2 q0 
       counts_are = turns.counts_are;
       has_ended = turns.has_ended;
       last_is = turns.last_is;
-      told = run.told;
+      log = run.log;
       ends = run.ends;
       all_sent = run.all_sent;
       opens_same = run.opens_same;

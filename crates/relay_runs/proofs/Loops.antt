@@ -2,14 +2,14 @@
 use Rattle.std.specs.Prelude.{is_some, unwrap_or}
 use Rattle.std.specs.Option.{option_map}
 use Rattle.std.proofs.Common.{◌≡◌, ◌∙◌, ap, refl, subst, sym, ℕ, ◌<◌, ◌≤◌, List, [], ◌∷◌, ◌++◌, append-nil, Option, Some, None, true, false, cond, arith}
-use Rattle.relay_outside.specs.Told.{Gains, Gained}
+use Rattle.relay_outside.specs.DeviceLogs.{Gains, Gained}
 use Rattle.relay_outside.specs.declared.keys.KeyCall.{KeyCall}
 use Rattle.relay_outside.specs.declared.link.LinkCall.{LinkCall}
 use Rattle.relay_outside.specs.declared.ports.PortCall.{PortCall}
 use Rattle.relay_outside.specs.declared.settings.Config.{Config}
 use Rattle.relay_outside.proofs.Telling.{gained_none, gained_one, gained_both, gained_less}
 use Rattle.histories.specs.Words.{here, there}
-use Rattle.media_ports.specs.Asked.{pair_addresses, OpensNone, OpensAt}
+use Rattle.media_ports.specs.Openings.{pair_addresses, NoneOpened, OpensAt}
 use Rattle.media_ports.specs.Calls as port_calls
 use Rattle.media_ports.proofs.Asked.{opens_with_both, opens_with_closed, opens_these_both, opens_none_at}
 use Rattle.turn_table.specs.declared.hands.Turns.{Turns}
@@ -18,22 +18,22 @@ use Rattle.turn_table.specs.Hands.{entries}
 use Rattle.call_board.specs.Acts.{Call, Given, BoardEntry}
 use Rattle.call_board.specs.Pairs.{free}
 use Rattle.relay_core.specs.declared.part.Part.{Part}
-use Rattle.relay_core.specs.Made.{Made, list_of}
-use Rattle.relay_core.specs.Turning.{made_by}
+use Rattle.relay_core.specs.Records.{Made, list_of}
+use Rattle.relay_core.specs.Turns.{made_by}
 use Rattle.media_lane.specs.Visits.{Row}
 use Rattle.board_turns.specs.Between.{board_of, IsBetween}
-use Rattle.board_turns.specs.Ties.{AreTied, Ties}
-use Rattle.board_turns.specs.Ticking.{tick_entry}
-use Rattle.board_turns.specs.Controls.{Hearing}
-use Rattle.board_turns.specs.Giving.{IsGivenBy}
-use Rattle.ng_server.specs.declared.taking.ControlTurn.{ControlTurn}
-use Rattle.ng_server.specs.Taking.{Follows, GaveFor, DidTurn, Turned}
+use Rattle.board_turns.specs.Ties.{AreTied, PortsFollowRows}
+use Rattle.board_turns.specs.Ticks.{tick_entry}
+use Rattle.board_turns.specs.Controls.{RequestRecord}
+use Rattle.board_turns.specs.DeviceAnswers.{IsGivenBy}
+use Rattle.ng_server.specs.declared.control_turn.ControlTurn.{ControlTurn}
+use Rattle.ng_server.specs.ControlTurns.{FollowsTake, GaveFor, DidTurn, Turned}
 use Rattle.relay_runs.specs.declared.status.Status.{Status}
 use Rattle.relay_runs.specs.declared.status.Status.TheVariants as status
 use Rattle.relay_runs.specs.declared.totals.Counts.{Counts}
-use Rattle.relay_runs.specs.Rounds.{Round, status_after, entry_due, with_entry, history_after, moments, counted_from, is_second_later, AreRounds}
-use Rattle.relay_runs.specs.Served.{Outside, Gave, IsCaused, HaveCauses, given_in, openings, opening_calls_of, OpensBy, draws, counts_of, turn_counts, sum_of, counts_in, Counted, AreExchanges, AreCalls, last_take, HasEnded}
-use Rattle.relay_runs.specs.Turned.{Running, AddsSweep, TicksWhenDue, DidTurns}
+use Rattle.relay_runs.specs.Rounds.{ControlRound, status_after, entry_due, with_entry, history_after, moments, counted_from, is_second_later, AreControlRounds}
+use Rattle.relay_runs.specs.ServeRuns.{Outside, Gave, IsCaused, HaveCauses, given_in, opening_results, opening_calls_of, OpensBy, draws_made, counts_of, turn_counts, sum_of_counts, counts_in, Counted, AreExchanges, AreCalls, last_take, HasEnded}
+use Rattle.relay_runs.specs.RunStates.{Running, AddsSweep, TicksWhenDue, DidTurns}
 use Rattle.relay_runs.proofs.Counts.{calls_counted, sum_none, not_answered, ends_uncounted, ends_below, ends_with, one_take}
 use Rattle.relay_runs.proofs.Rounds.{AddsTurn, turn_rows, turn_heard, tick_rows, one_more, counted_next, no_rows, no_rounds, board_after, board_ticked}
 use Rattle.relay_runs.proofs.Tied.{none_tied, more_tied, sweep_tied}
@@ -49,7 +49,7 @@ gave_one : (before after : Option (List ℕ)) (now : ℕ) → Gains before after
 gave_one before after now gains = gained_one before after now (λ ys. ys ≡ now ∷ []) gains refl
 
 -- the openings of a turn
-opened_for : (config : Config) (history : List BoardEntry) (now : ℕ) (made : Option Hearing) (p p2 q q2 : ℕ) (o0 o1 o2 : Option (List PortCall)) (k1 k2 : Option (List KeyCall))
+opened_for : (config : Config) (history : List BoardEntry) (now : ℕ) (made : Option RequestRecord) (p p2 q q2 : ℕ) (o0 o1 o2 : Option (List PortCall)) (k1 k2 : Option (List KeyCall))
     → Gained o0 o1 (OpensBy config history) → GaveFor config history made p p2 q q2 o1 o2 k1 k2 → Gained o0 o2 (OpensBy config (with_entry history (entry_due config history now made)))
 opened_for config history now None p p2 q q2 o0 o1 o2 k1 k2 opened gave =
     subst (λ (o : Option (List PortCall)). Gained o0 o (OpensBy config history)) (sym gave.0) opened
@@ -57,27 +57,27 @@ opened_for config history now (Some x) p p2 q q2 o0 o1 o2 k1 k2 opened gave =
     let pairs = free config history in
     gained_both o0 o1 o2 (OpensBy config history) (OpensAt config pairs x.given.opens) (OpensBy config (with_entry history (entry_due config history now (Some x))))
     (λ xs ys these those. record {
-      answered = opens_with_both (openings history) x.given.opens xs ys these.answered those.answered;
+      answered = opens_with_both (opening_results history) x.given.opens xs ys these.answered those.answered;
       in_order = opens_these_both (opening_calls_of config history) (port_calls.openings (pair_addresses config pairs) x.given.opens) xs ys these.in_order those.in_order;
     }) opened gave.opens
 
 -- calls that open none after those of a history
-pub opened_alone : (config : Config) (history : List BoardEntry) (o0 o1 o2 : Option (List PortCall)) → Gained o0 o1 (OpensBy config history) → Gained o1 o2 OpensNone
+pub opened_alone : (config : Config) (history : List BoardEntry) (o0 o1 o2 : Option (List PortCall)) → Gained o0 o1 (OpensBy config history) → Gained o1 o2 NoneOpened
     → Gained o0 o2 (OpensBy config history)
 opened_alone config history o0 o1 o2 opened closes =
-    gained_both o0 o1 o2 (OpensBy config history) OpensNone (OpensBy config history)
+    gained_both o0 o1 o2 (OpensBy config history) NoneOpened (OpensBy config history)
     (λ xs ys these none. record {
-      answered = opens_with_closed (openings history) xs ys these.answered none;
+      answered = opens_with_closed (opening_results history) xs ys these.answered none;
       in_order =
           opens_these_both (opening_calls_of config history) [] xs ys these.in_order (opens_none_at config [] ys none).in_order ∙ append-nil (opening_calls_of config history);
     }) opened closes
 
 -- the draws of a turn
-drew_for : (config : Config) (history : List BoardEntry) (now : ℕ) (made : Option Hearing) (p p2 q q2 : ℕ) (o1 o2 : Option (List PortCall)) (k0 k1 k2 : Option (List KeyCall))
-    → Gave k0 k1 (draws history) → GaveFor config history made p p2 q q2 o1 o2 k1 k2 → Gave k0 k2 (draws (with_entry history (entry_due config history now made)))
+drew_for : (config : Config) (history : List BoardEntry) (now : ℕ) (made : Option RequestRecord) (p p2 q q2 : ℕ) (o1 o2 : Option (List PortCall)) (k0 k1 k2 : Option (List KeyCall))
+    → Gave k0 k1 (draws_made history) → GaveFor config history made p p2 q q2 o1 o2 k1 k2 → Gave k0 k2 (draws_made (with_entry history (entry_due config history now made)))
 drew_for config history now None p p2 q q2 o1 o2 k0 k1 k2 drew gave =
-    subst (λ (k : Option (List KeyCall)). Gave k0 k (draws history)) (sym gave.1) drew
-drew_for config history now (Some x) p p2 q q2 o1 o2 k0 k1 k2 drew gave = gave_more k0 k1 k2 (draws history) _ drew gave.draws
+    subst (λ (k : Option (List KeyCall)). Gave k0 k (draws_made history)) (sym gave.1) drew
+drew_for config history now (Some x) p p2 q q2 o1 o2 k0 k1 k2 drew gave = gave_more k0 k1 k2 (draws_made history) _ drew gave.draws
 
 -- what was caused then is caused later
 caused_later : (then later : Outside) (given : Given) → then.port_faults ≡ later.port_faults → then.key_faults ≡ later.key_faults
@@ -90,18 +90,18 @@ caused_later then later given p q port key caused = record {
 module _ (config : Config) (history : List BoardEntry) (now : ℕ) (then later : Outside) (causes : HaveCauses then history)
     (p : then.port_faults ≡ later.port_faults) (q : then.key_faults ≡ later.key_faults) (p_low : then.port_faults ≤ then.port_faults_now) (q_low : then.key_faults ≤ then.key_faults_now)
     (port : then.port_faults_now ≤ later.port_faults_now) (key : then.key_faults_now ≤ later.key_faults_now) (o1 o2 : Option (List PortCall)) (k1 k2 : Option (List KeyCall)) where
-  caused_now : (x : Hearing) → IsGivenBy config (free config history) x.given then.port_faults_now later.port_faults_now then.key_faults_now later.key_faults_now o1 o2 k1 k2 → IsCaused later x.given
+  caused_now : (x : RequestRecord) → IsGivenBy config (free config history) x.given then.port_faults_now later.port_faults_now then.key_faults_now later.key_faults_now o1 o2 k1 k2 → IsCaused later x.given
   caused_now x by = record {
     port_fault = λ f. (let rose = by.port_fault f in omega (arith, rose, p, p_low));
     key_fault = λ f. (let rose = by.key_fault f in omega (arith, rose, q, q_low));
   }
 
   -- the causes of the entries, and of one more
-  causes_for : (made : Option Hearing) → GaveFor config history made then.port_faults_now later.port_faults_now then.key_faults_now later.key_faults_now o1 o2 k1 k2
+  causes_for : (made : Option RequestRecord) → GaveFor config history made then.port_faults_now later.port_faults_now then.key_faults_now later.key_faults_now o1 o2 k1 k2
       → HaveCauses later (with_entry history (entry_due config history now made))
   causes_for None gave entry given i is = caused_later then later given p q port key (causes entry given i is)
   causes_for (Some x) gave entry given (here same) is =
-      let told : Some given ≡ Some x.given = sym is ∙ ap (λ (e : BoardEntry). given_in e.event) same in
+      let shown : Some given ≡ Some x.given = sym is ∙ ap (λ (e : BoardEntry). given_in e.event) same in
       let equal : given ≡ x.given = cc in
       subst (λ (y : Given). IsCaused later y) (sym equal) (caused_now x gave)
   causes_for (Some x) gave entry given (there i) is = caused_later then later given p q port key (causes entry given i is)
@@ -115,19 +115,19 @@ ticked_opens : (config : Config) (history : List BoardEntry) (now : ℕ) (ticked
     → OpensBy config (with_ticked history now ticked) calls
 ticked_opens config history now None calls opens = opens
 ticked_opens config history now (Some ended) calls opens = record {
-  answered = opens.answered ∙ sym (append-nil (openings history));
+  answered = opens.answered ∙ sym (append-nil (opening_results history));
   in_order = opens.in_order ∙ sym (append-nil (opening_calls_of config history));
 }
 
-ticked_draws : (history : List BoardEntry) (now : ℕ) (ticked : Option (List Call)) → draws (with_ticked history now ticked) ≡ draws history
+ticked_draws : (history : List BoardEntry) (now : ℕ) (ticked : Option (List Call)) → draws_made (with_ticked history now ticked) ≡ draws_made history
 ticked_draws history now None = refl
-ticked_draws history now (Some calls) = append-nil (draws history)
+ticked_draws history now (Some calls) = append-nil (draws_made history)
 
 ticked_causes : (history : List BoardEntry) (now : ℕ) (then later : Outside) → HaveCauses then history → then.port_faults ≡ later.port_faults → then.key_faults ≡ later.key_faults
     → then.port_faults_now ≤ later.port_faults_now → then.key_faults_now ≤ later.key_faults_now → (ticked : Option (List Call)) → HaveCauses later (with_ticked history now ticked)
 ticked_causes history now then later causes p q port key None entry given i is = caused_later then later given p q port key (causes entry given i is)
 ticked_causes history now then later causes p q port key (Some calls) entry given (here same) is =
-    absurd (let told : Some given ≡ None = sym is ∙ ap (λ (e : BoardEntry). given_in e.event) same in cc)
+    absurd (let shown : Some given ≡ None = sym is ∙ ap (λ (e : BoardEntry). given_in e.event) same in cc)
 ticked_causes history now then later causes p q port key (Some calls) entry given (there i) is = caused_later then later given p q port key (causes entry given i is)
 
 -- no turn yet
@@ -151,8 +151,8 @@ begins config threads range rows outside none board link timer opened drew = rec
 
 module _ {M I O : Type 0} {g : _} where
   -- a turn that ends the run makes no entry
-  ends_idle : (config : Config) (old new : Hand M (Part I O) Made (Unit {0}) g) (now : ℕ) (answer : ControlTurn) (made : Option Hearing) (ended : Status)
-      → Some ended ≡ status_after answer → Follows config old new now answer made → (made ≡ None) × (new ≡ old)
+  ends_idle : (config : Config) (old new : Hand M (Part I O) Made (Unit {0}) g) (now : ℕ) (answer : ControlTurn) (made : Option RequestRecord) (ended : Status)
+      → Some ended ≡ status_after answer → FollowsTake config old new now answer made → (made ≡ None) × (new ≡ old)
   ends_idle config old new now answer None ended ends follows = (refl, follows.1)
   ends_idle config old new now answer (Some x) ended ends follows =
       absurd (let k : true ≡ false = sym follows.0 ∙ not_answered answer ended ends in cc)
@@ -160,16 +160,16 @@ module _ {M I O : Type 0} {g : _} where
   module _ (config : Config) (threads : ℕ) (range : Option (ℕ × ℕ)) (turns : Turns M (Part I O) Made (Unit {0})) (old mid : Hand M (Part I O) Made (Unit {0}) g) (counts next : Counts) (now : ℕ)
       (answer : ControlTurn) (since : Option ℕ)
       (l0 l1 l2 : Option (List LinkCall)) (t0 t1 t2 : Option (List ℕ)) (o0 o1 o2 : Option (List PortCall)) (k0 k1 k2 : Option (List KeyCall)) (p0 p1 p2 q0 q1 q2 : ℕ)
-      (next_is : next ≡ sum_of counts (turn_counts answer)) (before : IsBetween config turns old) (after : IsBetween config turns mid)
+      (next_is : next ≡ sum_of_counts counts (turn_counts answer)) (before : IsBetween config turns old) (after : IsBetween config turns mid)
       (running : Running config threads range (entries old) counts since
       (record { link = l0; link_now = l1; timer = t0; timer_now = t1; opened = o0; opened_now = o1; drew = k0; drew_now = k1; port_faults = p0; port_faults_now = p1; key_faults = q0; key_faults_now = q1 }))
       (asked : Gains t1 t2 now) (turned : Turned config old mid now answer p1 p2 q1 q2 o1 o2 k1 k2 l1 l2)
-      (ties : Ties config o1 o2 (entries old) (entries mid))
+      (ties : PortsFollowRows config o1 o2 (entries old) (entries mid))
       (p_low : p0 ≤ p1) (q_low : q0 ≤ q1) (p_later : p1 ≤ p2) (q_later : q1 ≤ q2) where
     abbrev h : List BoardEntry
     h = history_after config running.rounds
 
-    abbrev made : Option Hearing
+    abbrev made : Option RequestRecord
     made = turned.made
 
     -- the history after the turn
@@ -204,7 +204,7 @@ module _ {M I O : Type 0} {g : _} where
     tied : Gained o0 o2 (AreTied config (entries mid))
     tied = more_tied config o0 o1 o2 (entries old) (entries mid) running.tied ties
 
-    keys : Gave k0 k2 (draws h2)
+    keys : Gave k0 k2 (draws_made h2)
     keys = drew_for config h now made p1 p2 q1 q2 o1 o2 k0 k1 k2 running.keys given
 
     causes : HaveCauses out h2
@@ -217,9 +217,9 @@ module _ {M I O : Type 0} {g : _} where
     module _ (next_since : ℕ) (swept new : Hand M (Part I O) Made (Unit {0}) g) (o3 : Option (List PortCall)) (p3 : ℕ) (goes : None ≡ status_after answer)
         (same : board_of (made_by swept) ≡ board_of (made_by mid)) (sweep : AddsSweep config threads range (entries mid) (entries swept))
         (swept_between : IsBetween config turns swept) (new_between : IsBetween config turns new) (ticks : TicksWhenDue config swept new since now)
-        (since_now : next_since ≡ cond (is_second_later since now) now (unwrap_or since now)) (closes : Gained o2 o3 OpensNone)
-        (tick_ties : Ties config o2 o3 (entries swept) (entries new)) (p_tick : p2 ≤ p3) where
-      abbrev r : Round
+        (since_now : next_since ≡ cond (is_second_later since now) now (unwrap_or since now)) (closes : Gained o2 o3 NoneOpened)
+        (tick_ties : PortsFollowRows config o2 o3 (entries swept) (entries new)) (p_tick : p2 ≤ p3) where
+      abbrev r : ControlRound
       r = record { handed = now; answer = answer; heard = made; ticked = ticks.ticked }
 
       abbrev out3 : Outside
@@ -245,7 +245,7 @@ module _ {M I O : Type 0} {g : _} where
         board_is =
             board_ticked config turns swept new now ticks.ticked swept_between new_between ticks.did
             ∙ ap (λ (k : List BoardEntry). with_ticked k now ticks.ticked) swept_board;
-        counts_are = next_is ∙ ap (λ (n : Counts). sum_of n (turn_counts answer)) running.counts_are;
+        counts_are = next_is ∙ ap (λ (n : Counts). sum_of_counts n (turn_counts answer)) running.counts_are;
         since_is =
             ap (λ (m : ℕ). Some m) since_now
             ∙ ap (λ (s : Option ℕ). Some (cond (is_second_later s now) now (unwrap_or s now))) running.since_is
@@ -269,12 +269,12 @@ module _ {M I O : Type 0} {g : _} where
       idle = ends_idle config old mid now answer made ended ends turned.follows
 
       counts_stay : next ≡ counts
-      counts_stay = next_is ∙ ap (λ (n : Counts). sum_of counts n) (ends_uncounted answer ended ends) ∙ sum_none counts
+      counts_stay = next_is ∙ ap (λ (n : Counts). sum_of_counts counts n) (ends_uncounted answer ended ends) ∙ sum_none counts
 
       -- its calls are those of a take
       calls : (xs ys : List LinkCall) → AreExchanges config running.rounds xs → DidTurn config h now answer made ys → AreCalls config [] running.rounds ended (xs ++ ys)
       calls xs ys x y =
-          let take : ys ≡ last_take ended = ends_with config h now answer ended ys ends (subst (λ (m : Option Hearing). DidTurn config h now answer m ys) idle.0 y) in
+          let take : ys ≡ last_take ended = ends_with config h now answer ended ys ends (subst (λ (m : Option RequestRecord). DidTurn config h now answer m ys) idle.0 y) in
           record {
             more = xs;
             exchanges = x;
@@ -286,17 +286,17 @@ module _ {M I O : Type 0} {g : _} where
       turn_ends = record {
         rounds = running.rounds;
         last = now ∷ [];
-        are_rounds = subst (λ (k : Hand M (Part I O) Made (Unit {0}) g). AreRounds config threads range running.rounds (entries k)) (sym idle.1) running.are_rounds;
+        are_rounds = subst (λ (k : Hand M (Part I O) Made (Unit {0}) g). AreControlRounds config threads range running.rounds (entries k)) (sym idle.1) running.are_rounds;
         board_is = ap (λ (k : Hand M (Part I O) Made (Unit {0}) g). board_of (made_by k)) idle.1 ∙ running.board_is;
         counts_are = counts_stay ∙ running.counts_are;
         has_ended = subst (λ (n : Counts). HasEnded ended limit n.turns) (sym counts_stay) (ends_below limit counts.turns answer ended ends below);
         last_is = one_take answer ended ends;
-        told = record {
+        log = record {
           link = gained_both l0 l1 l2 (AreExchanges config running.rounds) (DidTurn config h now answer made) (AreCalls config [] running.rounds ended) calls running.link did;
           timer = timer;
-          ports = subst (λ (m : Option Hearing). Gained o0 o2 (OpensBy config (with_entry h (entry_due config h now m)))) idle.0 ports;
-          keys = subst (λ (m : Option Hearing). Gave k0 k2 (draws (with_entry h (entry_due config h now m)))) idle.0 keys;
-          causes = subst (λ (m : Option Hearing). HaveCauses out (with_entry h (entry_due config h now m))) idle.0 causes;
+          ports = subst (λ (m : Option RequestRecord). Gained o0 o2 (OpensBy config (with_entry h (entry_due config h now m)))) idle.0 ports;
+          keys = subst (λ (m : Option RequestRecord). Gave k0 k2 (draws_made (with_entry h (entry_due config h now m)))) idle.0 keys;
+          causes = subst (λ (m : Option RequestRecord). HaveCauses out (with_entry h (entry_due config h now m))) idle.0 causes;
         };
         tied = tied;
       }
@@ -312,7 +312,7 @@ turns_spent config threads range rows counts since outside limit spent running =
   counts_are = running.counts_are;
   has_ended = spent;
   last_is = refl;
-  told = record {
+  log = record {
     link =
         gained_less outside.link outside.link_now (AreExchanges config running.rounds) (AreCalls config [] running.rounds status.TurnsSpent)
         (λ xs x. record {

@@ -13,12 +13,12 @@ use Rattle.turn_table.specs.declared.hands.Hand.{Hand}
 use Rattle.turn_table.specs.Hands.{IsHandOf, IsCut, view, entries, parts}
 use Rattle.relay_core.specs.declared.part.Part.{Part}
 use Rattle.relay_core.specs.declared.machine.Relay.{Relay}
-use Rattle.relay_core.specs.Made.{Made}
+use Rattle.relay_core.specs.Records.{Made}
 use Rattle.media_lane.specs.Lanes.{hand_in, config_in, index_in, lanes_in}
-use Rattle.media_lane.specs.Visits.{AreTotals, one_if}
+use Rattle.media_lane.specs.Visits.{AreTotals, one_where}
 use Rattle.relay_runs.specs.declared.lanes.OwnLane.{OwnLane}
-use Rattle.relay_runs.specs.declared.threads.MediaThread.{MediaThread}
-use Rattle.relay_runs.specs.Threads.{AreNumbers, HasRoom, AddsLane, all_lanes, numbers_of, IsFresh}
+use Rattle.relay_runs.specs.declared.media_thread.MediaThread.{MediaThread}
+use Rattle.relay_runs.specs.Threads.{AreNumbers, HasRoomForLanes, AddsLane, all_lanes, numbers_of, IsFreshLane}
 
 -- A fact of each element of a list, of which one is another.
 module _ {X : Type 0} (P : X → Type 0) (xs : List X) (at : ℕ) (y : X) where
@@ -32,7 +32,7 @@ module _ {X : Type 0} (P : X → Type 0) (xs : List X) (at : ℕ) (y : X) where
 
 -- Tests.
 
-one_more : (i n : ℕ) → one_if (nat_lt i n) + one_if (n == i) ≡ one_if (nat_lt i (n + 1))
+one_more : (i n : ℕ) → one_where (nat_lt i n) + one_where (n == i) ≡ one_where (nat_lt i (n + 1))
 one_more i n =
     elim (cases_lt i n) [
       | inl h ↦ below (nat_lt i n) (n == i) (nat_lt i (n + 1)) (grind (arith, nat_tests)) (grind (arith, nat_tests)) (grind (arith, nat_tests))
@@ -43,28 +43,28 @@ one_more i n =
           ]
     ]
   where
-    below : (x y z : Bool) → x ≡ true → y ≡ false → z ≡ true → one_if x + one_if y ≡ one_if z
+    below : (x y z : Bool) → x ≡ true → y ≡ false → z ≡ true → one_where x + one_where y ≡ one_where z
     below true false true p q r = refl
     below true false false p q r = absurd (cc)
     below true true z p q r = absurd (cc)
     below false y z p q r = absurd (cc)
 
-    here_now : (x y z : Bool) → x ≡ false → y ≡ true → z ≡ true → one_if x + one_if y ≡ one_if z
+    here_now : (x y z : Bool) → x ≡ false → y ≡ true → z ≡ true → one_where x + one_where y ≡ one_where z
     here_now false true true p q r = refl
     here_now false true false p q r = absurd (cc)
     here_now false false z p q r = absurd (cc)
     here_now true y z p q r = absurd (cc)
 
-    above : (x y z : Bool) → x ≡ false → y ≡ false → z ≡ false → one_if x + one_if y ≡ one_if z
+    above : (x y z : Bool) → x ≡ false → y ≡ false → z ≡ false → one_where x + one_where y ≡ one_where z
     above false false false p q r = refl
     above false false true p q r = absurd (cc)
     above false true z p q r = absurd (cc)
     above true y z p q r = absurd (cc)
 
-none_below : (i : ℕ) → 0 ≡ one_if (nat_lt i 0)
+none_below : (i : ℕ) → 0 ≡ one_where (nat_lt i 0)
 none_below i = case (nat_lt i 0) (grind (arith, nat_tests))
   where
-    case : (b : Bool) → b ≡ false → 0 ≡ one_if b
+    case : (b : Bool) → b ≡ false → 0 ≡ one_where b
     case false q = refl
     case true q = absurd (cc)
 
@@ -111,10 +111,10 @@ module _ {I O : Type 0} {gi : _} {go : _} {gm : _} where
       let before = length-append x.lanes.items (all_lanes xs) in
       omega (arith, all, rest, before)
 
-  one_time : (n k : ℕ) (own : OwnLane I O gi go gm) → index_in own.lane ≡ n → times k (own ∷ []) ≡ one_if (n == k)
+  one_time : (n k : ℕ) (own : OwnLane I O gi go gm) → index_in own.lane ≡ n → times k (own ∷ []) ≡ one_where (n == k)
   one_time n k own is = ap (λ (m : ℕ). count_by (λ (j : ℕ). j == k) (m ∷ [])) is ∙ counted (n == k)
     where
-      counted : (b : Bool) → 0 + one_if b ≡ one_if b
+      counted : (b : Bool) → 0 + one_where b ≡ one_where b
       counted true = refl
       counted false = refl
 
@@ -124,7 +124,7 @@ module _ {I O : Type 0} {gi : _} {go : _} {gm : _} where
       ap (λ (ts : List (MediaThread I O gi go gm)). times i (all_lanes ts)) adds.new_is
       ∙ times_set i xs at adds.grown own lt adds.lanes_are
       ∙ ap (λ (k : ℕ). k + times i (own ∷ [])) (once i)
-      ∙ ap (λ (k : ℕ). one_if (nat_lt i n) + k) (one_time n i own is)
+      ∙ ap (λ (k : ℕ). one_where (nat_lt i n) + k) (one_time n i own is)
       ∙ one_more i n
 
   pub long_more : (xs zs : List (MediaThread I O gi go gm)) (at : ℕ) (own : OwnLane I O gi go gm) → at < length xs → AddsLane at own xs zs → length (all_lanes zs) ≡ length (all_lanes xs) + 1
@@ -159,12 +159,12 @@ module _ {I O : Type 0} {gi : _} {go : _} {gm : _} where
 
   -- Threads without a lane.
 
-  no_lanes : (lanes : ℕ) (xs : List (MediaThread I O gi go gm)) → All (λ (thread : MediaThread I O gi go gm). HasRoom lanes thread) xs → all_lanes xs ≡ []
+  no_lanes : (lanes : ℕ) (xs : List (MediaThread I O gi go gm)) → All (λ (thread : MediaThread I O gi go gm). HasRoomForLanes lanes thread) xs → all_lanes xs ≡ []
   no_lanes lanes [] all = refl
   no_lanes lanes (x ∷ xs) all =
       ap (λ (zs : List (OwnLane I O gi go gm)). zs ++ all_lanes xs) (all 0 x (omega arith)).empty ∙ no_lanes lanes xs (λ i d lt. all (suc i) d (omega (arith, lt)))
 
-  module _ (lanes : ℕ) (xs : List (MediaThread I O gi go gm)) (all : All (λ (thread : MediaThread I O gi go gm). HasRoom lanes thread) xs) where
+  module _ (lanes : ℕ) (xs : List (MediaThread I O gi go gm)) (all : All (λ (thread : MediaThread I O gi go gm). HasRoomForLanes lanes thread) xs) where
     pub no_fresh : (P : OwnLane I O gi go gm → Type 0) → All (λ (thread : MediaThread I O gi go gm). All P thread.lanes.items) xs
     no_fresh P i d lt = subst (λ (zs : List (OwnLane I O gi go gm)). All P zs) (sym (all i d lt).empty) (All-nil P)
 
@@ -180,7 +180,7 @@ module _ {I O : Type 0} {gi : _} {go : _} {gm : _} where
 -- A lane of a part of the main hand.
 module _ {I O : Type 0} {gi : _} {go : _} {gm : _} (config : Config) (turns : Turns (Relay I O) (Part I O) Made (Unit {0})) where
   pub cut_fresh : (lanes : ℕ) (hand part : Hand (Relay I O) (Part I O) Made (Unit {0}) gm) (x : OwnLane I O gi go gm) → IsHandOf turns hand → IsCut hand part → hand_in x.lane ≡ part
-      → config_in x.lane ≡ config → lanes_in x.lane ≡ lanes → AreTotals [] x.totals → IsFresh config turns lanes x
+      → config_in x.lane ≡ config → lanes_in x.lane ≡ lanes → AreTotals [] x.totals → IsFreshLane config turns lanes x
   cut_fresh lanes hand part x of_table cut hand_is config_is lanes_are no_totals = record {
     of_table = subst (λ (h : Hand (Relay I O) (Part I O) Made (Unit {0}) gm). IsHandOf turns h) (sym hand_is) (cut.0 ∙ of_table);
     one_part = subst (λ (h : Hand (Relay I O) (Part I O) Made (Unit {0}) gm). parts h ≡ 1) (sym hand_is) cut.3;

@@ -13,28 +13,28 @@ use Rattle.turn_table.specs.Hands.{IsLeft}
 use Rattle.relay_core.specs.declared.part.Part.{Part}
 use Rattle.relay_core.specs.declared.machine.Relay.{Relay}
 use Rattle.relay_core.specs.Entries.{Entry}
-use Rattle.relay_core.specs.Beginning.{AreParts}
-use Rattle.relay_core.specs.Handed.{IsHanded}
-use Rattle.relay_core.specs.Joining.{TakesOwnPairs, IsLane as IsLaneRows, IsSound}
+use Rattle.relay_core.specs.FirstPlaces.{AreParts}
+use Rattle.relay_core.specs.NestedMoments.{IsHanded}
+use Rattle.relay_core.specs.Joins.{TakesOwnPairs, IsLaneRows as IsLaneRows, IsSound}
 use Rattle.relay_core.specs.Legal.{Orderly}
-use Rattle.relay_core.specs.Recorded.{AreReturned}
-use Rattle.relay_core.specs.Made.{Made, entry_of, list_of}
-use Rattle.relay_core.specs.Turning.{Numbered, IsOfLane, IsReceiving}
+use Rattle.relay_core.specs.ReturnedPairs.{AreReturned}
+use Rattle.relay_core.specs.Records.{Made, entry_of, list_of}
+use Rattle.relay_core.specs.Turns.{Numbered, IsOfLane, IsReceiving}
 use Rattle.relay_core.proofs.Joins.{joined, row_append}
 use Rattle.media_lane.specs.declared.answers.Totals.{Totals}
-use Rattle.media_lane.specs.Lanes.{config_in, index_in, lanes_in, list_in}
-use Rattle.media_lane.specs.Looping.{AddsTotals, AreSweeps, visits_of}
+use Rattle.media_lane.specs.Lanes.{config_in, index_in, lanes_in, lane_list}
+use Rattle.media_lane.specs.SweepLoops.{AddsTotals, AreSweeps, visits_of}
 use Rattle.media_lane.specs.Receipts.{KeepsList}
 use Rattle.media_lane.specs.Visits.{Row, Visit, ArePassed, all_rows}
-use Rattle.media_lane.specs.Gated.{AreGated}
+use Rattle.media_lane.specs.Gates.{AreGated}
 use Rattle.media_lane.proofs.Gates.{gated_none, gated_more, gated_both}
 use Rattle.board_turns.specs.Between.{IsBetween}
 use Rattle.media_lane.specs.Totals.{HasTotals}
 use Rattle.media_lane.proofs.Sweeps.{rows_in, visits_totals}
 use Rattle.relay_runs.specs.declared.lanes.OwnLane.{OwnLane}
-use Rattle.relay_runs.specs.declared.threads.MediaThread.{MediaThread}
+use Rattle.relay_runs.specs.declared.media_thread.MediaThread.{MediaThread}
 use Rattle.relay_runs.specs.Rounds.{IsLane, AreLanes, all_of}
-use Rattle.relay_runs.specs.Threads.{AreNumbers, AreInOrder, rows_of, all_lanes, numbers_of, rows_each, AreOfTable, MayJoin, AddsEach, IsFresh, Swept, IsDone, Each}
+use Rattle.relay_runs.specs.Threads.{AreNumbers, AreInOrder, lane_rows, all_lanes, numbers_of, rows_each, AreOfTable, MayJoin, AddsEach, IsFreshLane, Swept, IsDone, Each}
 
 -- Visits of several sweeps.
 
@@ -91,7 +91,7 @@ module _ {I O : Type 0} {gi : _} {go : _} {gm : _} where
   numbers_same range gate (x ∷ xs) (y ∷ ys) swept =
       ap (λ (n : ℕ). n ∷ numbers_of ys) swept.0.same.index_is ∙ ap (λ (ns : List ℕ). index_in x.lane ∷ ns) (numbers_same range gate xs ys swept.1)
 
-  pub own_of_table : (turns : Turns (Relay I O) (Part I O) Made (Unit {0})) (config : Config) (lanes : ℕ) (xs : List (MediaThread I O gi go gm)) → AllOwn (λ (own : OwnLane I O gi go gm). IsFresh config turns lanes own) xs
+  pub own_of_table : (turns : Turns (Relay I O) (Part I O) Made (Unit {0})) (config : Config) (lanes : ℕ) (xs : List (MediaThread I O gi go gm)) → AllOwn (λ (own : OwnLane I O gi go gm). IsFreshLane config turns lanes own) xs
       → All (λ (thread : MediaThread I O gi go gm). AreOfTable turns thread.lanes.items) xs
   own_of_table turns config lanes xs fresh i d lt j e le = (fresh i d lt j e le).of_table
 
@@ -101,7 +101,7 @@ module _ {I O : Type 0} {gi : _} {go : _} {gm : _} (config : Config) (turns : Tu
   abbrev pub IsOneDone : OwnLane I O gi go gm → Type 0
   IsOneDone own = IsDone config turns lanes range gate own
 
-  lane_done : (old new : OwnLane I O gi go gm) → IsFresh config turns lanes old → Swept 1 range gate old new → IsOneDone new
+  lane_done : (old new : OwnLane I O gi go gm) → IsFreshLane config turns lanes old → Swept 1 range gate old new → IsOneDone new
   lane_done old new fresh swept = record {
     of_table = swept.same.hand.0 ∙ fresh.of_table;
     one_part = swept.same.hand.2 ∙ fresh.one_part;
@@ -120,23 +120,23 @@ module _ {I O : Type 0} {gi : _} {go : _} {gm : _} (config : Config) (turns : Tu
     };
     totals_are = swept.totals_are [] fresh.no_totals;
     keeps =
-        subst (λ (k : Config). KeepsList k [] (list_in new.lane)) fresh.config_is
-        (subst (λ (rows : List Row). KeepsList (config_in old.lane) (list_of rows) (list_in new.lane)) fresh.nothing swept.keeps);
-    gated = gated_more gate (list_in old.lane) (list_in new.lane) (gated_none gate (list_in old.lane) (ap (λ (rows : List Row). list_of rows) fresh.nothing)) swept.gated;
+        subst (λ (k : Config). KeepsList k [] (lane_list new.lane)) fresh.config_is
+        (subst (λ (rows : List Row). KeepsList (config_in old.lane) (list_of rows) (lane_list new.lane)) fresh.nothing swept.keeps);
+    gated = gated_more gate (lane_list old.lane) (lane_list new.lane) (gated_none gate (lane_list old.lane) (ap (λ (rows : List Row). list_of rows) fresh.nothing)) swept.gated;
   }
 
-  done_of_lane : (x : OwnLane I O gi go gm) → IsOneDone x → (row : Row) → table_lists.In row (rows_of x) → IsOfLane row.event.event
+  done_of_lane : (x : OwnLane I O gi go gm) → IsOneDone x → (row : Row) → table_lists.IsMemberOf row (lane_rows x) → IsOfLane row.event.event
   done_of_lane x done row is_in =
-      rows_in config (visits_of done.is_lane.sweeps) row (subst (λ (rows : List Row). table_lists.In row rows) done.is_lane.rows_are is_in)
+      rows_in config (visits_of done.is_lane.sweeps) row (subst (λ (rows : List Row). table_lists.IsMemberOf row rows) done.is_lane.rows_are is_in)
 
-  done_lane : (x : OwnLane I O gi go gm) → IsOneDone x → IsLaneRows config (rows_of x)
+  done_lane : (x : OwnLane I O gi go gm) → IsOneDone x → IsLaneRows config (lane_rows x)
   done_lane x done = record {
     of_lane = done_of_lane x done;
     receiving = λ own. done.keeps.receiving own (nothing_received config);
   }
 
   done_totals : (x : OwnLane I O gi go gm) → IsOneDone x → (l : List Entry) (was is : Totals) → AddsTotals was x.totals is → HasTotals l was
-      → HasTotals (l ++ list_of (rows_of x)) is
+      → HasTotals (l ++ list_of (lane_rows x)) is
   done_totals x done l was is adds has =
       subst (λ (rows : List Row). HasTotals (l ++ list_of rows) is) (sym done.is_lane.rows_are)
       (visits_totals config range l (visits_of done.is_lane.sweeps) (all_passed config (index_in x.lane) lanes range done.is_lane.sweeps done.is_lane.are_sweeps) was x.totals is
@@ -156,7 +156,7 @@ module _ {I O : Type 0} {gi : _} {go : _} {gm : _} (config : Config) (turns : Tu
   -- where each stands at its number's place, their rows are those of all lanes, in order
   pub all_made : (xs : List (OwnLane I O gi go gm)) → AreDone xs → AreInOrder xs → length xs ≡ lanes → AreLanes config lanes range (rows_each xs)
   all_made xs done in_order long = record {
-    as_many = length-map xs (λ (own : OwnLane I O gi go gm). rows_of own) ∙ long;
+    as_many = length-map xs (λ (own : OwnLane I O gi go gm). lane_rows own) ∙ long;
     are_lanes = λ i d lt. made_at i d (omega (arith, lt, long));
   }
     where
@@ -166,16 +166,16 @@ module _ {I O : Type 0} {gi : _} {go : _} {gm : _} (config : Config) (turns : Tu
 
       made_by_lane : (i : ℕ) (d : List Row) → i < length xs → OwnLane I O gi go gm → IsLane config lanes range i (slice_index_or (rows_each xs) i d)
       made_by_lane i d lt e =
-          subst (λ (rows : List Row). IsLane config lanes range i rows) (sym (get_or-map (λ (own : OwnLane I O gi go gm). rows_of own) xs i e d lt))
-          (subst (λ (n : ℕ). IsLane config lanes range n (rows_of (slice_index_or xs i e))) (in_order i e lt) (done i e lt).is_lane)
+          subst (λ (rows : List Row). IsLane config lanes range i rows) (sym (get_or-map (λ (own : OwnLane I O gi go gm). lane_rows own) xs i e d lt))
+          (subst (λ (n : ℕ). IsLane config lanes range n (lane_rows (slice_index_or xs i e))) (in_order i e lt) (done i e lt).is_lane)
 
       made_at : (i : ℕ) (d : List Row) → i < length xs → IsLane config lanes range i (slice_index_or (rows_each xs) i d)
       made_at i d lt = made_by_lane i d lt (first_of xs i lt)
 
-  pub all_of_lane : (xs : List (OwnLane I O gi go gm)) → AreDone xs → (row : Row) → table_lists.In row (all_of (rows_each xs)) → IsOfLane row.event.event
+  pub all_of_lane : (xs : List (OwnLane I O gi go gm)) → AreDone xs → (row : Row) → table_lists.IsMemberOf row (all_of (rows_each xs)) → IsOfLane row.event.event
   all_of_lane [] done row i = elim i [ ]
   all_of_lane (x ∷ xs) done row i =
-      elim (row_append (rows_of x) (all_of (rows_each xs)) i) [
+      elim (row_append (lane_rows x) (all_of (rows_each xs)) i) [
         | inl j ↦ done_of_lane x (head_done x xs done) row j
         | inr j ↦ all_of_lane xs (tail_done x xs done) row j
       ]
@@ -184,8 +184,8 @@ module _ {I O : Type 0} {gi : _} {go : _} {gm : _} (config : Config) (turns : Tu
   pub all_sound : (xs : List (OwnLane I O gi go gm)) → AreDone xs → (rows : List Row) → IsSound config rows → IsSound config (rows ++ all_of (rows_each xs))
   all_sound [] done rows sound = subst (λ (all : List Row). IsSound config all) (sym (append-nil rows)) sound
   all_sound (x ∷ xs) done rows sound =
-      subst (λ (all : List Row). IsSound config all) (append_assoc rows (rows_of x) (all_of (rows_each xs)))
-      (all_sound xs (tail_done x xs done) (rows ++ rows_of x) (joined config rows (rows_of x) sound (done_lane x (head_done x xs done))))
+      subst (λ (all : List Row). IsSound config all) (append_assoc rows (lane_rows x) (all_of (rows_each xs)))
+      (all_sound xs (tail_done x xs done) (rows ++ lane_rows x) (joined config rows (lane_rows x) sound (done_lane x (head_done x xs done))))
 
   -- and their counts are those of all
   pub all_totals : (xs : List (OwnLane I O gi go gm)) → AreDone xs → (rows : List Row) (was is : Totals) → AddsEach xs was is → HasTotals (list_of rows) was
@@ -193,22 +193,22 @@ module _ {I O : Type 0} {gi : _} {go : _} {gm : _} (config : Config) (turns : Tu
   all_totals [] done rows was is adds has =
       subst (λ (all : List Row). HasTotals (list_of all) is) (sym (append-nil rows)) (subst (λ (t : Totals). HasTotals (list_of rows) t) (sym adds) has)
   all_totals (x ∷ xs) done rows was is adds has =
-      subst (λ (all : List Row). HasTotals (list_of all) is) (append_assoc rows (rows_of x) (all_of (rows_each xs)))
-      (all_totals xs (tail_done x xs done) (rows ++ rows_of x) adds.0 is adds.2
-      (subst (λ (l : List Entry). HasTotals l adds.0) (sym (map-append entry_of rows (rows_of x))) (done_totals x (head_done x xs done) (list_of rows) was adds.0 adds.1 has)))
+      subst (λ (all : List Row). HasTotals (list_of all) is) (append_assoc rows (lane_rows x) (all_of (rows_each xs)))
+      (all_totals xs (tail_done x xs done) (rows ++ lane_rows x) adds.0 is adds.2
+      (subst (λ (l : List Entry). HasTotals l adds.0) (sym (map-append entry_of rows (lane_rows x))) (done_totals x (head_done x xs done) (list_of rows) was adds.0 adds.1 has)))
 
   -- and the gate was passed at the cell of each relay
   pub all_gated : (xs : List (OwnLane I O gi go gm)) → AreDone xs → AreGated gate (list_of (all_of (rows_each xs)))
   all_gated [] done = gated_none gate [] refl
   all_gated (x ∷ xs) done =
-      subst (λ (l : List Entry). AreGated gate l) (sym (map-append entry_of (rows_of x) (all_of (rows_each xs))))
-      (gated_both gate (list_of (rows_of x)) (list_of (all_of (rows_each xs))) (head_done x xs done).gated (all_gated xs (tail_done x xs done)))
+      subst (λ (l : List Entry). AreGated gate l) (sym (map-append entry_of (lane_rows x) (all_of (rows_each xs))))
+      (gated_both gate (list_of (lane_rows x)) (list_of (all_of (rows_each xs))) (head_done x xs done).gated (all_gated xs (tail_done x xs done)))
 
 -- Each lane that was made and did its work is done: xs are the threads before their work, and ys after it.
 
 module _ {I O : Type 0} {gi : _} {go : _} {gm : _} (config : Config) (turns : Turns (Relay I O) (Part I O) Made (Unit {0})) (lanes : ℕ) (range : Option (ℕ × ℕ))
     (gate : ℕ → Type 0) (xs ys : List (MediaThread I O gi go gm)) (long : length ys ≡ length xs)
-    (fresh : All (λ (thread : MediaThread I O gi go gm). All (λ (own : OwnLane I O gi go gm). IsFresh config turns lanes own) thread.lanes.items) xs)
+    (fresh : All (λ (thread : MediaThread I O gi go gm). All (λ (own : OwnLane I O gi go gm). IsFreshLane config turns lanes own) thread.lanes.items) xs)
     (worked : (i : ℕ) (d : MediaThread I O gi go gm) → i < length xs → Each (Swept 1 range gate) (slice_index_or xs i d).lanes.items (slice_index_or ys i d).lanes.items) where
   swept : AllZip (Swept 1 range gate) (all_lanes xs) (all_lanes ys)
   swept = zip_lanes (Swept 1 range gate) xs ys (zip_each (λ (x y : MediaThread I O gi go gm). Each (Swept 1 range gate) x.lanes.items y.lanes.items) xs ys long worked)
@@ -249,14 +249,14 @@ pub record HaveWorked {I O : Type 0} {gi : _} {go : _} {gm : _} (config : Config
 -- by what was known of them before it, under other names of configuration, table and number
 pub have_worked : {I O : Type 0} {gi : _} {go : _} {gm : _} (config config' : Config) (turns turns' : Turns (Relay I O) (Part I O) Made (Unit {0})) (lanes lanes' : ℕ) (range : Option (ℕ × ℕ))
     (gate : ℕ → Type 0) (xs ys : List (MediaThread I O gi go gm)) → config' ≡ config → turns' ≡ turns → lanes' ≡ lanes → length ys ≡ length xs
-    → AllOwn (λ (own : OwnLane I O gi go gm). IsFresh config' turns' lanes' own) xs → AreNumbers lanes' (numbers_of (all_lanes xs)) → length (all_lanes xs) ≡ lanes'
+    → AllOwn (λ (own : OwnLane I O gi go gm). IsFreshLane config' turns' lanes' own) xs → AreNumbers lanes' (numbers_of (all_lanes xs)) → length (all_lanes xs) ≡ lanes'
     → ((i : ℕ) (d : MediaThread I O gi go gm) → i < length xs → Each (Swept 1 range gate) (slice_index_or xs i d).lanes.items (slice_index_or ys i d).lanes.items)
     → HaveWorked config turns lanes range gate xs ys
 have_worked {I} {O} {gi} {go} {gm} config config' turns turns' lanes lanes' range gate xs ys config_is turns_are lanes_are long before once count worked =
-    let fresh : AllOwn (λ (own : OwnLane I O gi go gm). IsFresh config turns lanes own) xs =
-    subst (λ (n : ℕ). AllOwn (λ (own : OwnLane I O gi go gm). IsFresh config turns n own) xs) lanes_are
-    (subst (λ (t : Turns (Relay I O) (Part I O) Made (Unit {0})). AllOwn (λ (own : OwnLane I O gi go gm). IsFresh config t lanes' own) xs) turns_are
-    (subst (λ (k : Config). AllOwn (λ (own : OwnLane I O gi go gm). IsFresh k turns' lanes' own) xs) config_is before)) in
+    let fresh : AllOwn (λ (own : OwnLane I O gi go gm). IsFreshLane config turns lanes own) xs =
+    subst (λ (n : ℕ). AllOwn (λ (own : OwnLane I O gi go gm). IsFreshLane config turns n own) xs) lanes_are
+    (subst (λ (t : Turns (Relay I O) (Part I O) Made (Unit {0})). AllOwn (λ (own : OwnLane I O gi go gm). IsFreshLane config t lanes' own) xs) turns_are
+    (subst (λ (k : Config). AllOwn (λ (own : OwnLane I O gi go gm). IsFreshLane k turns' lanes' own) xs) config_is before)) in
     let many : length (all_lanes ys) ≡ length (all_lanes xs) = as_many config turns lanes range gate xs ys long fresh worked in
     let all : length (all_lanes ys) ≡ lanes = many ∙ count ∙ lanes_are in
     record {
@@ -300,7 +300,7 @@ all_reversed {X} P xs zs is all = subst (λ (ys : List X). All P ys) (sym is) (a
 module _ {I O : Type 0} {gi : _} {go : _} {gm : _} where
   rows_both : (xs ys : List (OwnLane I O gi go gm)) → all_of (rows_each (xs ++ ys)) ≡ all_of (rows_each xs) ++ all_of (rows_each ys)
   rows_both [] ys = refl
-  rows_both (x ∷ xs) ys = ap (λ (rows : List Row). rows_of x ++ rows) (rows_both xs ys) ∙ sym (append_assoc (rows_of x) (all_of (rows_each xs)) (all_of (rows_each ys)))
+  rows_both (x ∷ xs) ys = ap (λ (rows : List Row). lane_rows x ++ rows) (rows_both xs ys) ∙ sym (append_assoc (lane_rows x) (all_of (rows_each xs)) (all_of (rows_each ys)))
 
   adds_both : (xs ys : List (OwnLane I O gi go gm)) (a b c : Totals) → AddsEach xs a b → AddsEach ys b c → AddsEach (xs ++ ys) a c
   adds_both [] ys a b c first second = subst (λ (t : Totals). AddsEach ys t c) first second
@@ -312,10 +312,10 @@ module _ {I O : Type 0} {gi : _} {go : _} {gm : _} (xs ys : List (OwnLane I O gi
   pub all_left : (P : OwnLane I O gi go gm → Type 0) → All P xs → All P ys × P x
   all_left P all = All-pop P xs ys (Some x) is all
 
-  pub next_list : (before after all : List Row) → after ≡ before ++ rows_of x → before ++ all_of (rows_each (reverse xs)) ≡ all → after ++ all_of (rows_each (reverse ys)) ≡ all
+  pub next_list : (before after all : List Row) → after ≡ before ++ lane_rows x → before ++ all_of (rows_each (reverse xs)) ≡ all → after ++ all_of (rows_each (reverse ys)) ≡ all
   next_list before after all gains so_far =
       ap (λ (rows : List Row). rows ++ all_of (rows_each (reverse ys))) gains
-      ∙ append_assoc before (rows_of x) (all_of (rows_each (reverse ys)))
+      ∙ append_assoc before (lane_rows x) (all_of (rows_each (reverse ys)))
       ∙ ap (λ (zs : List (OwnLane I O gi go gm)). before ++ all_of (rows_each zs)) (sym (next_reversed xs ys x is))
       ∙ so_far
 

@@ -10,18 +10,18 @@ use Rattle.port_pool.specs.Boxes.{Open, Take, Close}
 use Rattle.call_cell.specs.Cells.{Prepare, Commit, Relay, Expire, Read, End}
 use Rattle.call_board.specs.Acts.{BoardEntry}
 use Rattle.relay_core.specs.Entries.{Event, Board, Cell, Box, Entry, is_nested, board_at}
-use Rattle.relay_core.specs.Made.{entry_of, list_of}
-use Rattle.relay_core.specs.Told.{InOrder}
-use Rattle.relay_core.specs.Turning.{IsAbove, IsOfLane}
+use Rattle.relay_core.specs.Records.{entry_of, list_of}
+use Rattle.relay_core.specs.EndLogs.{InOrder}
+use Rattle.relay_core.specs.Turns.{IsAbove, IsOfLane}
 use Rattle.relay_core.proofs.Joins.{row_append}
 use Rattle.relay_core.proofs.Own.{in_rows}
 use Rattle.relay_core.proofs.Turns.{before_left, before_right}
 use Rattle.media_lane.specs.declared.answers.Totals.{Totals}
-use Rattle.media_lane.specs.Looping.{visits_of}
+use Rattle.media_lane.specs.SweepLoops.{visits_of}
 use Rattle.media_lane.specs.Visits.{Row}
 use Rattle.media_lane.proofs.Sweeps.{rows_in}
 use Rattle.relay_runs.specs.Loads.{IsLoadWhole}
-use Rattle.relay_runs.specs.Rounds.{Round, with_heard, tick_of, history_after, entry_due, IsBoardTurn, MakesEntry, HasSwept, SweepsAlone, AreRounds, lane_count, IsLane, AreLanes, all_of, IsWhole}
+use Rattle.relay_runs.specs.Rounds.{ControlRound, with_request, tick_of, history_after, entry_due, IsBoardTurn, MakesEntry, HasSwept, SweepsAlone, AreControlRounds, lane_count, IsLane, AreLanes, all_of, IsWhole}
 
 before_across : {A : Type 0} {x y : A} (xs ys : List A) → In x xs → In y ys → Before x y (xs ++ ys)
 before_across [] ys i j = elim i [ ]
@@ -73,7 +73,7 @@ lane_not_nested (Box Close) h = absurd h
 
 -- all are takes and relays
 abbrev pub AreOfLane : List Row → Type 0
-AreOfLane rows = (row : Row) → table_lists.In row rows → IsOfLane row.event.event
+AreOfLane rows = (row : Row) → table_lists.IsMemberOf row rows → IsOfLane row.event.event
 
 pub lanes_no_nested : (rows : List Row) → AreOfLane rows → HasNoNested (list_of rows)
 lanes_no_nested rows lanes e i =
@@ -87,12 +87,12 @@ lanes_in_order rows more lanes first =
 -- those of sweeps are
 pub sweep_of_lane : (config : Config) (threads : ℕ) (range : Option (ℕ × ℕ)) (rows : List Row) → SweepsAlone config threads range rows → AreOfLane rows
 sweep_of_lane config zero range rows swept row i =
-    rows_in config swept.visits row (subst (λ (xs : List Row). table_lists.In row xs) swept.rows_are i)
-sweep_of_lane config (suc more) range rows none row i = elim (subst (λ (xs : List Row). table_lists.In row xs) none i) [ ]
+    rows_in config swept.visits row (subst (λ (xs : List Row). table_lists.IsMemberOf row xs) swept.rows_are i)
+sweep_of_lane config (suc more) range rows none row i = elim (subst (λ (xs : List Row). table_lists.IsMemberOf row xs) none i) [ ]
 
 pub swept_of_lane : (config : Config) (index lanes : ℕ) (range : Option (ℕ × ℕ)) (rows : List Row) → HasSwept config index lanes range rows → AreOfLane rows
 swept_of_lane config index lanes range rows swept row i =
-    rows_in config swept.visits row (subst (λ (xs : List Row). table_lists.In row xs) swept.rows_are i)
+    rows_in config swept.visits row (subst (λ (xs : List Row). table_lists.IsMemberOf row xs) swept.rows_are i)
 
 -- both are
 pub both_of_lane : (xs ys : List Row) → AreOfLane xs → AreOfLane ys → AreOfLane (xs ++ ys)
@@ -105,7 +105,7 @@ each_of_lane config lanes range [] are row i = elim i [ ]
 each_of_lane config lanes range (rows ∷ more) are row i =
     let first = are 0 rows (omega arith) in
     elim (row_append rows (all_of more) i) [
-      | inl j ↦ rows_in config (visits_of first.1.sweeps) row (subst (λ (xs : List Row). table_lists.In row xs) first.1.rows_are j)
+      | inl j ↦ rows_in config (visits_of first.1.sweeps) row (subst (λ (xs : List Row). table_lists.IsMemberOf row xs) first.1.rows_are j)
       | inr j ↦ each_of_lane config lanes range more (λ k d lt. are (suc k) d (omega (arith, lt))) row j
     ]
 
@@ -146,13 +146,13 @@ module _ (config : Config) where
 
   entry_in_order : (before : List Row) (entry : Option BoardEntry) (rows : List Row) → MakesEntry config before entry rows → InOrder (list_of before)
       → InOrder (list_of (before ++ rows))
-  entry_in_order before None rows none first = lanes_in_order before rows (λ row i. elim (subst (λ (xs : List Row). table_lists.In row xs) none i) [ ]) first
+  entry_in_order before None rows none first = lanes_in_order before rows (λ row i. elim (subst (λ (xs : List Row). table_lists.IsMemberOf row xs) none i) [ ]) first
   entry_in_order before (Some e) rows turn first = turn_in_order before e rows turn first
 
   -- All rounds, and the whole run.
 
   module _ (threads : ℕ) (range : Option (ℕ × ℕ)) where
-    rounds_in_order : (rounds : List Round) (rows : List Row) → AreRounds config threads range rounds rows → InOrder (list_of rows)
+    rounds_in_order : (rounds : List ControlRound) (rows : List Row) → AreControlRounds config threads range rounds rows → InOrder (list_of rows)
     rounds_in_order [] rows none = subst (λ (xs : List Row). InOrder (list_of xs)) (sym none) nothing_in_order
     rounds_in_order (r ∷ rounds) rows are =
         let before = are.0 in
@@ -160,11 +160,11 @@ module _ (config : Config) where
         let sweep = are.2 in
         let tick = are.3 in
         subst (λ (xs : List Row). InOrder (list_of xs)) (sym are.4)
-        (entry_in_order ((before ++ turn) ++ sweep) (tick_of (with_heard config (history_after config rounds) r) r) tick are.11
+        (entry_in_order ((before ++ turn) ++ sweep) (tick_of (with_request config (history_after config rounds) r) r) tick are.11
         (lanes_in_order (before ++ turn) sweep (sweep_of_lane config threads range sweep are.10)
         (entry_in_order before (entry_due config (history_after config rounds) r.handed r.heard) turn are.9 (rounds_in_order rounds before are.8))))
 
-    pub whole_in_order : (rounds : List Round) (totals : Totals) → (whole : IsWhole config threads range rounds totals) → InOrder (list_of whole.rows)
+    pub whole_in_order : (rounds : List ControlRound) (totals : Totals) → (whole : IsWhole config threads range rounds totals) → InOrder (list_of whole.rows)
     whole_in_order rounds totals whole =
         subst (λ (xs : List Row). InOrder (list_of xs)) (sym whole.rows_are)
         (turn_in_order ((whole.in_rounds ++ all_of whole.beside) ++ whole.last_sweep) _ whole.stop whole.is_stop
@@ -173,7 +173,7 @@ module _ (config : Config) where
         (rounds_in_order rounds whole.in_rounds whole.are_rounds))))
 
     -- and a whole load
-    pub load_in_order : (rounds : List Round) (totals : Totals) → (whole : IsLoadWhole config threads range rounds totals) → InOrder (list_of whole.rows)
+    pub load_in_order : (rounds : List ControlRound) (totals : Totals) → (whole : IsLoadWhole config threads range rounds totals) → InOrder (list_of whole.rows)
     load_in_order rounds totals whole =
         subst (λ (xs : List Row). InOrder (list_of xs)) (sym whole.rows_are)
         (turn_in_order (whole.in_rounds ++ all_of whole.beside) _ whole.stop whole.is_stop

@@ -1,6 +1,6 @@
 -- A run whose link was bound: the bind, the control turns, the line of totals.
 use Rattle.std.proofs.Common.{◌≡◌, ◌∙◌, ◌⊎◌, inl, inr, ap, refl, sym, subst, ℕ, List, [], ◌∷◌, ◌++◌, Option, Some, Bool, true, false}
-use Rattle.relay_outside.specs.Told.{Gains}
+use Rattle.relay_outside.specs.DeviceLogs.{Gains}
 use Rattle.relay_outside.specs.declared.link.LinkCall.{LinkCall}
 use Rattle.relay_outside.specs.declared.link.LinkCall.TheVariants as call
 use Rattle.relay_outside.specs.declared.lines.WriteCall.{WriteCall}
@@ -14,8 +14,8 @@ use Rattle.relay_runs.specs.declared.status.Status.{Status}
 use Rattle.relay_runs.specs.declared.status.Status.TheVariants as status
 use Rattle.command_line.specs.declared.settings.Settings.{Settings}
 use Rattle.relay_runs.specs.declared.totals.Counts.{Counts}
-use Rattle.relay_runs.specs.Served.{Outside, Gave, AreCalls, DidServe, totals_line, counts_in, Counted}
-use Rattle.relay_runs.specs.Turned.{IsLoopEnd}
+use Rattle.relay_runs.specs.ServeRuns.{Outside, Gave, AreCalls, DidServe, totals_line, counts_in, Counted}
+use Rattle.relay_runs.specs.RunStates.{IsLoopEnd}
 use Rattle.relay_runs.specs.Run.{Serves, is_printed}
 use Rattle.relay_runs.proofs.Counts.{bind_counted}
 
@@ -91,14 +91,14 @@ module _ (l0 l1 l2 : Option (List LinkCall)) (t0 t1 : Option (List ℕ)) (o0 o1 
     counts_are = served.counts_are;
     has_ended = served.has_ended;
     last_is = served.last_is;
-    told = record {
+    log = record {
       link =
           gained_both l0 l1 l2 (λ xs. xs ≡ bind ∷ []) (AreCalls config [] served.rounds ended) (AreCalls config (bind ∷ []) served.rounds ended) calls
-          (gained_one l0 l1 bind (λ xs. xs ≡ bind ∷ []) bound refl) served.told.link;
-      timer = served.told.timer;
-      ports = served.told.ports;
-      keys = served.told.keys;
-      causes = λ entry given i is. (let c = served.told.causes entry given i is in record { port_fault = c.port_fault; key_fault = c.key_fault });
+          (gained_one l0 l1 bind (λ xs. xs ≡ bind ∷ []) bound refl) served.log.link;
+      timer = served.log.timer;
+      ports = served.log.ports;
+      keys = served.log.keys;
+      causes = λ entry given i is. (let c = served.log.causes entry given i is in record { port_fault = c.port_fault; key_fault = c.key_fault });
     };
     ends = served.ends;
     all_sent = served.all_sent;
@@ -108,13 +108,13 @@ module _ (l0 l1 l2 : Option (List LinkCall)) (t0 t1 : Option (List ℕ)) (o0 o1 
   -- with the line of totals, which the sink took or not
   pub bound_runs : (answer : Status) (wrote wrote_now : Option (List WriteCall)) (line : List ℕ) (done : Bool) → (answer ≡ ended) ⊎ (answer ≡ status.PrintFault)
       → line ≡ totals_line counts totals → done ≡ is_printed answer → Gains wrote wrote_now (put.Write line done) → Serves (Some settings) range gate out wrote wrote_now answer
-  bound_runs answer wrote wrote_now line done told line_is done_is gains =
+  bound_runs answer wrote wrote_now line done log line_is done_is gains =
       inr (inr (record {
         ended = ended;
         counts = counts;
         totals = totals;
         did = subst (λ (c : Config). DidServe (bind ∷ []) settings.turns c settings.threads range gate out ended counts totals) config_is bound_serves;
-        answer_is = told;
+        answer_is = log;
         line =
             gained_one wrote wrote_now (put.Write line done) (λ more. more ≡ put.Write (totals_line counts totals) (is_printed answer) ∷ []) gains
             (ap (λ (text : List ℕ). put.Write text done ∷ []) line_is ∙ ap (λ (b : Bool). put.Write (totals_line counts totals) b ∷ []) done_is);

@@ -5,7 +5,7 @@ use Rattle.relay_outside.specs.declared.keys.KeyCall.{KeyCall}
 use Rattle.relay_outside.specs.declared.link.LinkCall.{LinkCall}
 use Rattle.relay_outside.specs.declared.ports.PortCall.{PortCall}
 use Rattle.relay_outside.specs.declared.settings.Config.{Config}
-use Rattle.relay_outside.specs.Told.{Gained}
+use Rattle.relay_outside.specs.DeviceLogs.{Gained}
 use Rattle.histories.specs.Words.{In}
 use Rattle.turn_table.specs.declared.hands.Turns.{Turns}
 use Rattle.turn_table.specs.declared.hands.Hand.{Hand}
@@ -14,32 +14,32 @@ use Rattle.call_board.specs.Acts.{BoardEntry}
 use Rattle.relay_core.specs.declared.part.Part.{Part}
 use Rattle.relay_core.specs.Entries.{Entry}
 use Rattle.relay_core.specs.Legal.{Legal}
-use Rattle.relay_core.specs.Made.{Made, entry_of, list_of, told}
+use Rattle.relay_core.specs.Records.{Made, entry_of, list_of, as_logged}
 use Rattle.relay_core.specs.Safe.{Safe}
-use Rattle.relay_core.specs.Timed.{AreTimed}
-use Rattle.relay_core.specs.Told.{InOrder, InsAreTold, OutsAreTold}
-use Rattle.relay_core.specs.Turning.{Numbered, made_by}
+use Rattle.relay_core.specs.RowMoments.{AreTimed}
+use Rattle.relay_core.specs.EndLogs.{InOrder, InsAreTold, OutsAreTold}
+use Rattle.relay_core.specs.Turns.{Numbered, made_by}
 use Rattle.relay_core.proofs.Joins.{not_in_both}
 use Rattle.histories.proofs.Lists.{in_right}
-use Rattle.media_ports.specs.Held.{TellsHeld}
-use Rattle.media_ports.specs.Asked as asked
+use Rattle.media_ports.specs.OpenPorts.{LogsHeld}
+use Rattle.media_ports.specs.Openings as asked
 use Rattle.media_lane.specs.declared.answers.Totals.{Totals}
-use Rattle.media_lane.specs.Gated.{AreGated}
-use Rattle.media_lane.specs.Sweeping.{Sweeps}
+use Rattle.media_lane.specs.Gates.{AreGated}
+use Rattle.media_lane.specs.Sweeps.{Sweeps}
 use Rattle.media_lane.specs.Totals.{HasTotals}
 use Rattle.media_lane.specs.Visits.{Row, all_rows}
 use Rattle.media_lane.proofs.Counts.{turn_totals, told_totals}
 use Rattle.board_turns.specs.Between.{board_of, IsBetween, MakesTurn}
-use Rattle.board_turns.specs.Stopping.{stop_entry}
-use Rattle.board_turns.specs.Ties.{AreTied, Ties}
+use Rattle.board_turns.specs.Stops.{stop_entry}
+use Rattle.board_turns.specs.Ties.{AreTied, PortsFollowRows}
 use Rattle.board_turns.proofs.Grown.{makes_history}
 use Rattle.ng_server.proofs.Tellings.{told_board}
 use Rattle.relay_runs.specs.declared.status.Status.{Status}
 use Rattle.relay_runs.specs.declared.totals.Counts.{Counts}
-use Rattle.relay_runs.specs.Rounds.{Round, history_after, HasSwept, IsBoardTurn, AreRounds, AreLanes, lane_count, all_of, StandsAfter, IsWhole}
-use Rattle.relay_runs.specs.Served.{DidServe}
+use Rattle.relay_runs.specs.Rounds.{ControlRound, history_after, HasSwept, IsBoardTurn, AreControlRounds, AreLanes, lane_count, all_of, StandsAfter, IsWhole}
+use Rattle.relay_runs.specs.ServeRuns.{DidServe}
 use Rattle.relay_runs.specs.Threads.{CountsUp}
-use Rattle.relay_runs.specs.Turned.{DidTurns}
+use Rattle.relay_runs.specs.RunStates.{DidTurns}
 use Rattle.relay_runs.proofs.Between.{turn_parts, low_or}
 use Rattle.relay_runs.proofs.Orders.{AreOfLane, lanes_of_lane, swept_of_lane, both_of_lane, whole_in_order}
 use Rattle.relay_runs.proofs.Tied.{whole_tied}
@@ -74,15 +74,15 @@ turn_stands config before more rows e t x f i j p = by_part (turn_parts config (
 
 -- The whole run: first is the main hand after the control turns, taken that after it took in the hands of all lanes and surveyed the table, swept that
 -- after the last sweep, last that after the stop.
-module _ {M I O : Type 0} {g : _} (config : Config) (threads : ℕ) (range : Option (ℕ × ℕ)) (rounds : List Round) (totals swept_totals : Totals)
+module _ {M I O : Type 0} {g : _} (config : Config) (threads : ℕ) (range : Option (ℕ × ℕ)) (rounds : List ControlRound) (totals swept_totals : Totals)
     (turns : Turns M (Part I O) Made (Unit {0})) (first taken swept last : Hand M (Part I O) Made (Unit {0}) g) (beside : List (List Row))
-    (are : AreRounds config threads range rounds (entries first)) (history_is : board_of (made_by first) ≡ history_after config rounds)
+    (are : AreControlRounds config threads range rounds (entries first)) (history_is : board_of (made_by first) ≡ history_after config rounds)
     (lanes : AreLanes config (lane_count config threads) range beside) (taken_is : entries taken ≡ entries first ++ all_of beside)
     (counted : CountsUp (made_by taken)) (taken_history : board_of (made_by taken) ≡ board_of (made_by first))
     (s : Sweeps config 0 1 range taken swept swept_totals) (same : board_of (made_by swept) ≡ board_of (made_by taken))
     (before : IsBetween config turns swept) (after : IsBetween config turns last) (makes : MakesTurn config swept last (stop_entry (board_of (made_by swept))))
     (counts : HasTotals (made_by swept) totals)
-    (closed : (l : List Entry) × (map told l ≡ made_by last) × Legal config l × Safe config l × OutsAreTold (entries last) l) (timed : AreTimed (entries last)) where
+    (closed : (l : List Entry) × (map as_logged l ≡ made_by last) × Legal config l × Safe config l × OutsAreTold (entries last) l) (timed : AreTimed (entries last)) where
   abbrev sweep : List Row
   sweep = all_rows config s.visits
 
@@ -151,12 +151,12 @@ module _ {M I O : Type 0} {g : _} (config : Config) (threads : ℕ) (range : Opt
 
 -- With what the devices told of it.
 pub ran_whole : (limit : ℕ) (config : Config) (threads : ℕ) (range : Option (ℕ × ℕ)) (gate : ℕ → Type 0) (l0 l1 : Option (List LinkCall)) (t0 t1 : Option (List ℕ)) (o0 o1 o2 : Option (List PortCall)) (k0 k1 : Option (List KeyCall))
-    (p0 p1 p2 q0 q1 : ℕ) (ended : Status) (counts : Counts) (totals : Totals) (rows beside joined all : List Row) → p1 ≤ p2 → Gained o1 o2 asked.OpensNone
+    (p0 p1 p2 q0 q1 : ℕ) (ended : Status) (counts : Counts) (totals : Totals) (rows beside joined all : List Row) → p1 ≤ p2 → Gained o1 o2 asked.NoneOpened
     → (turns : DidTurns limit config threads range
     (record { link = l0; link_now = l1; timer = t0; timer_now = t1; opened = o0; opened_now = o1; drew = k0; drew_now = k1; port_faults = p0; port_faults_now = p1; key_faults = q0; key_faults_now = q1 })
     ended counts rows)
-    → (whole : IsWhole config threads range turns.rounds totals) × (whole.rows ≡ all) × OutsAreTold whole.rows whole.list → AreGated gate (list_of all) → Ties config o1 o2 joined all
-    → AreOfLane beside → joined ≡ rows ++ beside → (InOrder (list_of all) → InsAreTold config all) → TellsHeld config o0 [] → TellsHeld config o2 []
+    → (whole : IsWhole config threads range turns.rounds totals) × (whole.rows ≡ all) × OutsAreTold whole.rows whole.list → AreGated gate (list_of all) → PortsFollowRows config o1 o2 joined all
+    → AreOfLane beside → joined ≡ rows ++ beside → (InOrder (list_of all) → InsAreTold config all) → LogsHeld config o0 [] → LogsHeld config o2 []
     → DidServe [] limit config threads range gate
     (record { link = l0; link_now = l1; timer = t0; timer_now = t1; opened = o0; opened_now = o2; drew = k0; drew_now = k1; port_faults = p0; port_faults_now = p2; key_faults = q0; key_faults_now = q1 })
     ended counts totals
@@ -175,7 +175,7 @@ ran_whole limit config threads range gate l0 l1 t0 t1 o0 o1 o2 k0 k1 p0 p1 p2 q0
       counts_are = turns.counts_are;
       has_ended = turns.has_ended;
       last_is = turns.last_is;
-      told = run.told;
+      log = run.log;
       ends = run.ends;
       all_sent = run.all_sent;
       opens_same = run.opens_same;

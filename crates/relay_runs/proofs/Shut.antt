@@ -19,7 +19,7 @@ use Rattle.relay_core.proofs.Histories.{good_history}
 use Rattle.relay_core.proofs.Holders.{held_is_box}
 use Rattle.relay_core.proofs.Shut.{box_now, none_if}
 use Rattle.board_turns.specs.Between.{board_of}
-use Rattle.board_turns.specs.Stopping.{stop_entry}
+use Rattle.board_turns.specs.Stops.{stop_entry}
 
 -- a stop closes each leg that is held
 stop_closes : (config : Config) (h : List BoardEntry) (a : Holder) → IsFitting config h → In a (held h) → closes_leg (stop_entry h) a ≡ true

@@ -8,19 +8,19 @@ use Rattle.turn_table.specs.declared.hands.Turns.{Turns}
 use Rattle.turn_table.specs.Hands.{IsHandOf}
 use Rattle.relay_core.specs.declared.part.Part.{Part}
 use Rattle.relay_core.specs.declared.machine.Relay.{Relay}
-use Rattle.relay_core.specs.Made.{Made}
+use Rattle.relay_core.specs.Records.{Made}
 use Rattle.media_lane.specs.declared.answers.Totals.{Totals}
-use Rattle.media_lane.specs.Gated.{GainsGated}
-use Rattle.media_lane.specs.Lanes.{hand_in, list_in, config_in, index_in, lanes_in, IsSameHandOf}
-use Rattle.media_lane.specs.Looping.{AddsTotals, AreSweeps, visits_of}
+use Rattle.media_lane.specs.Gates.{GainsGated}
+use Rattle.media_lane.specs.Lanes.{hand_in, lane_list, config_in, index_in, lanes_in, IsSameHandOf}
+use Rattle.media_lane.specs.SweepLoops.{AddsTotals, AreSweeps, visits_of}
 use Rattle.media_lane.specs.Receipts.{KeepsList}
-use Rattle.media_lane.specs.Sweeping.{Sweeps}
+use Rattle.media_lane.specs.Sweeps.{Sweeps}
 use Rattle.media_lane.specs.Visits.{Row, Visit, rows_of as visit_rows, all_rows, AreTotals}
 use Rattle.media_lane.proofs.Gates.{gains_none, gains_both}
 use Rattle.media_lane.proofs.Loops.{keeps_none, totals_both}
 use Rattle.media_lane.proofs.Visiting.{keeps_more}
 use Rattle.relay_runs.specs.declared.lanes.OwnLane.{OwnLane}
-use Rattle.relay_runs.specs.Threads.{rows_of, AreOfTable, Swept, Each}
+use Rattle.relay_runs.specs.Threads.{lane_rows, AreOfTable, Swept, Each}
 use Rattle.relay_runs.proofs.Each.{each_none, each_both}
 
 visits_both : (news olds : List (List Visit)) → visits_of (news ++ olds) ≡ visits_of olds ++ visits_of news
@@ -45,17 +45,17 @@ module _ {I O : Type 0} {gi : _} {go : _} {gm : _} (range : Option (ℕ × ℕ))
     sweeps = [];
     enough = omega arith;
     are_sweeps = tt;
-    list_is = sym (append-nil (rows_of own));
+    list_is = sym (append-nil (lane_rows own));
     totals_are = λ before are. subst (λ (vs : List Visit). AreTotals vs own.totals) (sym (append-nil before)) are;
-    keeps = keeps_none (config_in own.lane) (list_in own.lane);
-    gated = gains_none gate (list_in own.lane);
+    keeps = keeps_none (config_in own.lane) (lane_list own.lane);
+    gated = gains_none gate (lane_list own.lane);
     taken = omega arith;
   }
 
   -- one sweep
   pub swept_one : (old new : OwnLane I O gi go gm) (more : Totals) → IsSameHandOf old.lane new.lane
       → Sweeps (config_in old.lane) (index_in old.lane) (lanes_in old.lane) range (hand_in old.lane) (hand_in new.lane) more
-      → KeepsList (config_in old.lane) (list_in old.lane) (list_in new.lane) → GainsGated gate (list_in old.lane) (list_in new.lane)
+      → KeepsList (config_in old.lane) (lane_list old.lane) (lane_list new.lane) → GainsGated gate (lane_list old.lane) (lane_list new.lane)
       → AddsTotals old.totals more new.totals → old.totals.taken < 2 ^ 64 → Swept 1 range gate old new
   swept_one old new more same sweep keeps gated sum few = record {
     same = same;
@@ -93,17 +93,17 @@ module _ {I O : Type 0} {gi : _} {go : _} {gm : _} (range : Option (ℕ × ℕ))
     list_is =
         second.list_is
         ∙ ap (λ (rows : List Row). rows ++ all_rows (config_in y.lane) (visits_of second.sweeps)) first.list_is
-        ∙ ap (λ (k : Config). (rows_of x ++ all_rows (config_in x.lane) (visits_of first.sweeps)) ++ all_rows k (visits_of second.sweeps)) first.same.config_is
-        ∙ append_assoc (rows_of x) (all_rows (config_in x.lane) (visits_of first.sweeps)) (all_rows (config_in x.lane) (visits_of second.sweeps))
-        ∙ ap (λ (rows : List Row). rows_of x ++ rows) (sym (rows_both (config_in x.lane) (visits_of first.sweeps) (visits_of second.sweeps)))
-        ∙ ap (λ (vs : List Visit). rows_of x ++ all_rows (config_in x.lane) vs) (sym (visits_both second.sweeps first.sweeps));
+        ∙ ap (λ (k : Config). (lane_rows x ++ all_rows (config_in x.lane) (visits_of first.sweeps)) ++ all_rows k (visits_of second.sweeps)) first.same.config_is
+        ∙ append_assoc (lane_rows x) (all_rows (config_in x.lane) (visits_of first.sweeps)) (all_rows (config_in x.lane) (visits_of second.sweeps))
+        ∙ ap (λ (rows : List Row). lane_rows x ++ rows) (sym (rows_both (config_in x.lane) (visits_of first.sweeps) (visits_of second.sweeps)))
+        ∙ ap (λ (vs : List Visit). lane_rows x ++ all_rows (config_in x.lane) vs) (sym (visits_both second.sweeps first.sweeps));
     totals_are = λ before are.
         subst (λ (vs : List Visit). AreTotals vs z.totals)
         (append_assoc before (visits_of first.sweeps) (visits_of second.sweeps) ∙ ap (λ (vs : List Visit). before ++ vs) (sym (visits_both second.sweeps first.sweeps)))
         (second.totals_are (before ++ visits_of first.sweeps) (first.totals_are before are));
     keeps = keeps_more (config_in x.lane) (config_in y.lane) (all_rows (config_in y.lane) (visits_of second.sweeps)) (hand_in x.lane) (hand_in y.lane) (hand_in z.lane) second.list_is
         first.same.config_is first.keeps second.keeps;
-    gated = gains_both gate (list_in x.lane) (list_in y.lane) (list_in z.lane) first.gated second.gated;
+    gated = gains_both gate (lane_list x.lane) (lane_list y.lane) (lane_list z.lane) first.gated second.gated;
     taken = (let a = first.taken in let b = second.taken in omega (arith, a, b));
   }
 

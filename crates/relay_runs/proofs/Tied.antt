@@ -3,16 +3,16 @@
 use Rattle.std.proofs.Common.{◌≡◌, refl, sym, subst, ℕ, List, [], ◌∷◌, ◌++◌, Option}
 use Rattle.relay_outside.specs.declared.ports.PortCall.{PortCall}
 use Rattle.relay_outside.specs.declared.settings.Config.{Config}
-use Rattle.relay_outside.specs.Told.{Gained}
+use Rattle.relay_outside.specs.DeviceLogs.{Gained}
 use Rattle.turn_table.specs.Histories as table_lists
 use Rattle.port_pool.specs.Boxes.{Open, Take, Close}
 use Rattle.call_cell.specs.Cells.{Prepare, Commit, Relay, Expire, Read, End}
 use Rattle.relay_core.specs.Entries.{Event, Board, Cell, Box}
-use Rattle.relay_core.specs.Turning.{IsOfLane}
+use Rattle.relay_core.specs.Turns.{IsOfLane}
 use Rattle.media_lane.specs.Visits.{Row}
-use Rattle.board_turns.specs.Ties.{AreTied, Ties}
+use Rattle.board_turns.specs.Ties.{AreTied, PortsFollowRows}
 use Rattle.board_turns.proofs.Tying.{NothingLeaves, NothingLeft, none_left, row_left, both_left, ties_both, ties_left, ties_none}
-use Rattle.relay_runs.specs.Turned.{AddsSweep}
+use Rattle.relay_runs.specs.RunStates.{AddsSweep}
 use Rattle.relay_runs.proofs.Orders.{AreOfLane, sweep_of_lane}
 
 lane_leaves : (v : Event) → IsOfLane v → NothingLeaves v
@@ -35,7 +35,7 @@ lanes_left (row ∷ rows) lanes =
 
 -- All rows so far.
 
-tied_of : (config : Config) (before now : Option (List PortCall)) (rows : List Row) → Ties config before now [] rows → Gained before now (AreTied config rows)
+tied_of : (config : Config) (before now : Option (List PortCall)) (rows : List Row) → PortsFollowRows config before now [] rows → Gained before now (AreTied config rows)
 tied_of config before now rows ties = subst (λ (xs : List Row). Gained before now (AreTied config xs)) (sym ties.rows_are) ties.calls
 
 -- nothing was called, and there is no row
@@ -45,7 +45,7 @@ none_tied config before now rows none same =
     (subst (λ (o : Option (List PortCall)). Gained before o (AreTied {T = Unit {0}} config [])) same (tied_of config before before [] (ties_none config before [])))
 
 -- more calls, tied to more rows
-pub more_tied : (config : Config) (t0 t1 t2 : Option (List PortCall)) (rows after : List Row) → Gained t0 t1 (AreTied config rows) → Ties config t1 t2 rows after
+pub more_tied : (config : Config) (t0 t1 t2 : Option (List PortCall)) (rows after : List Row) → Gained t0 t1 (AreTied config rows) → PortsFollowRows config t1 t2 rows after
     → Gained t0 t2 (AreTied config after)
 more_tied config t0 t1 t2 rows after tied ties =
     tied_of config t0 t2 after (ties_both config t0 t1 t2 [] rows after (record { more = rows; rows_are = refl; calls = tied }) ties)
@@ -64,6 +64,6 @@ sweep_tied config threads range before now rows after sweep tied =
 
 -- a whole run: its control turns, rows of lanes, and the stop
 pub whole_tied : (config : Config) (t0 t1 t2 : Option (List PortCall)) (first beside joined last : List Row) → Gained t0 t1 (AreTied config first) → AreOfLane beside
-    → joined ≡ first ++ beside → Ties config t1 t2 joined last → Gained t0 t2 (AreTied config last)
+    → joined ≡ first ++ beside → PortsFollowRows config t1 t2 joined last → Gained t0 t2 (AreTied config last)
 whole_tied config t0 t1 t2 first beside joined last tied lanes is stop =
     more_tied config t0 t1 t2 joined last (lanes_tied config t0 t1 first beside joined lanes is tied) stop

@@ -6,16 +6,16 @@ use Rattle.relay_outside.specs.declared.ports.OutCall.TheVariants as out
 use Rattle.relay_outside.specs.declared.ports.PortCall.{PortCall}
 use Rattle.relay_outside.specs.declared.settings.Config.{Config}
 use Rattle.relay_outside.specs.Ports.{IsOpen, taken_at, sent_at}
-use Rattle.relay_outside.specs.Told.{WhereTold}
+use Rattle.relay_outside.specs.DeviceLogs.{WhereLogged}
 use Rattle.rtp_packet.specs.declared.head.Half.{Half}
 use Rattle.histories.specs.Words.{In}
 use Rattle.port_pool.specs.declared.holder.Holder.{Holder}
 use Rattle.port_pool.specs.Ports.{pair_count}
 use Rattle.media_ports.specs.Addresses.{port_address}
-use Rattle.media_ports.specs.Given.{IsOfPair}
+use Rattle.media_ports.specs.ReturnedEnds.{IsOfPair}
 use Rattle.call_cell.specs.Cells.{CellEntry, Sending, Relay, Relayed}
 use Rattle.relay_core.specs.Entries.{Event, Board, Cell, Box, Entry, cell_before, box_of}
-use Rattle.relay_core.specs.Told.{is_parting, takes_at, sends_since, legs_going}
+use Rattle.relay_core.specs.EndLogs.{is_parting, takes_at, sends_since, legs_going}
 
 -- Takes.
 
@@ -24,7 +24,7 @@ use Rattle.relay_core.specs.Told.{is_parting, takes_at, sends_since, legs_going}
 abbrev pub AreTakes : Config → List Entry → List PortCall → Type 0
 AreTakes config l calls =
     (pair : ℕ) (half : Half) → pair < pair_count config
-    → WhereTold (taken_at calls (port_address config pair half)) (λ told. told ≡ takes_at l (box_of config pair) half)
+    → WhereLogged (taken_at calls (port_address config pair half)) (λ log. log ≡ takes_at l (box_of config pair) half)
 
 -- Sends.
 
@@ -53,7 +53,7 @@ sends_at l pair half = sends_in l pair half l
 -- of each port, what its out ends told, over all its openings, is that
 abbrev pub AreSends : Config → List Entry → List PortCall → Type 0
 AreSends config l calls =
-    (pair : ℕ) (half : Half) → pair < pair_count config → WhereTold (sent_at calls (port_address config pair half)) (λ told. told ≡ sends_at l pair half)
+    (pair : ℕ) (half : Half) → pair < pair_count config → WhereLogged (sent_at calls (port_address config pair half)) (λ log. log ≡ sends_at l pair half)
 
 -- each send that a relay of the list made is among those of the half by which it left, of one of the configuration's pairs
 abbrev pub HasAllSends : Config → List Entry → Type 0

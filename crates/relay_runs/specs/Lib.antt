@@ -1,10 +1,10 @@
 pub mod Devices
 pub mod Ends
 pub mod Loads
-pub mod Numbered
-pub mod Prepared
+pub mod Statuses
+pub mod Preparations
 pub mod Rounds
 pub mod Run
-pub mod Served
+pub mod ServeRuns
 pub mod Threads
-pub mod Turned
+pub mod RunStates

@@ -8,26 +8,26 @@ use Rattle.relay_outside.specs.declared.link.LinkCall.{LinkCall}
 use Rattle.relay_outside.specs.declared.ports.PortCall.{PortCall}
 use Rattle.relay_outside.specs.declared.settings.Config.{Config}
 use Rattle.relay_outside.specs.Link.{sends}
-use Rattle.relay_outside.specs.Told.{Gained}
+use Rattle.relay_outside.specs.DeviceLogs.{Gained}
 use Rattle.outside_real.specs.KeyStream as stream
 use Rattle.histories.specs.Words.{In}
 use Rattle.port_pool.specs.declared.signal.SectionSignal.{SectionSignal}
 use Rattle.call_cell.specs.Cells.{Commit, Relay, Relayed}
 use Rattle.relay_core.specs.Entries.{Cell, Entry, is_nested}
 use Rattle.relay_core.specs.Legal.{Legal}
-use Rattle.relay_core.specs.Made.{list_of, told}
+use Rattle.relay_core.specs.Records.{list_of, as_logged}
 use Rattle.relay_core.specs.Safe.{Safe}
-use Rattle.relay_core.specs.Timed.{AreTimed}
+use Rattle.relay_core.specs.RowMoments.{AreTimed}
 use Rattle.load_maker.specs.declared.ports.ClosedEnd.{ClosedEnd}
 use Rattle.load_maker.specs.Datagrams.{is_success}
-use Rattle.load_maker.specs.Links.{TellsLoad}
+use Rattle.load_maker.specs.Links.{LogsLoad}
 use Rattle.load_maker.specs.Takes.{AreAllEnds, AreClosed, HasGivenAll}
 use Rattle.media_lane.specs.declared.answers.Totals.{Totals}
-use Rattle.media_lane.specs.Gated.{AreGated}
+use Rattle.media_lane.specs.Gates.{AreGated}
 use Rattle.media_lane.specs.Totals.{HasTotals}
 use Rattle.media_lane.specs.Visits.{Row}
 use Rattle.board_turns.specs.Between.{board_of}
-use Rattle.board_turns.specs.Stopping.{stop_entry}
+use Rattle.board_turns.specs.Stops.{stop_entry}
 use Rattle.command_line.specs.declared.settings.LoadSettings.{LoadSettings}
 use Rattle.relay_runs.specs.declared.load_end.LoadEnd.{LoadEnd}
 use Rattle.relay_runs.specs.declared.load_end.LoadEnd.TheVariants as end
@@ -37,9 +37,9 @@ use Rattle.relay_runs.specs.declared.status.Status.{Status}
 use Rattle.relay_runs.specs.declared.status.Status.TheVariants as status
 use Rattle.relay_runs.specs.declared.totals.Counts.{Counts}
 use Rattle.relay_runs.specs.Ends.{HasAllSends, AreEnds, OpensSame}
-use Rattle.relay_runs.specs.Numbered.{load_status}
-use Rattle.relay_runs.specs.Rounds.{Round, history_after, IsBoardTurn, AreRounds, AreLanes, all_of}
-use Rattle.relay_runs.specs.Served.{Outside, Gave, counts_in, last_take, HasEnded, AreTold}
+use Rattle.relay_runs.specs.Statuses.{load_status}
+use Rattle.relay_runs.specs.Rounds.{ControlRound, history_after, IsBoardTurn, AreControlRounds, AreLanes, all_of}
+use Rattle.relay_runs.specs.ServeRuns.{Outside, Gave, counts_in, last_take, HasEnded, AreLogged}
 
 -- the line of a load, for this number of calls, and these counts of relays by their outcome
 abbrev pub load_line : (calls : ℕ) → Totals → List ℕ
@@ -61,11 +61,11 @@ pub record AreBetween (l : List Entry) (stop : ℕ) : Type 0 where
 -- event makes of the one that it was handed. With what each relay noted, protected and sent added to its outcome they are a list that is
 -- legal, and so safe; the board's entries in it are the history and the stop, these are the counts of its takes and relays, and each relay
 -- stands at its cell between the control turns and the stop
-pub record IsLoadWhole (config : Config) (threads : ℕ) (range : Option (ℕ × ℕ)) (rounds : List Round) (totals : Totals) : Type 0 where
+pub record IsLoadWhole (config : Config) (threads : ℕ) (range : Option (ℕ × ℕ)) (rounds : List ControlRound) (totals : Totals) : Type 0 where
   pub in_rounds : List Row
   pub beside : List (List Row)
   pub stop : List Row
-  pub are_rounds : AreRounds config threads range rounds in_rounds
+  pub are_rounds : AreControlRounds config threads range rounds in_rounds
   pub are_lanes : AreLanes config threads range beside
   pub is_stop : IsBoardTurn config (in_rounds ++ all_of beside) (stop_entry (history_after config rounds)) stop
   -- all of them, in this order
@@ -73,7 +73,7 @@ pub record IsLoadWhole (config : Config) (threads : ℕ) (range : Option (ℕ ×
   pub rows_are : rows ≡ (in_rounds ++ all_of beside) ++ stop
   pub timed : AreTimed rows
   pub list : List Entry
-  pub told_is : map told list ≡ list_of rows
+  pub told_is : map as_logged list ≡ list_of rows
   pub legal : Legal config list
   pub safe : Safe config list
   pub board_is : board_of list ≡ stop_entry (history_after config rounds) ∷ history_after config rounds
@@ -83,7 +83,7 @@ pub record IsLoadWhole (config : Config) (threads : ℕ) (range : Option (ℕ ×
 -- A load whose control turns ended with this status: its rounds, with all its steps, and what the devices told of them, the port maker also of the
 -- ends that it was given back. The gate was passed at the cell of each relay among the steps
 pub record DidLoadTurns (limit : ℕ) (config : Config) (threads : ℕ) (range : Option (ℕ × ℕ)) (gate : ℕ → Type 0) (outside : Outside) (ended : Status) (counts : Counts) (totals : Totals) : Type 0 where
-  pub rounds : List Round
+  pub rounds : List ControlRound
   -- the moment of the take that ended them
   pub last : List ℕ
   pub whole : IsLoadWhole config threads range rounds totals
@@ -91,7 +91,7 @@ pub record DidLoadTurns (limit : ℕ) (config : Config) (threads : ℕ) (range :
   pub counts_are : counts ≡ counts_in rounds
   pub has_ended : HasEnded ended limit counts.turns
   pub last_is : length last ≡ length (last_take ended)
-  pub told : AreTold config [] rounds last ended outside
+  pub log : AreLogged config [] rounds last ended outside
   pub ends : Gained outside.opened outside.opened_now (AreEnds config whole.list)
   pub all_sent : HasAllSends config whole.list
   pub opens_same : OpensSame outside.opened outside.opened_now
@@ -120,7 +120,7 @@ pub record RunsLoad (settings : LoadSettings) (gate : ℕ → Type 0) (totals : 
   pub timer : (outside.timer ≡ Some []) × (outside.timer_now ≡ Some moments)
   pub keys : (outside.drew ≡ Some []) × (outside.drew_now ≡ Some (first_draws settings drawn))
   pub did : DidLoadTurns 1000000 settings.config settings.lanes (Some (0, 0)) gate outside status.Ok counts totals
-  pub heard : TellsLoad (2 * settings.calls) true calls
+  pub heard : LogsLoad (2 * settings.calls) true calls
   pub at_zero : list_all (λ moment. moment == 0) moments ≡ true
   pub gave : HasGivenAll settings.config.interface settings.config.port_min settings.calls settings.packets (Some opened)
   pub all_taken : totals.taken ≡ packets_of settings
@@ -133,20 +133,20 @@ pub record DidLoad (settings : LoadSettings) (gate : ℕ → Type 0) (wrote wrot
       ⊎ ((answer ≡ status.PrintFault) × Gave wrote wrote_now (put.Write (load_line settings.calls totals) false ∷ []))
 
 -- one of these devices, the link, the ports, the timer and the keys, tells nothing any more
-abbrev pub IsUntold : Option (List LinkCall) → Option (List PortCall) → Option (List ℕ) → Option (List KeyCall) → Type 0
-IsUntold link opened moments drew = (link ≡ None) ⊎ (opened ≡ None) ⊎ (moments ≡ None) ⊎ (drew ≡ None)
+abbrev pub IsUnlogged : Option (List LinkCall) → Option (List PortCall) → Option (List ℕ) → Option (List KeyCall) → Type 0
+IsUnlogged link opened moments drew = (link ≡ None) ⊎ (opened ≡ None) ⊎ (moments ≡ None) ⊎ (drew ≡ None)
 
 -- Why a load whose control turns ended with this status printed nothing, by what its link, its ports, its timer and its keys tell of their calls: one
 -- of them tells nothing any more; or a reply is no success; or each is one, and the control turns didn't find the link's end; or, where they did, not all
 -- datagrams were given, or other packets were taken than those of the calls
 abbrev pub IsCutBy : Shortfall → LoadSettings → (link : Option (List LinkCall)) → (opened : Option (List PortCall)) → (moments : Option (List ℕ)) → (drew : Option (List KeyCall)) → Status → Totals → Type 0
-IsCutBy why.Untold settings link opened moments drew ended totals = IsUntold link opened moments drew
+IsCutBy why.Untold settings link opened moments drew ended totals = IsUnlogged link opened moments drew
 IsCutBy why.ReplyFailed settings link opened moments drew ended totals = (calls : List LinkCall) × (link ≡ Some calls) × (list_all (λ reply. is_success reply.1) (sends calls) ≡ false)
 IsCutBy why.TakeFailed settings link opened moments drew ended totals =
     (calls : List LinkCall) × (link ≡ Some calls) × (list_all (λ reply. is_success reply.1) (sends calls) ≡ true) × (ended ≡ status.Ok → ⊥)
 IsCutBy why.EndsDiffer settings link opened moments drew ended totals =
     (calls : List LinkCall) × (ports : List PortCall) × (given : ℕ) × (closed : List ClosedEnd) × (link ≡ Some calls) × (opened ≡ Some ports) × (ended ≡ status.Ok)
-    × TellsLoad given true calls × AreClosed ports closed
+    × LogsLoad given true calls × AreClosed ports closed
     × (given ≡ 2 * settings.calls → totals.taken ≡ packets_of settings → AreAllEnds settings.config.interface settings.config.port_min settings.calls settings.packets closed → ⊥)
 
 -- Devices in memory, none of which was asked before, were driven as `DidLoadTurns` says, with as many threads of media as the words say lanes. Where the

@@ -10,29 +10,29 @@ use Rattle.call_board.specs.Acts.{Call, BoardEntry}
 use Rattle.relay_core.specs.Entries.{Entry, board_entry}
 use Rattle.relay_core.specs.Legal.{Legal}
 use Rattle.relay_core.specs.Safe.{Safe}
-use Rattle.relay_core.specs.Made.{entry_of, list_of, told}
-use Rattle.relay_core.specs.Timed.{AreTimed}
-use Rattle.relay_core.specs.Turning.{IsTurn}
+use Rattle.relay_core.specs.Records.{entry_of, list_of, as_logged}
+use Rattle.relay_core.specs.RowMoments.{AreTimed}
+use Rattle.relay_core.specs.Turns.{IsTurn}
 use Rattle.media_lane.specs.declared.answers.Totals.{Totals}
 use Rattle.media_lane.specs.Visits.{Row, Visit, all_rows}
-use Rattle.media_lane.specs.Looping.{IsSweep, AreSweeps, visits_of}
+use Rattle.media_lane.specs.SweepLoops.{IsSweep, AreSweeps, visits_of}
 use Rattle.board_turns.specs.Between.{board_of}
-use Rattle.board_turns.specs.Stopping.{stop_entry}
-use Rattle.board_turns.specs.Ticking.{tick_entry}
-use Rattle.board_turns.specs.Controls.{Hearing, entry_at, moment_at}
-use Rattle.ng_server.specs.Taking.{is_answered}
-use Rattle.ng_server.specs.declared.taking.ControlTurn.{ControlTurn}
-use Rattle.ng_server.specs.declared.taking.ControlTurn.TheVariants as turn
+use Rattle.board_turns.specs.Stops.{stop_entry}
+use Rattle.board_turns.specs.Ticks.{tick_entry}
+use Rattle.board_turns.specs.Controls.{RequestRecord, entry_at, moment_at}
+use Rattle.ng_server.specs.ControlTurns.{is_answered}
+use Rattle.ng_server.specs.declared.control_turn.ControlTurn.{ControlTurn}
+use Rattle.ng_server.specs.declared.control_turn.ControlTurn.TheVariants as turn
 use Rattle.media_lane.specs.Totals.{HasTotals}
 use Rattle.relay_runs.specs.declared.status.Status.{Status}
 use Rattle.relay_runs.specs.declared.status.Status.TheVariants as status
 
 -- A control turn after which the run goes on: the moment that the timer gave for its take, how it ended, and of a datagram with a frame what
 -- is recorded of it, with what the ports and the keys gave; and the calls that the tick after it ended, where a tick was made
-pub record Round : Type 0 where
+pub record ControlRound : Type 0 where
   pub handed : ℕ
   pub answer : ControlTurn
-  pub heard : Option Hearing
+  pub heard : Option RequestRecord
   pub ticked : Option (List Call)
 
 -- the status with which a run ends after a control turn, where it does not go on
@@ -45,7 +45,7 @@ status_after turn.End = Some status.Ok
 status_after turn.ReadFault = Some status.ControlFault
 
 -- the entry that the board's history demands of what is recorded: at the moment that was handed, or at the board's last one, where that is later
-abbrev pub entry_due : Config → List BoardEntry → ℕ → Option Hearing → Option BoardEntry
+abbrev pub entry_due : Config → List BoardEntry → ℕ → Option RequestRecord → Option BoardEntry
 entry_due config history now heard = option_map (entry_at config history (moment_at history now)) heard
 
 abbrev pub with_entry : List BoardEntry → Option BoardEntry → List BoardEntry
@@ -53,49 +53,49 @@ with_entry history None = history
 with_entry history (Some entry) = entry ∷ history
 
 -- a history after what is recorded of a control turn
-abbrev pub with_heard : Config → List BoardEntry → Round → List BoardEntry
-with_heard config history r = with_entry history (entry_due config history r.handed r.heard)
+abbrev pub with_request : Config → List BoardEntry → ControlRound → List BoardEntry
+with_request config history r = with_entry history (entry_due config history r.handed r.heard)
 
 -- the entry of the tick of a round after that history, at the moment of its control turn, where a tick was made
-abbrev pub tick_of : List BoardEntry → Round → Option BoardEntry
+abbrev pub tick_of : List BoardEntry → ControlRound → Option BoardEntry
 tick_of history r = option_map (tick_entry history r.handed) r.ticked
 
-abbrev pub with_tick : List BoardEntry → Round → List BoardEntry
+abbrev pub with_tick : List BoardEntry → ControlRound → List BoardEntry
 with_tick history r = with_entry history (tick_of history r)
 
 -- the board's history after these rounds; of both the latest comes first
-abbrev pub history_after : Config → List Round → List BoardEntry
+abbrev pub history_after : Config → List ControlRound → List BoardEntry
 history_after config [] = []
-history_after config (r ∷ rounds) = with_tick (with_heard config (history_after config rounds) r) r
+history_after config (r ∷ rounds) = with_tick (with_request config (history_after config rounds) r) r
 
 -- the moments that were handed to them, in order
-abbrev pub moments : List Round → List ℕ
+abbrev pub moments : List ControlRound → List ℕ
 moments [] = []
 moments (r ∷ rounds) = moments rounds ++ r.handed ∷ []
 
 -- When a tick is made.
 
 -- the rounds that have one
-abbrev pub with_ticks : List Round → List Round
+abbrev pub with_ticks : List ControlRound → List ControlRound
 with_ticks rounds = filter (λ r. is_some r.ticked) rounds
 
-abbrev pub latest : List Round → Option Round
+abbrev pub latest : List ControlRound → Option ControlRound
 latest [] = None
 latest (r ∷ rounds) = Some r
 
-abbrev pub earliest : List Round → Option Round
+abbrev pub earliest : List ControlRound → Option ControlRound
 earliest [] = None
 earliest (r ∷ []) = Some r
 earliest (r ∷ before ∷ rounds) = earliest (before ∷ rounds)
 
 -- the one, or where there is none the other
-abbrev pub or_else : Option Round → Option Round → Option Round
-or_else None other = other
-or_else (Some r) other = Some r
+abbrev pub first_round_of : Option ControlRound → Option ControlRound → Option ControlRound
+first_round_of None other = other
+first_round_of (Some r) other = Some r
 
 -- the moment from which the next second counts: that of the last tick, or where there was none that of the first control turn
-abbrev pub counted_from : List Round → Option ℕ
-counted_from rounds = option_map (λ r. r.handed) (or_else (latest (with_ticks rounds)) (earliest rounds))
+abbrev pub counted_from : List ControlRound → Option ℕ
+counted_from rounds = option_map (λ r. r.handed) (first_round_of (latest (with_ticks rounds)) (earliest rounds))
 
 -- at least a second after that moment
 abbrev pub is_second_later : Option ℕ → ℕ → Bool
@@ -103,7 +103,7 @@ is_second_later None now = false
 is_second_later (Some then) now = nat_le (then + 1000) now
 
 -- whether a tick is due in the round that follows these, by the moment that was handed to its control turn
-abbrev pub is_tick_due : List Round → ℕ → Bool
+abbrev pub is_tick_due : List ControlRound → ℕ → Bool
 is_tick_due rounds now = is_second_later (counted_from rounds) now
 
 -- A turn of the board after these rows: the nested entries that its entry owes, in their order, and then the entry
@@ -132,22 +132,22 @@ SweepsAlone config zero range rows = HasSwept config 0 1 range rows
 SweepsAlone config (suc more) range rows = rows ≡ []
 
 -- a control turn that sent a reply, or failed to send it, took a datagram with a frame, and no other did
-abbrev pub HasHeard : ControlTurn → Option Hearing → Type 0
-HasHeard answer None = is_answered answer ≡ false
-HasHeard answer (Some x) = is_answered answer ≡ true
+abbrev pub HasRequest : ControlTurn → Option RequestRecord → Type 0
+HasRequest answer None = is_answered answer ≡ false
+HasRequest answer (Some x) = is_answered answer ≡ true
 
 -- the rows of these rounds: a tick is made exactly where it is due, and stands last
-abbrev pub AreRounds : Config → (threads : ℕ) → Option (ℕ × ℕ) → List Round → List Row → Type 0
-AreRounds config threads range [] rows = rows ≡ []
-AreRounds config threads range (r ∷ rounds) rows =
+abbrev pub AreControlRounds : Config → (threads : ℕ) → Option (ℕ × ℕ) → List ControlRound → List Row → Type 0
+AreControlRounds config threads range [] rows = rows ≡ []
+AreControlRounds config threads range (r ∷ rounds) rows =
     (before : List Row) × (turn : List Row) × (sweep : List Row) × (tick : List Row) × (rows ≡ ((before ++ turn) ++ sweep) ++ tick)
     × (status_after r.answer ≡ None)
-    × HasHeard r.answer r.heard
+    × HasRequest r.answer r.heard
     × (is_some r.ticked ≡ is_tick_due rounds r.handed)
-    × AreRounds config threads range rounds before
+    × AreControlRounds config threads range rounds before
     × MakesEntry config before (entry_due config (history_after config rounds) r.handed r.heard) turn
     × SweepsAlone config threads range sweep
-    × MakesEntry config ((before ++ turn) ++ sweep) (tick_of (with_heard config (history_after config rounds) r) r) tick
+    × MakesEntry config ((before ++ turn) ++ sweep) (tick_of (with_request config (history_after config rounds) r) r) tick
 
 -- How many lanes relay media where so many threads do: one for each pair, 960 at most
 abbrev pub lane_count : Config → (threads : ℕ) → ℕ
@@ -179,12 +179,12 @@ StandsAfter before after = (e f : Entry) → In e after → In f before → f.pl
 -- at the moment that its event makes of the one that it was handed. The last sweep stands at each place after all that was done there, and before
 -- what the stop does there. With what each relay noted, protected and sent added to its outcome the steps are a list that is legal, and so safe; the
 -- board's entries in it are the history and the stop, and these are the counts of its takes and relays
-pub record IsWhole (config : Config) (threads : ℕ) (range : Option (ℕ × ℕ)) (rounds : List Round) (totals : Totals) : Type 0 where
+pub record IsWhole (config : Config) (threads : ℕ) (range : Option (ℕ × ℕ)) (rounds : List ControlRound) (totals : Totals) : Type 0 where
   pub in_rounds : List Row
   pub beside : List (List Row)
   pub last_sweep : List Row
   pub stop : List Row
-  pub are_rounds : AreRounds config threads range rounds in_rounds
+  pub are_rounds : AreControlRounds config threads range rounds in_rounds
   pub are_lanes : AreLanes config (lane_count config threads) range beside
   pub is_sweep : HasSwept config 0 1 range last_sweep
   pub is_stop : IsBoardTurn config ((in_rounds ++ all_of beside) ++ last_sweep) (stop_entry (history_after config rounds)) stop
@@ -195,7 +195,7 @@ pub record IsWhole (config : Config) (threads : ℕ) (range : Option (ℕ × ℕ
   pub rows_are : rows ≡ ((in_rounds ++ all_of beside) ++ last_sweep) ++ stop
   pub timed : AreTimed rows
   pub list : List Entry
-  pub told_is : map told list ≡ list_of rows
+  pub told_is : map as_logged list ≡ list_of rows
   pub legal : Legal config list
   pub safe : Safe config list
   pub board_is : board_of list ≡ stop_entry (history_after config rounds) ∷ history_after config rounds

@@ -8,11 +8,11 @@ use Rattle.relay_runs.specs.declared.status.Status.{Status}
 use Rattle.relay_runs.specs.declared.status.Status.TheVariants as status
 use Rattle.command_line.specs.declared.settings.Settings.{Settings}
 use Rattle.relay_outside.specs.declared.ports.PortCall.{PortCall}
-use Rattle.relay_outside.specs.Told.{WhereTold}
-use Rattle.media_ports.specs.Held.{OpensHeld}
+use Rattle.relay_outside.specs.DeviceLogs.{WhereLogged}
+use Rattle.media_ports.specs.OpenPorts.{OpensHeld}
 use Rattle.media_lane.specs.declared.answers.Totals.{Totals}
 use Rattle.relay_runs.specs.declared.totals.Counts.{Counts}
-use Rattle.relay_runs.specs.Served.{Outside, Gave, DidServe, totals_line}
+use Rattle.relay_runs.specs.ServeRuns.{Outside, Gave, DidServe, totals_line}
 
 -- a status tells whether the sink took the line
 abbrev pub is_printed : Status → Bool
@@ -68,5 +68,5 @@ OpensNone None calls = Unit {0}
 OpensNone (Some settings) calls = OpensHeld settings.config calls []
 
 -- the same, where the port maker tells
-abbrev pub TellsNone : Option Settings → Option (List PortCall) → Type 0
-TellsNone settings told = WhereTold told (OpensNone settings)
+abbrev pub LogsNone : Option Settings → Option (List PortCall) → Type 0
+LogsNone settings log = WhereLogged log (OpensNone settings)

@@ -10,25 +10,25 @@ use Rattle.histories.specs.Words.{In}
 use Rattle.relay_core.specs.declared.part.Part.{Part}
 use Rattle.relay_core.specs.declared.machine.Relay.{Relay}
 use Rattle.relay_core.specs.Entries.{Entry}
-use Rattle.relay_core.specs.Made.{Made}
-use Rattle.relay_core.specs.Turning.{made_by}
+use Rattle.relay_core.specs.Records.{Made}
+use Rattle.relay_core.specs.Turns.{made_by}
 use Rattle.media_lane.specs.declared.answers.Totals.{Totals}
-use Rattle.media_lane.specs.Lanes.{hand_in, config_in, index_in, lanes_in, list_in, IsSameHandOf}
-use Rattle.media_lane.specs.Looping.{AddsTotals, AreSweeps, visits_of}
+use Rattle.media_lane.specs.Lanes.{hand_in, config_in, index_in, lanes_in, lane_list, IsSameHandOf}
+use Rattle.media_lane.specs.SweepLoops.{AddsTotals, AreSweeps, visits_of}
 use Rattle.media_lane.specs.Receipts.{KeepsList}
-use Rattle.media_lane.specs.Gated.{AreGated, GainsGated}
+use Rattle.media_lane.specs.Gates.{AreGated, GainsGated}
 use Rattle.media_lane.specs.Totals.{HasTotals}
-use Rattle.media_lane.specs.Visits.{Row, Visit, all_rows, AreTotals, one_if}
+use Rattle.media_lane.specs.Visits.{Row, Visit, all_rows, AreTotals, one_where}
 use Rattle.relay_runs.specs.declared.lanes.OwnLane.{OwnLane}
-use Rattle.relay_runs.specs.declared.sharing.LaneRoom.{LaneRoom}
-use Rattle.relay_runs.specs.declared.threads.MediaThread.{MediaThread}
-use Rattle.relay_runs.specs.declared.threads.Until.{Until}
-use Rattle.relay_runs.specs.declared.threads.Until.TheVariants as until
+use Rattle.relay_runs.specs.declared.lane_shares.LaneRoom.{LaneRoom}
+use Rattle.relay_runs.specs.declared.media_thread.MediaThread.{MediaThread}
+use Rattle.relay_runs.specs.declared.media_thread.Until.{Until}
+use Rattle.relay_runs.specs.declared.media_thread.Until.TheVariants as until
 use Rattle.relay_runs.specs.Rounds.{IsLane, AreLanes, all_of}
 
 -- each number below this one is among them once, and no other is
 abbrev pub AreNumbers : ℕ → List ℕ → Type 0
-AreNumbers lanes numbers = (i : ℕ) → count_by (λ j. j == i) numbers ≡ one_if (nat_lt i lanes)
+AreNumbers lanes numbers = (i : ℕ) → count_by (λ j. j == i) numbers ≡ one_where (nat_lt i lanes)
 
 -- for how many datagrams a thread waits
 abbrev pub due_of : Until → ℕ
@@ -51,17 +51,17 @@ pairs_before pairs lanes (suc index) = pairs_before pairs lanes index + pairs_of
 
 module _ {I O : Type 0} {gi : _} {go : _} {gm : _} where
   -- how many datagrams these lanes took
-  abbrev pub taken_by : List (OwnLane I O gi go gm) → ℕ
-  taken_by [] = 0
-  taken_by (own ∷ more) = own.totals.taken + taken_by more
+  abbrev pub lanes_took : List (OwnLane I O gi go gm) → ℕ
+  lanes_took [] = 0
+  lanes_took (own ∷ more) = own.totals.taken + lanes_took more
 
   -- for how many datagrams these threads wait
   abbrev pub due_in : List (MediaThread I O gi go gm) → ℕ
   due_in [] = 0
   due_in (thread ∷ more) = due_of thread.until + due_in more
 
-  abbrev pub rows_of : OwnLane I O gi go gm → List Row
-  rows_of own = entries (hand_in own.lane)
+  abbrev pub lane_rows : OwnLane I O gi go gm → List Row
+  lane_rows own = entries (hand_in own.lane)
 
   -- the lanes of all threads, thread by thread
   abbrev pub all_lanes : List (MediaThread I O gi go gm) → List (OwnLane I O gi go gm)
@@ -73,7 +73,7 @@ module _ {I O : Type 0} {gi : _} {go : _} {gm : _} where
 
   -- their rows, lane by lane
   abbrev pub rows_each : List (OwnLane I O gi go gm) → List (List Row)
-  rows_each lanes = map (λ (own : OwnLane I O gi go gm). rows_of own) lanes
+  rows_each lanes = map (λ (own : OwnLane I O gi go gm). lane_rows own) lanes
 
   -- the number of each is its place in the list
   abbrev pub AreInOrder : List (OwnLane I O gi go gm) → Type 0
@@ -84,14 +84,14 @@ module _ {I O : Type 0} {gi : _} {go : _} {gm : _} where
   HasLaneRoom lanes room = (room.items ≡ []) × (lanes ≤ vec_capacity room)
 
   -- it has no lane yet, and room for so many
-  pub record HasRoom (lanes : ℕ) (thread : MediaThread I O gi go gm) : Type 0 where
+  pub record HasRoomForLanes (lanes : ℕ) (thread : MediaThread I O gi go gm) : Type 0 where
     pub empty : thread.lanes.items ≡ []
     pub room : lanes ≤ vec_capacity thread.lanes
 
   -- there are so many threads, none of which has a lane yet, each with room for so many, and an empty list has room for as many
   pub record IsRoomFor (threads lanes : ℕ) (room : LaneRoom I O gi go gm) : Type 0 where
     pub as_many : length room.threads.items ≡ threads
-    pub each : All (λ thread. HasRoom lanes thread) room.threads.items
+    pub each : All (λ thread. HasRoomForLanes lanes thread) room.threads.items
     pub in_all : HasLaneRoom lanes room.lanes
 
   -- the thread at this place has this lane more, and nothing else is new
@@ -126,11 +126,11 @@ module _ {I O : Type 0} {gi : _} {go : _} {gm : _} where
     pub adds : AddsEach lanes was is
 
   -- one of so many lanes, which has a part of the table's hands and did nothing yet
-  pub record IsFresh (config : Config) (turns : Turns (Relay I O) (Part I O) Made (Unit {0})) (lanes : ℕ) (own : OwnLane I O gi go gm) : Type 0 where
+  pub record IsFreshLane (config : Config) (turns : Turns (Relay I O) (Part I O) Made (Unit {0})) (lanes : ℕ) (own : OwnLane I O gi go gm) : Type 0 where
     pub of_table : IsHandOf turns (hand_in own.lane)
     pub one_part : parts (hand_in own.lane) ≡ 1
     pub not_main : (view (hand_in own.lane)).main ≡ false
-    pub nothing : rows_of own ≡ []
+    pub nothing : lane_rows own ≡ []
     pub config_is : config_in own.lane ≡ config
     pub lanes_are : lanes_in own.lane ≡ lanes
     pub no_totals : AreTotals [] own.totals
@@ -142,10 +142,10 @@ module _ {I O : Type 0} {gi : _} {go : _} {gm : _} where
     pub sweeps : List (List Visit)
     pub enough : least ≤ length sweeps
     pub are_sweeps : AreSweeps (config_in old.lane) (index_in old.lane) (lanes_in old.lane) range sweeps
-    pub list_is : rows_of new ≡ rows_of old ++ all_rows (config_in old.lane) (visits_of sweeps)
+    pub list_is : lane_rows new ≡ lane_rows old ++ all_rows (config_in old.lane) (visits_of sweeps)
     pub totals_are : (before : List Visit) → AreTotals before old.totals → AreTotals (before ++ visits_of sweeps) new.totals
-    pub keeps : KeepsList (config_in old.lane) (list_in old.lane) (list_in new.lane)
-    pub gated : GainsGated gate (list_in old.lane) (list_in new.lane)
+    pub keeps : KeepsList (config_in old.lane) (lane_list old.lane) (lane_list new.lane)
+    pub gated : GainsGated gate (lane_list old.lane) (lane_list new.lane)
     pub taken : old.totals.taken ≤ new.totals.taken
 
   -- so all that a lane did are sweeps of its own pairs
@@ -153,10 +153,10 @@ module _ {I O : Type 0} {gi : _} {go : _} {gm : _} where
     pub of_table : IsHandOf turns (hand_in own.lane)
     pub one_part : parts (hand_in own.lane) ≡ 1
     pub not_main : (view (hand_in own.lane)).main ≡ false
-    pub is_lane : IsLane config lanes range (index_in own.lane) (rows_of own)
+    pub is_lane : IsLane config lanes range (index_in own.lane) (lane_rows own)
     pub totals_are : AreTotals (visits_of is_lane.sweeps) own.totals
-    pub keeps : KeepsList config [] (list_in own.lane)
-    pub gated : AreGated gate (list_in own.lane)
+    pub keeps : KeepsList config [] (lane_list own.lane)
+    pub gated : AreGated gate (lane_list own.lane)
 
 -- both lists are of one length, and at each place the relation holds of the old and the new element
 pub record Each {X : Type 0} (R : X → X → Type 0) (old new : List X) : Type 0 where

@@ -21,7 +21,7 @@ pub struct Devices<'l, 'p, 'k, 't, N, P, K, T> {
 
 /// What is known of devices by what they tell at one moment and at a later one.
 pub trait Tells {
-    ghost use Rattle.relay_runs.specs.Served.{Outside};
+    ghost use Rattle.relay_runs.specs.ServeRuns.{Outside};
 
     /// What they told then and tell now, with their counts of faults of ports and of keys.
     ghost outside: { Self → Self → Outside };
@@ -33,14 +33,14 @@ pub trait Tells {
 impl<N: ControlLink, P: PortMaker, K: KeySource, T: Timer> Tells
     for Devices<'_, '_, '_, '_, N, P, K, T> {
     ghost outside = { λ old new. record {
-      link = N.told old.link.now;
-      link_now = N.told new.link.now;
-      timer = T.told old.timer.now;
-      timer_now = T.told new.timer.now;
-      opened = P.told old.ports.now;
-      opened_now = P.told new.ports.now;
-      drew = K.told old.keys.now;
-      drew_now = K.told new.keys.now;
+      link = N.log old.link.now;
+      link_now = N.log new.link.now;
+      timer = T.log old.timer.now;
+      timer_now = T.log new.timer.now;
+      opened = P.log old.ports.now;
+      opened_now = P.log new.ports.now;
+      drew = K.log old.keys.now;
+      drew_now = K.log new.keys.now;
       port_faults = P.faults old.ports.now;
       port_faults_now = P.faults new.ports.now;
       key_faults = K.faults old.keys.now;

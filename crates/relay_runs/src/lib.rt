@@ -3,26 +3,26 @@
 //! What a run did is one list of all its steps, legal and safe, which fits what each device told.
 #![tactic(auto)]
 
-mod beside;
+mod control_loop;
 mod devices;
 mod halt;
+mod lane_shares;
 mod lanes;
+mod load_command;
 mod load_end;
 mod load_run;
-mod loading;
+mod media_thread;
+mod parallel_work;
 mod prepared;
 mod rota;
-mod seeded;
-mod serving;
-mod sharing;
+mod seed_keys;
+mod serve_command;
 mod status;
-mod threads;
 mod totals;
-mod turns;
 
 pub use devices::{Devices, Tells};
+pub use load_command::load;
 pub use load_end::{LoadEnd, Shortfall};
-pub use loading::load;
 pub use media_lane::Media;
-pub use serving::serve;
+pub use serve_command::serve;
 pub use status::Status;

@@ -1,6 +1,6 @@
 //! How a load ends, and why it prints nothing.
 ghost use Rattle.std.specs.Prelude.{◌≡◌};
-ghost use Rattle.relay_runs.specs.Numbered.{load_status};
+ghost use Rattle.relay_runs.specs.Statuses.{load_status};
 
 use crate::status::Status;
 

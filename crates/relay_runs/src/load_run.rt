@@ -2,20 +2,20 @@
 //! all that the control turns made there, and before all that the stop makes.
 ghost use Rattle.std.specs.Prelude.{◌≡◌, ◌≤◌, ◌<◌, ◌^◌, ℕ, []};
 ghost use Rattle.turn_table.specs.Hands.{parts};
-ghost use Rattle.relay_core.specs.Turning.{made_by};
-ghost use Rattle.media_ports.specs.Held.{TellsHeld};
+ghost use Rattle.relay_core.specs.Turns.{made_by};
+ghost use Rattle.media_ports.specs.OpenPorts.{LogsHeld};
 ghost use Rattle.board_turns.specs.Between.{IsBetween, board_of};
 ghost use Rattle.relay_runs.specs.Devices.{AreSame};
 ghost use Rattle.relay_runs.specs.Loads.{DidLoadTurns};
-ghost use Rattle.relay_runs.specs.Prepared.{IsPrepared};
+ghost use Rattle.relay_runs.specs.Preparations.{IsPreparedRun};
 ghost use Rattle.relay_runs.specs.Threads.{IsRoomFor, RelaysDue, due_in};
 
-use crate::beside::{ControlWork, Relaying, run_after};
+use crate::control_loop::{ControlLoop, Looped, close_table};
 use crate::devices::{Devices, Tells};
+use crate::lane_shares::{LaneRoom, join_threads, make_lanes};
+use crate::parallel_work::{ControlWork, Relaying, run_after};
 use crate::prepared::Prepared;
-use crate::sharing::{LaneRoom, join_threads, make_lanes};
 use crate::status::Status;
-use crate::turns::{ControlLoop, Looped, close_table};
 use command_line::Settings;
 use media_lane::Media;
 use relay_core::Relay;
@@ -89,8 +89,8 @@ where
     requires limit { settings.now.turns < 2 ^ 63 }
     requires threads { settings.now.threads ≤ 16 }
     requires some { 0 < settings.now.threads }
-    requires prepared { IsPrepared settings.now.config settings.now.threads settings.now.threads prepared }
-    requires open { TellsHeld prepared.server.config (P.told devices.old.ports.now) [] }
+    requires prepared { IsPreparedRun settings.now.config settings.now.threads settings.now.threads prepared }
+    requires open { LogsHeld prepared.server.config (P.log devices.old.ports.now) [] }
     ensures same { AreSame devices.old devices.new }
     ensures did { DidLoadTurns settings.now.turns prepared.server.config settings.now.threads (C.range media.now.clock.now) (G.passed media.now.gate.now)
         (⟦<Devices<'static, 'static, 'static, 'static, N, P, K, T> as Tells>⟧.outside devices.old devices.new)

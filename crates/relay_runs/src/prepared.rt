@@ -1,10 +1,10 @@
 //! What a run prepares before its control turns.
 ghost use Rattle.std.specs.Prelude.{◌≡◌, ◌*◌, ◌<◌, Some, IfOk};
-ghost use Rattle.relay_runs.specs.Prepared.{IsPrepared};
+ghost use Rattle.relay_runs.specs.Preparations.{IsPreparedRun};
 ghost use Rattle.relay_runs.specs.Threads.{due_in};
-ghost use Rattle.relay_runs.specs.declared.sharing.Due.{Due};
+ghost use Rattle.relay_runs.specs.declared.lane_shares.Due.{Due};
 
-use crate::sharing::{Due, LaneRoom};
+use crate::lane_shares::{Due, LaneRoom};
 use ng_server::{Desk, Server};
 use relay_core::{Happening, Part, Relay};
 use relay_outside::{Config, LaneShare, OutOfMemory, PortMaker};
@@ -38,7 +38,7 @@ impl<P: PortMaker> Prepared<P> {
     where
         P::In: Drop,
         P::Out: Drop,
-        ensures prepared { IfOk result (λ prepared. IsPrepared config share.threads share.lanes prepared) }
+        ensures prepared { IfOk result (λ prepared. IsPreparedRun config share.threads share.lanes prepared) }
         ensures due { (all : Due) → due ≡ Some all → 0 < share.threads → IfOk result (λ prepared. due_in prepared.room.threads.items ≡ all.pairs * all.packets) }
     {
         let desk = Desk::new(alloc)?;

@@ -21,7 +21,7 @@ pub enum Status {
 
 impl Status {
     ghost use Rattle.std.specs.Prelude.{◌≡◌};
-    ghost use Rattle.relay_runs.specs.Numbered.{status_number};
+    ghost use Rattle.relay_runs.specs.Statuses.{status_number};
 
     /// The exit status of the program: 0, and 2 to 8.
     pub fn number(self) -> u8

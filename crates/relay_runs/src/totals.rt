@@ -1,6 +1,6 @@
 ghost use Rattle.std.specs.Prelude.{◌≡◌, ◌+◌, ◌≤◌, ◌<◌, ◌^◌, ◌++◌, ℕ, [], length, decimal};
 ghost use Rattle.media_lane.specs.Visits.{AreTotals};
-ghost use Rattle.relay_runs.specs.Served.{totals_line, sum_of, turn_counts};
+ghost use Rattle.relay_runs.specs.ServeRuns.{totals_line, sum_of_counts, turn_counts};
 
 use media_lane::Totals;
 use ng_bencode::Text;
@@ -34,7 +34,7 @@ impl Counts {
     pub(crate) fn with(self, turn: ControlTurn) -> Counts
         requires few { self.turns < 2 ^ 63 }
         requires fewer { (self.replies ≤ self.datagrams) × (self.datagrams ≤ self.turns) }
-        ensures sum { result ≡ sum_of self (turn_counts turn) }
+        ensures sum { result ≡ sum_of_counts self (turn_counts turn) }
         ensures order { (result.replies ≤ result.datagrams) × (result.datagrams ≤ result.turns) }
         ensures next { result.turns ≤ self.turns + 1 }
     {

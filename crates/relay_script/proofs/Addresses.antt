@@ -4,7 +4,7 @@ use Rattle.ng_bencode.specs.Fits.{IsFreeOf}
 use Rattle.ng_bencode.proofs.Numbers.{rest_all}
 use Rattle.relay_outside.specs.declared.address.Addr.{Addr}
 use Rattle.relay_outside.specs.declared.address.Ip.{Ip}
-use Rattle.relay_script.specs.Fields.{IsNumber, IsHost, IsAddr}
+use Rattle.relay_script.specs.Fields.{IsNumber, IsHostText, IsAddr}
 use Rattle.relay_script.proofs.Texts.{free_not, same_back}
 use Rattle.relay_script.proofs.Digits.{free_in_number}
 
@@ -17,9 +17,9 @@ around word at found last addr is =
     same_back 58 (take at word) is.host_text (drop (at + 1) word) is.port_text last
     (free_in_number 58 (inr (omega arith)) (2 ^ 16) (omega arith) is.port_text addr.port is.port) (sym found ∙ is.parts)
 
-pub no_host : (word : List ℕ) (at : ℕ) → word ≡ take at word ++ 58 ∷ drop (at + 1) word → IsFreeOf 58 (drop (at + 1) word) → ((ip : Ip) → IsHost (take at word) ip → ⊥) → (addr : Addr) → IsAddr word addr → ⊥
+pub no_host : (word : List ℕ) (at : ℕ) → word ≡ take at word ++ 58 ∷ drop (at + 1) word → IsFreeOf 58 (drop (at + 1) word) → ((ip : Ip) → IsHostText (take at word) ip → ⊥) → (addr : Addr) → IsAddr word addr → ⊥
 no_host word at found last none addr is =
-    none addr.ip (subst (λ t. IsHost t addr.ip) (sym (around word at found last addr is).0) is.host)
+    none addr.ip (subst (λ t. IsHostText t addr.ip) (sym (around word at found last addr is).0) is.host)
 
 pub no_port : (word : List ℕ) (at : ℕ) → word ≡ take at word ++ 58 ∷ drop (at + 1) word → IsFreeOf 58 (drop (at + 1) word) → ((n : ℕ) → IsNumber (2 ^ 16) (take (length word - (at + 1)) (drop (at + 1) word)) n → ⊥) → (addr : Addr) → IsAddr word addr → ⊥
 no_port word at found last none addr is =

@@ -21,17 +21,17 @@ abbrev pub DecodeTells : Result (List ℕ) FromHexError → Result Unit FromHexE
 DecodeTells d r out = MatchResult d (λ bytes. (r ≡ Ok tt) × (out ≡ bytes)) (λ e. r ≡ Err e)
 
 pub decodes : (digits bytes : List ℕ) (n : ℕ) (r : Result Unit FromHexError) (out : List ℕ) → length bytes ≡ n → IsBytes bytes → digits ≡ encode_lower bytes → DecodeTells (decode_sized digits n) r out → (r ≡ Ok tt) × (out ≡ bytes)
-decodes digits bytes n r out len fit e told =
+decodes digits bytes n r out len fit e log =
     let d : decode_sized digits n ≡ Ok bytes = ap (λ t. decode_sized t n) e ∙ decode_sized-encode_lower bytes n len fit in
-    subst (λ (x : Result (List ℕ) FromHexError). DecodeTells x r out) d told
+    subst (λ (x : Result (List ℕ) FromHexError). DecodeTells x r out) d log
 
 decoded_at : (d : Result (List ℕ) FromHexError) (r : Result Unit FromHexError) (out : List ℕ) (x : Unit) → r ≡ Ok x → DecodeTells d r out → d ≡ Ok out
-decoded_at (Ok bytes) r out x e told = ap Ok (sym told.1)
-decoded_at (Err fault) r out x e told = absurd (cc)
+decoded_at (Ok bytes) r out x e shown = ap Ok (sym shown.1)
+decoded_at (Err fault) r out x e shown = absurd (cc)
 
 pub decoded : (digits : List ℕ) (n : ℕ) (r : Result Unit FromHexError) (out : List ℕ) (x : Unit) → r ≡ Ok x → DecodeTells (decode_sized digits n) r out → (length out ≡ n) × IsBytes out
-decoded digits n r out x e told =
-    let d = decoded_at (decode_sized digits n) r out x e told in
+decoded digits n r out x e log =
+    let d = decoded_at (decode_sized digits n) r out x e log in
     let len = decode_sized-ok digits n out d in
     let all = decode_of-ok digits out (sym (decode_sized-twice digits n len) ∙ d) in
     (omega (arith, len, all.2), all.3)

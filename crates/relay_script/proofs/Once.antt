@@ -15,9 +15,9 @@ use Rattle.sdp_text.specs.declared.host.Host.TheVariants as host
 use Rattle.sdp_text.proofs.Cuts.{pieces_open}
 use Rattle.relay_script.specs.declared.step.FailKind.{FailKind}
 use Rattle.relay_script.specs.Steps.{Step, Skip, At, Key, Fail, FailSend, Ng, Take, Relay, Packet, Tick}
-use Rattle.relay_script.specs.Fields.{IsNumber, IsCount, InBrackets, IsHost, IsAddr, IsText, IsPayload}
-use Rattle.relay_script.specs.Lines.{first_word, kind_word, IsFailure, IsSendFailure, IsDatagram, IsArrival, Behind, IsSkipped, SpellsStep, Spells}
-use Rattle.relay_script.specs.Reading.{kind_of}
+use Rattle.relay_script.specs.Fields.{IsNumber, IsCount, InBrackets, IsHostText, IsAddr, IsText, IsPayload}
+use Rattle.relay_script.specs.Lines.{first_word, kind_word, IsFailure, IsSendFailure, IsDatagram, IsArrival, Behind, IsSkipped, SpellsStep, SpellsLine}
+use Rattle.relay_script.specs.LineParts.{fail_kind}
 use Rattle.relay_script.proofs.Texts.{same_back, free_by_test, free_not}
 use Rattle.relay_script.proofs.Payloads.{heads, tails, same_hex, same_text}
 use Rattle.relay_script.proofs.Digits.{free_in_number}
@@ -55,8 +55,8 @@ no_ipv4 more =
 apart_hosts : (text four six : List ℕ) → ipv4 text ≡ Some (host.V4 four) → InBrackets text six → ⊥
 apart_hosts text four six is other =
     let none = no_ipv4 (other.inside ++ 93 ∷ []) in
-    let told : ipv4 text ≡ None = ap ipv4 other.brackets ∙ none in
-    let both : ◌≡◌ {A = Option Host} (Some (host.V4 four)) None = sym is ∙ told in
+    let shown : ipv4 text ≡ None = ap ipv4 other.brackets ∙ none in
+    let both : ◌≡◌ {A = Option Host} (Some (host.V4 four)) None = sym is ∙ shown in
     cc
 
 one_v4 : (a b : List ℕ) (text : List ℕ) → ipv4 text ≡ Some (host.V4 a) → ipv4 text ≡ Some (host.V4 b) → a ≡ b
@@ -65,7 +65,7 @@ one_v4 a b text is other = let both : ◌≡◌ {A = Option Host} (Some (host.V4
 one_v6 : (a b : List ℕ) (text : List ℕ) → ipv6 text ≡ Some (host.V6 a) → ipv6 text ≡ Some (host.V6 b) → a ≡ b
 one_v6 a b text is other = let both : ◌≡◌ {A = Option Host} (Some (host.V6 a)) (Some (host.V6 b)) = sym is ∙ other in cc
 
-one_host : (text : List ℕ) (a b : Ip) → IsHost text a → IsHost text b → a ≡ b
+one_host : (text : List ℕ) (a b : Ip) → IsHostText text a → IsHostText text b → a ≡ b
 one_host text (V4 a) (V4 b) is other = ap V4 (one_v4 a b text is other)
 one_host text (V4 a) (V6 b) is other = absurd (apart_hosts text a b is other)
 one_host text (V6 a) (V4 b) is other = absurd (apart_hosts text b a other is)
@@ -79,7 +79,7 @@ free_of_colons text n is = free_in_number 58 (inr (omega arith)) (2 ^ 16) (omega
 one_addr : (text : List ℕ) (a b : Addr) → IsAddr text a → IsAddr text b → a ≡ b
 one_addr text a b is other =
     let same = same_back 58 is.host_text other.host_text is.port_text other.port_text (free_of_colons is.port_text a.port is.port) (free_of_colons other.port_text b.port other.port) (sym is.parts ∙ other.parts) in
-    let ips : a.ip ≡ b.ip = one_host is.host_text a.ip b.ip is.host (subst (λ t. IsHost t b.ip) (sym same.0) other.host) in
+    let ips : a.ip ≡ b.ip = one_host is.host_text a.ip b.ip is.host (subst (λ t. IsHostText t b.ip) (sym same.0) other.host) in
     let ports : a.port ≡ b.port = one_number (2 ^ 16) (omega arith) is.port_text a.port b.port is.port (subst (λ t. IsNumber (2 ^ 16) t b.port) (sym same.1) other.port) in
     let of : Ip → ℕ → Addr = λ ip port. record { ip = ip; port = port } in
     ap (λ ip. of ip a.port) ips ∙ ap (λ port. of b.ip port) ports
@@ -111,7 +111,7 @@ one_arrival text m n a b x y is other =
 
 one_kind : (k l : FailKind) → kind_word k ≡ kind_word l → k ≡ l
 one_kind k l e =
-    let both : ◌≡◌ {A = Option FailKind} (Some k) (Some l) = sym (kind_known k) ∙ ap kind_of e ∙ kind_known l in
+    let both : ◌≡◌ {A = Option FailKind} (Some k) (Some l) = sym (kind_known k) ∙ ap fail_kind e ∙ kind_known l in
     cc
 
 one_failure : (text : List ℕ) (k l : FailKind) (m n : ℕ) → IsFailure text k m → IsFailure text l n → (k ≡ l) × (m ≡ n)
@@ -186,5 +186,5 @@ one_spelled line a b is other =
     (let same = words_same line (first_word b) other.rest other.parts (free_word b) a is in
     one_behind a b other.rest same.0 same.1 other.behind)
 
-pub one_step : (line : List ℕ) (a b : Step) → Spells line a → Spells line b → a ≡ b
+pub one_step : (line : List ℕ) (a b : Step) → SpellsLine line a → SpellsLine line b → a ≡ b
 one_step line a b is other = one_spelled line a b is.spelled other.spelled

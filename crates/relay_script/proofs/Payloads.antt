@@ -9,7 +9,7 @@ use Rattle.std.proofs.lemmas.List.{map-append, length-append}
 use Rattle.hex.specs.Hex.{encode_lower, encode_with, lower_digits, decode_of, IsBytes}
 use Rattle.hex.proofs.HexLemmas.{length-encode_with, decode_of-encode_lower, decode_of-same}
 use Rattle.relay_script.specs.Fields.{Piece, Plain, Return, Feed, Backslash, Coded, IsPiece, piece_text, piece_byte, ArePieces, IsText, IsHex, IsPayload}
-use Rattle.relay_script.specs.Reading.{BeginsWith, NoPiece, Refuses}
+use Rattle.relay_script.specs.LineParts.{BeginsWith, NoPiece, RefusesText}
 use Rattle.relay_script.specs.declared.step.ParseFault.{ParseFault}
 use Rattle.relay_script.specs.declared.step.ParseFault.TheVariants.{NotInGrammar, OutOfMemory}
 use Rattle.ng_bencode.specs.Room.{Room}
@@ -51,7 +51,7 @@ pub tails : (a b : ℕ) (x y : List ℕ) → a ∷ x ≡ b ∷ y → x ≡ y
 tails a b x y e = cc
 
 pub some_left : (xs : List ℕ) (b : Bool) → b ≡ (length xs == 0) → b ≡ false → xs ≡ [] → ⊥
-some_left xs b is told e = false_true (sym told ∙ is ∙ ap (λ (ys : List ℕ). length ys == 0) e)
+some_left xs b is log e = false_true (sym log ∙ is ∙ ap (λ (ys : List ℕ). length ys == 0) e)
 
 -- Digits.
 
@@ -161,8 +161,8 @@ no_coded text rest e none (Coded byte) more allowed is = none byte more allowed 
 no_coded text rest e none piece more allowed is = omega (arith, heads _ _ _ _ (tails _ _ _ _ (sym e ∙ is)))
 
 pub coded_found : (text rest : List ℕ) → text ≡ 92 ∷ 120 ∷ rest → (r : Option (ℕ × Bor (List ℕ))) → IfSome r (λ parts. parts.0 < 256) → MatchOption r ((byte : ℕ) (more : List ℕ) → byte < 256 → rest ≡ encode_lower (byte ∷ []) ++ more → ⊥) (λ parts. rest ≡ encode_lower (parts.0 ∷ []) ++ parts.1.now) → MatchOption r (NoPiece text) (λ parts. BeginsWith text parts.0 parts.1.now)
-coded_found text rest e None small told = no_coded text rest e told
-coded_found text rest e (Some parts) small told = coded_piece text rest parts.0 parts.1.now e small told
+coded_found text rest e None small log = no_coded text rest e log
+coded_found text rest e (Some parts) small log = coded_piece text rest parts.0 parts.1.now e small log
 
 pub piece_some : (p : Piece) → 0 < length (piece_text p)
 piece_some (Plain byte) = omega arith
@@ -237,7 +237,7 @@ same_text text a b is other =
 
 -- Both.
 
-pub hex_payload : (text rest : List ℕ) → text ≡ 120 ∷ 58 ∷ rest → (r : Result (Room ℕ) ParseFault) → MatchResult r (λ bytes. IsHex rest bytes.list) (λ fault. Refuses fault ((bytes : List ℕ) → IsHex rest bytes → ⊥)) → MatchResult r (λ bytes. IsPayload text bytes.list) (λ fault. Refuses fault ((bytes : List ℕ) → IsPayload text bytes → ⊥))
+pub hex_payload : (text rest : List ℕ) → text ≡ 120 ∷ 58 ∷ rest → (r : Result (Room ℕ) ParseFault) → MatchResult r (λ bytes. IsHex rest bytes.list) (λ fault. RefusesText fault ((bytes : List ℕ) → IsHex rest bytes → ⊥)) → MatchResult r (λ bytes. IsPayload text bytes.list) (λ fault. RefusesText fault ((bytes : List ℕ) → IsPayload text bytes → ⊥))
 hex_payload text rest e (Ok bytes) is = inl (record { digits = rest; parts = e; hex = is })
 hex_payload text rest e (Err NotInGrammar) none = λ bytes is.
     elim is [
@@ -246,7 +246,7 @@ hex_payload text rest e (Err NotInGrammar) none = λ bytes is.
     ]
 hex_payload text rest e (Err OutOfMemory) none = tt
 
-pub text_payload : (text rest : List ℕ) → text ≡ 116 ∷ 58 ∷ rest → (r : Result (Room ℕ) ParseFault) → MatchResult r (λ bytes. IsText rest bytes.list) (λ fault. Refuses fault ((bytes : List ℕ) → IsText rest bytes → ⊥)) → MatchResult r (λ bytes. IsPayload text bytes.list) (λ fault. Refuses fault ((bytes : List ℕ) → IsPayload text bytes → ⊥))
+pub text_payload : (text rest : List ℕ) → text ≡ 116 ∷ 58 ∷ rest → (r : Result (Room ℕ) ParseFault) → MatchResult r (λ bytes. IsText rest bytes.list) (λ fault. RefusesText fault ((bytes : List ℕ) → IsText rest bytes → ⊥)) → MatchResult r (λ bytes. IsPayload text bytes.list) (λ fault. RefusesText fault ((bytes : List ℕ) → IsPayload text bytes → ⊥))
 text_payload text rest e (Ok bytes) is = inr (record { shown = rest; parts = e; is_text = is })
 text_payload text rest e (Err NotInGrammar) none = λ bytes is.
     elim is [

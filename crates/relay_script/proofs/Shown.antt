@@ -4,7 +4,7 @@ use Rattle.std.specs.List.{flat_map}
 use Rattle.std.proofs.lemmas.Bool.{eqb-true, eqb-false}
 use Rattle.hex.specs.Hex.{IsBytes}
 use Rattle.relay_script.specs.Fields.{Plain, Backslash, Coded, IsPiece, piece_text, piece_byte, ArePieces, IsText}
-use Rattle.relay_script.specs.Printing.{shown_piece, shown_byte, shown_text}
+use Rattle.relay_script.specs.EventLines.{shown_piece, shown_byte, shown_text}
 use Rattle.relay_script.proofs.Payloads.{first_byte, more_bytes}
 
 piece_at : (byte : ℕ) (slash plain : Bool) → (byte == 92) ≡ slash → byte < 256 → IsPiece (cond slash Backslash (cond plain (Plain byte) (Coded byte))) × (byte ≡ piece_byte (cond slash Backslash (cond plain (Plain byte) (Coded byte))))

@@ -11,11 +11,11 @@ use Rattle.relay_script.specs.declared.step.FailKind.TheVariants as kind
 use Rattle.relay_script.specs.declared.step.ParseFault.{ParseFault}
 use Rattle.relay_script.specs.declared.step.ParseFault.TheVariants.{NotInGrammar, OutOfMemory}
 use Rattle.relay_script.specs.declared.step.Step as coded
-use Rattle.relay_script.specs.declared.reading.Keyword.{Keyword}
-use Rattle.relay_script.specs.Steps.{Step, Skip, At, Key, Fail, FailSend, Ng, Take, Relay, Packet, Tick, meaning}
+use Rattle.relay_script.specs.declared.parser.Keyword.{Keyword}
+use Rattle.relay_script.specs.Steps.{Step, Skip, At, Key, Fail, FailSend, Ng, Take, Relay, Packet, Tick, step_meaning}
 use Rattle.relay_script.specs.Fields.{IsNumber, IsCount, IsAddr, IsPayload}
 use Rattle.relay_script.specs.Lines.{first_word, kind_word, IsFailure, IsSendFailure, IsDatagram, IsArrival, Behind, InWords}
-use Rattle.relay_script.specs.Reading.{Refuses, NoStep, NoWords, Fits, Reads, IsPortAndCount, ReadsSendFailure, kind_of, keyword_of, keyword_text}
+use Rattle.relay_script.specs.LineParts.{RefusesText, NoStep, NoWords, FitsWord, ReadsRest, IsPortAndCount, ReadsSendFailure, fail_kind, keyword_of, keyword_text}
 use Rattle.relay_script.proofs.Texts.{free_by_test}
 use Rattle.relay_script.proofs.Digits.{free_in_number}
 
@@ -33,7 +33,7 @@ no_source text address payload e free none source bytes is =
     let same = same_front 32 address is.address payload is.payload free is.from.one_word (sym e ∙ is.parts) in
     none source (subst (λ t. IsAddr t source) (sym same.0) is.from)
 
-pub datagram_refused : (fault : ParseFault) (text address payload : List ℕ) → text ≡ address ++ 32 ∷ payload → IsFreeOf 32 address → Refuses fault ((bytes : List ℕ) → IsPayload payload bytes → ⊥) → Refuses fault ((source : Addr) (bytes : List ℕ) → IsDatagram text source bytes → ⊥)
+pub datagram_refused : (fault : ParseFault) (text address payload : List ℕ) → text ≡ address ++ 32 ∷ payload → IsFreeOf 32 address → RefusesText fault ((bytes : List ℕ) → IsPayload payload bytes → ⊥) → RefusesText fault ((source : Addr) (bytes : List ℕ) → IsDatagram text source bytes → ⊥)
 datagram_refused NotInGrammar text address payload e free none =
     λ source bytes is.
     let same = same_front 32 address is.address payload is.payload free is.from.one_word (sym e ∙ is.parts) in
@@ -45,7 +45,7 @@ no_arrival text port_text datagram e free none port source bytes is =
     let same = same_front 32 port_text is.port_text datagram is.datagram free (free_port is.port_text port is.port_number) (sym e ∙ is.parts) in
     none port (subst (λ t. IsNumber (2 ^ 16) t port) (sym same.0) is.port_number)
 
-pub arrival_refused : (fault : ParseFault) (text port_text datagram : List ℕ) → text ≡ port_text ++ 32 ∷ datagram → IsFreeOf 32 port_text → Refuses fault ((source : Addr) (bytes : List ℕ) → IsDatagram datagram source bytes → ⊥) → Refuses fault ((port : ℕ) (source : Addr) (bytes : List ℕ) → IsArrival text port source bytes → ⊥)
+pub arrival_refused : (fault : ParseFault) (text port_text datagram : List ℕ) → text ≡ port_text ++ 32 ∷ datagram → IsFreeOf 32 port_text → RefusesText fault ((source : Addr) (bytes : List ℕ) → IsDatagram datagram source bytes → ⊥) → RefusesText fault ((port : ℕ) (source : Addr) (bytes : List ℕ) → IsArrival text port source bytes → ⊥)
 arrival_refused NotInGrammar text port_text datagram e free none =
     λ port source bytes is.
     let same = same_front 32 port_text is.port_text datagram is.datagram free (free_port is.port_text port is.port_number) (sym e ∙ is.parts) in
@@ -78,7 +78,7 @@ no_send kind.Take e = clash (codes "take") (codes "send") refl e
 no_send kind.Read e = clash (codes "read") (codes "send") refl e
 no_send kind.Reply e = clash (codes "reply") (codes "send") refl e
 
-pub kind_known : (k : FailKind) → kind_of (kind_word k) ≡ Some k
+pub kind_known : (k : FailKind) → fail_kind (kind_word k) ≡ Some k
 kind_known kind.Open = refl
 kind_known kind.Draw = refl
 kind_known kind.Take = refl
@@ -112,9 +112,9 @@ no_kind : (rest more : List ℕ) → rest ≡ codes "send" ++ 32 ∷ more → (k
 no_kind rest more e k count is =
     no_send k (sym (same_front 32 (codes "send") (kind_word k) more is.number (free_by_test 32 (codes "send") refl) (free_kind k) (sym e ∙ is.parts)).0)
 
-send_read : (rest more : List ℕ) → rest ≡ codes "send" ++ 32 ∷ more → (r : Result coded.Step ParseFault) → ReadsSendFailure more r → Reads (codes "fail") rest r
+send_read : (rest more : List ℕ) → rest ≡ codes "send" ++ 32 ∷ more → (r : Result coded.Step ParseFault) → ReadsSendFailure more r → ReadsRest (codes "fail") rest r
 send_read rest more e (Ok step) (port, count, same, is) =
-    subst (Fits (codes "fail") rest) (sym same) (record {
+    subst (FitsWord (codes "fail") rest) (sym same) (record {
       word = refl;
       behind = record { port_text = is.port_text; number = is.number; parts = e ∙ ap (λ t. codes "send" ++ 32 ∷ t) is.parts; port_number = is.port_number; counted = is.counted };
     })
@@ -122,17 +122,17 @@ send_read rest more e (Err NotInGrammar) none =
     fail_steps rest (no_kind rest more e) (λ port count is. none port count (send_parts rest more e port count is))
 send_read rest more e (Err OutOfMemory) none = tt
 
-pub fail_send : (rest name more : List ℕ) → rest ≡ name ++ 32 ∷ more → name ≡ codes "send" → (r : Result coded.Step ParseFault) → ReadsSendFailure more r → Reads (codes "fail") rest r
+pub fail_send : (rest name more : List ℕ) → rest ≡ name ++ 32 ∷ more → name ≡ codes "send" → (r : Result coded.Step ParseFault) → ReadsSendFailure more r → ReadsRest (codes "fail") rest r
 fail_send rest name more e s r reads = send_read rest more (e ∙ ap (λ t. t ++ 32 ∷ more) s) r reads
 
-pub fail_unknown : (rest name more : List ℕ) → rest ≡ name ++ 32 ∷ more → IsFreeOf 32 name → (name ≡ codes "send" → ⊥) → kind_of name ≡ None → NoStep (codes "fail") rest
+pub fail_unknown : (rest name more : List ℕ) → rest ≡ name ++ 32 ∷ more → IsFreeOf 32 name → (name ≡ codes "send" → ⊥) → fail_kind name ≡ None → NoStep (codes "fail") rest
 fail_unknown rest name more e free other unknown =
     fail_steps rest
     (λ k count is.
     let same = same_front 32 name (kind_word k) more is.number free (free_kind k) (sym e ∙ is.parts) in
     let known = kind_known k in
-    let told = ap kind_of same.0 in
-    let both : ◌≡◌ {A = Option FailKind} None (Some k) = sym unknown ∙ told ∙ known in
+    let shown = ap fail_kind same.0 in
+    let both : ◌≡◌ {A = Option FailKind} None (Some k) = sym unknown ∙ shown ∙ known in
     (cc))
     (λ port count is. other (same_front 32 name (codes "send") more (is.port_text ++ 32 ∷ is.number) free (free_by_test 32 (codes "send") refl) (sym e ∙ is.parts)).0)
 
@@ -173,7 +173,7 @@ no_words line name rest e free none step is =
     let same = words_same line name rest e free step is in
     unknown_at step name rest none same.0 same.1
 
-pub words_read : (line name rest : List ℕ) (k : Keyword) (r : Result coded.Step ParseFault) → line ≡ name ++ 32 ∷ rest → name ≡ keyword_text k → Reads (keyword_text k) rest r → IfOk r (λ step. InWords line (meaning step))
+pub words_read : (line name rest : List ℕ) (k : Keyword) (r : Result coded.Step ParseFault) → line ≡ name ++ 32 ∷ rest → name ≡ keyword_text k → ReadsRest (keyword_text k) rest r → IfOk r (λ step. InWords line (step_meaning step))
 words_read line name rest k (Ok step) e known fits = record {
   rest = rest;
   parts = e ∙ ap (λ t. t ++ 32 ∷ rest) (known ∙ sym fits.word);
@@ -181,12 +181,12 @@ words_read line name rest k (Ok step) e known fits = record {
 }
 words_read line name rest k (Err fault) e known fits = tt
 
-words_refused_at : (line name rest : List ℕ) (fault : ParseFault) → line ≡ name ++ 32 ∷ rest → IsFreeOf 32 name → Refuses fault (NoStep name rest) → Refuses fault (NoWords line)
+words_refused_at : (line name rest : List ℕ) (fault : ParseFault) → line ≡ name ++ 32 ∷ rest → IsFreeOf 32 name → RefusesText fault (NoStep name rest) → RefusesText fault (NoWords line)
 words_refused_at line name rest NotInGrammar e free none =
     λ step is. (let same = words_same line name rest e free step is in none step same.0 same.1)
 words_refused_at line name rest OutOfMemory e free none = tt
 
-pub words_refused : (line name rest : List ℕ) (k : Keyword) (r : Result coded.Step ParseFault) → line ≡ name ++ 32 ∷ rest → IsFreeOf 32 name → name ≡ keyword_text k → Reads (keyword_text k) rest r → IfErr r (λ fault. Refuses fault (NoWords line))
+pub words_refused : (line name rest : List ℕ) (k : Keyword) (r : Result coded.Step ParseFault) → line ≡ name ++ 32 ∷ rest → IsFreeOf 32 name → name ≡ keyword_text k → ReadsRest (keyword_text k) rest r → IfErr r (λ fault. RefusesText fault (NoWords line))
 words_refused line name rest k (Ok step) e free known reads = tt
 words_refused line name rest k (Err fault) e free known reads =
-    words_refused_at line name rest fault e free (subst (λ t. Refuses fault (NoStep t rest)) (sym known) reads)
+    words_refused_at line name rest fault e free (subst (λ t. RefusesText fault (NoStep t rest)) (sym known) reads)

@@ -30,16 +30,16 @@ pub record InBrackets (text bytes : List ℕ) : Type 0 where
   pub address : ipv6 inside ≡ Some (host.V6 bytes)
 
 -- a host's address, as it stands before a port
-abbrev pub IsHost : List ℕ → Ip → Type 0
-IsHost text (V4 bytes) = ipv4 text ≡ Some (host.V4 bytes)
-IsHost text (V6 bytes) = InBrackets text bytes
+abbrev pub IsHostText : List ℕ → Ip → Type 0
+IsHostText text (V4 bytes) = ipv4 text ≡ Some (host.V4 bytes)
+IsHostText text (V6 bytes) = InBrackets text bytes
 
 -- a host, a colon and a port, in one word
 pub record IsAddr (text : List ℕ) (addr : Addr) : Type 0 where
   pub host_text : List ℕ
   pub port_text : List ℕ
   pub parts : text ≡ host_text ++ 58 ∷ port_text
-  pub host : IsHost host_text addr.ip
+  pub host : IsHostText host_text addr.ip
   pub port : IsNumber (2 ^ 16) port_text addr.port
   pub one_word : IsFreeOf 32 text
 

@@ -1,5 +1,5 @@
 pub mod Steps
 pub mod Fields
 pub mod Lines
-pub mod Reading
-pub mod Printing
+pub mod LineParts
+pub mod EventLines

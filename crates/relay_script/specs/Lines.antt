@@ -27,7 +27,7 @@ kind_word kind.Read = codes "read"
 kind_word kind.Reply = codes "reply"
 
 -- `HEX`: the 60 digits of a key
-pub record IsKey (text bytes : List ℕ) : Type 0 where
+pub record IsKeyText (text bytes : List ℕ) : Type 0 where
   pub hex : IsHex text bytes
   pub len : length bytes ≡ 30
 
@@ -65,7 +65,7 @@ pub record IsArrival (text : List ℕ) (port : ℕ) (source : Addr) (bytes : Lis
 abbrev pub Behind : Step → List ℕ → Type 0
 Behind Skip text = ⊥
 Behind (At moment) text = IsNumber (2 ^ 64) text moment
-Behind (Key bytes) text = IsKey text bytes
+Behind (Key bytes) text = IsKeyText text bytes
 Behind (Fail kind count) text = IsFailure text kind count
 Behind (FailSend port count) text = IsSendFailure text port count
 Behind (Ng source bytes) text = IsDatagram text source bytes
@@ -92,10 +92,10 @@ SpellsStep line Tick = line ≡ codes "tick"
 SpellsStep line step = InWords line step
 
 -- The line is in the grammar, and asks for this step. No line has more than 40,000 bytes.
-pub record Spells (line : List ℕ) (step : Step) : Type 0 where
+pub record SpellsLine (line : List ℕ) (step : Step) : Type 0 where
   pub short : length line ≤ 40000
   pub spelled : SpellsStep line step
 
 -- the line is outside the grammar: it asks for no step
 abbrev pub IsOutside : List ℕ → Type 0
-IsOutside line = (step : Step) → Spells line step → ⊥
+IsOutside line = (step : Step) → SpellsLine line step → ⊥

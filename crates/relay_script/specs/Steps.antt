@@ -21,14 +21,14 @@ pub data Step : Type 0 where
   Tick : Step
 
 -- what a step of the code stands for
-abbrev pub meaning : coded.Step → Step
-meaning code.Skip = Skip
-meaning (code.At moment) = At moment
-meaning (code.Key bytes) = Key bytes
-meaning (code.Fail kind count) = Fail kind count
-meaning (code.FailSend port count) = FailSend port count
-meaning (code.Ng source bytes) = Ng source bytes.list
-meaning (code.Take port source bytes) = Take port source bytes.list
-meaning (code.Relay receipt) = Relay receipt
-meaning (code.Packet port source bytes) = Packet port source bytes.list
-meaning code.Tick = Tick
+abbrev pub step_meaning : coded.Step → Step
+step_meaning code.Skip = Skip
+step_meaning (code.At moment) = At moment
+step_meaning (code.Key bytes) = Key bytes
+step_meaning (code.Fail kind count) = Fail kind count
+step_meaning (code.FailSend port count) = FailSend port count
+step_meaning (code.Ng source bytes) = Ng source bytes.list
+step_meaning (code.Take port source bytes) = Take port source bytes.list
+step_meaning (code.Relay receipt) = Relay receipt
+step_meaning (code.Packet port source bytes) = Packet port source bytes.list
+step_meaning code.Tick = Tick

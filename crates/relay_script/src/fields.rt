@@ -3,8 +3,8 @@ ghost use Rattle.std.specs.Prelude.{◌≡◌, ◌==◌, ◌<◌, ◌≤◌, ◌
 ghost use Rattle.ng_bencode.specs.Fits.{IsFreeOf};
 ghost use Rattle.relay_outside.specs.declared.address.Addr.{Addr};
 ghost use Rattle.relay_outside.specs.declared.address.Ip.{Ip};
-ghost use Rattle.relay_script.specs.Fields.{IsNumber, IsCount, IsHost, IsAddr, InBrackets};
-ghost use Rattle.relay_script.specs.Lines.{IsKey};
+ghost use Rattle.relay_script.specs.Fields.{IsNumber, IsCount, IsHostText, IsAddr, InBrackets};
+ghost use Rattle.relay_script.specs.Lines.{IsKeyText};
 
 use ng_bencode::{read_decimal, read_until};
 use relay_outside::{Addr, Ip, KeyAndSalt};
@@ -64,7 +64,7 @@ fn read_bracketed(text: &[u8]) -> Option<[u8; 16]>
 
 /// The address of a host.
 fn read_ip(text: &[u8]) -> Option<Ip>
-    ensures { MatchOption result ((ip : Ip) → IsHost text.now ip → ⊥) (λ ip. IsHost text.now ip) }
+    ensures { MatchOption result ((ip : Ip) → IsHostText text.now ip → ⊥) (λ ip. IsHostText text.now ip) }
 {
     if let Some(Host::V4(bytes)) = read_ipv4(text) {
         return Some(Ip::V4(bytes));
@@ -104,7 +104,7 @@ pub(crate) fn read_addr(word: &[u8]) -> Option<Addr>
 
 /// The 30 bytes of a key.
 pub(crate) fn read_key(digits: &[u8]) -> Option<KeyAndSalt>
-    ensures { MatchOption result ((bytes : List ℕ) → IsKey digits.now bytes → ⊥) (λ bytes. IsKey digits.now bytes) }
+    ensures { MatchOption result ((bytes : List ℕ) → IsKeyText digits.now bytes → ⊥) (λ bytes. IsKeyText digits.now bytes) }
 {
     let mut key = [0; 30];
     let Ok(()) = hex::decode_to_slice(digits, &mut key) else {

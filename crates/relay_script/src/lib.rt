@@ -7,13 +7,13 @@
 mod event;
 mod fields;
 mod law;
+mod parser;
 mod payload;
-mod reading;
+mod printer;
 mod step;
-mod writing;
 
 pub use event::Printed;
 pub use law::{one_step, printed_text_is_read};
-pub use reading::parse;
+pub use parser::parse;
+pub use printer::print;
 pub use step::{FailKind, ParseFault, Step};
-pub use writing::print;

@@ -2,7 +2,7 @@
 ghost use Rattle.std.specs.Prelude.{◌≡◌, ◌<◌, ◌++◌, ◌∷◌, [], ℕ, List, length, MatchOption, MatchResult, IfSome, codes};
 ghost use Rattle.hex.specs.Hex.{encode_lower};
 ghost use Rattle.relay_script.specs.Fields.{IsHex, IsText, IsPayload};
-ghost use Rattle.relay_script.specs.Reading.{Refuses, BeginsWith, NoPiece};
+ghost use Rattle.relay_script.specs.LineParts.{RefusesText, BeginsWith, NoPiece};
 
 use crate::step::ParseFault;
 use ng_bencode::Text;
@@ -55,7 +55,7 @@ fn read_coded(text: &[u8]) -> Option<(u8, &[u8])>
 fn read_hex(alloc: Global, digits: &[u8]) -> Result<Text, ParseFault>
     ensures { MatchResult result
         (λ bytes. IsHex digits.now bytes.list)
-        (λ fault. Refuses fault ((bytes : List ℕ) → IsHex digits.now bytes → ⊥)) }
+        (λ fault. RefusesText fault ((bytes : List ℕ) → IsHex digits.now bytes → ⊥)) }
 {
     let mut bytes = Text::new(alloc);
     bytes.reserve(digits.len() / 2)?;
@@ -92,7 +92,7 @@ fn read_piece(text: &[u8]) -> Option<(u8, &[u8])>
 fn read_text(alloc: Global, text: &[u8]) -> Result<Text, ParseFault>
     ensures { MatchResult result
         (λ bytes. IsText text.now bytes.list)
-        (λ fault. Refuses fault ((bytes : List ℕ) → IsText text.now bytes → ⊥)) }
+        (λ fault. RefusesText fault ((bytes : List ℕ) → IsText text.now bytes → ⊥)) }
 {
     let mut bytes = Text::new(alloc);
     bytes.reserve(text.len())?;
@@ -111,7 +111,7 @@ fn read_text(alloc: Global, text: &[u8]) -> Result<Text, ParseFault>
 pub(crate) fn read_payload(alloc: Global, text: &[u8]) -> Result<Text, ParseFault>
     ensures { MatchResult result
         (λ bytes. IsPayload text.now bytes.list)
-        (λ fault. Refuses fault ((bytes : List ℕ) → IsPayload text.now bytes → ⊥)) }
+        (λ fault. RefusesText fault ((bytes : List ℕ) → IsPayload text.now bytes → ⊥)) }
 {
     let Some((letter, rest)) = read_head(text) else {
         return Err(ParseFault::NotInGrammar);

@@ -7,14 +7,14 @@ use Rattle.std.proofs.lemmas.List.Folds.{list_any-append}
 use Rattle.relay_script.specs.declared.step.FailKind.TheVariants as kind
 use Rattle.relay_script.specs.declared.step.Step.{Step}
 use Rattle.relay_script.specs.declared.step.Step.TheVariants as line
-use Rattle.replay_devices.specs.Countdowns.{after_call}
-use Rattle.replay_devices.specs.Ports.{fails_behind, take_fails, takes_after}
+use Rattle.replay_devices.specs.Countdowns.{counted_down}
+use Rattle.replay_devices.specs.Ports.{take_fails_behind, take_fails, takes_after}
 
 same_after : (n later : ℕ) → ((n - 1) == later + 1) ≡ (n == (later + 1) + 1)
 same_after n later = grind arith
 
 any_after : (numbers : List ℕ) (later : ℕ) →
-    list_any (λ n. n == later + 1) (after_call numbers) ≡ list_any (λ n. n == (later + 1) + 1) numbers
+    list_any (λ n. n == later + 1) (counted_down numbers) ≡ list_any (λ n. n == (later + 1) + 1) numbers
 any_after [] later = refl
 any_after (n ∷ numbers) later = rw (same_after n later, any_after numbers later) refl
 
@@ -26,8 +26,8 @@ turned false false = refl
 
 -- what the numbers say of later takes, as one more line is passed
 pub passed : (step : Step) (past : List Step) (numbers : List ℕ) →
-    ((later : ℕ) → list_any (λ n. n == later + 1) numbers ≡ fails_behind past later) → (later : ℕ) →
-    list_any (λ n. n == later + 1) (takes_after step numbers) ≡ fails_behind (step ∷ past) later
+    ((later : ℕ) → list_any (λ n. n == later + 1) numbers ≡ take_fails_behind past later) → (later : ℕ) →
+    list_any (λ n. n == later + 1) (takes_after step numbers) ≡ take_fails_behind (step ∷ past) later
 passed line.Skip past numbers holds later = holds later
 passed (line.At moment) past numbers holds later = holds later
 passed (line.Key bytes) past numbers holds later = holds later

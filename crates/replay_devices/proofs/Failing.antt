@@ -16,8 +16,8 @@ use Rattle.replay_devices.specs.Devices.{Happening, Made, Opened, Drew, Replied,
 use Rattle.replay_devices.specs.declared.failures.Stage.{Stage}
 use Rattle.replay_devices.specs.declared.failures.Stage.TheVariants.{Waiting, Counting}
 use Rattle.replay_devices.specs.declared.failures.SendFailure.{SendFailure}
-use Rattle.replay_devices.specs.Failures.{waiting_for, opened_by, opened_at, sent_by, sent_at, is_next_at, any_next_at}
-use Rattle.replay_devices.specs.Watch.{sends, send_asked}
+use Rattle.replay_devices.specs.Failures.{waiting_for, after_open_in, after_open_at, after_send_in, after_send_at, is_next_at, any_next_at}
+use Rattle.replay_devices.specs.Watch.{sends_to_fail, send_asked}
 use Rattle.replay_devices.proofs.Watches.{or_none, or_swap}
 
 -- Lists.
@@ -83,23 +83,23 @@ zero_isnt n = grind (arith, nat_tests)
 
 module _ (port number : ℕ) where
   opened_case : (p n : ℕ) (stage : Stage) (b : Bool) → (p == port) ≡ b
-      → is_made port (number + 1) (if b then opened_by stage (failure p n stage) else failure p n stage) ≡ waits port (number + 1) (failure p n stage)
+      → is_made port (number + 1) (if b then after_open_in stage (failure p n stage) else failure p n stage) ≡ waits port (number + 1) (failure p n stage)
   opened_case p n Waiting true q = refl
   opened_case p n Counting true q = ap (λ (b : Bool). (p == port) && b) (zero_isnt number) ∙ and_none (p == port)
   opened_case p n Waiting false q = sym (not_one p port (n == number + 1) q)
   opened_case p n Counting false q = not_one p port (n == number + 1) q
 
-  opened_made : (f : SendFailure) → is_made port (number + 1) (opened_at port f) ≡ waits port (number + 1) f
+  opened_made : (f : SendFailure) → is_made port (number + 1) (after_open_at port f) ≡ waits port (number + 1) f
   opened_made f = opened_case f.port f.number f.stage (f.port == port) refl
 
   waits_case : (p n : ℕ) (stage : Stage) (b : Bool) → (p == port) ≡ b
-      → waits port number (if b then opened_by stage (failure p n stage) else failure p n stage) ≡ false
+      → waits port number (if b then after_open_in stage (failure p n stage) else failure p n stage) ≡ false
   waits_case p n Waiting true q = refl
   waits_case p n Counting true q = refl
   waits_case p n Waiting false q = not_one p port (n == number) q
   waits_case p n Counting false q = refl
 
-  opened_waits : (f : SendFailure) → waits port number (opened_at port f) ≡ false
+  opened_waits : (f : SendFailure) → waits port number (after_open_at port f) ≡ false
   opened_waits f = waits_case f.port f.number f.stage (f.port == port) refl
 
   -- at another port
@@ -108,19 +108,19 @@ module _ (port number : ℕ) where
     not_here p q = grind (arith, nat_tests)
 
     opened_apart : (p n : ℕ) (stage : Stage) (b : Bool) → (p == other) ≡ b
-        → is_made port number (if b then opened_by stage (failure p n stage) else failure p n stage) ≡ is_made port number (failure p n stage)
+        → is_made port number (if b then after_open_in stage (failure p n stage) else failure p n stage) ≡ is_made port number (failure p n stage)
     opened_apart p n Waiting true q = not_one p port (n == number) (not_here p q)
     opened_apart p n Counting true q = not_one p port (0 == number) (not_here p q) ∙ sym (not_one p port (n == number) (not_here p q))
     opened_apart p n stage false q = refl
 
     waits_apart : (p n : ℕ) (stage : Stage) (b : Bool) → (p == other) ≡ b
-        → waits port number (if b then opened_by stage (failure p n stage) else failure p n stage) ≡ waits port number (failure p n stage)
+        → waits port number (if b then after_open_in stage (failure p n stage) else failure p n stage) ≡ waits port number (failure p n stage)
     waits_apart p n Waiting true q = sym (not_one p port (n == number) (not_here p q))
     waits_apart p n Counting true q = refl
     waits_apart p n stage false q = refl
 
     sent_apart : (p n : ℕ) (stage : Stage) (b : Bool) → (p == other) ≡ b
-        → is_made port number (if b then sent_by stage (failure p n stage) else failure p n stage) ≡ is_made port number (failure p n stage)
+        → is_made port number (if b then after_send_in stage (failure p n stage) else failure p n stage) ≡ is_made port number (failure p n stage)
     sent_apart p n Waiting true q = refl
     sent_apart p n Counting true q = not_one p port (n - 1 == number) (not_here p q) ∙ sym (not_one p port (n == number) (not_here p q))
     sent_apart p n stage false q = refl
@@ -129,18 +129,18 @@ module _ (port number : ℕ) where
   one_less n = grind (arith, nat_tests)
 
   sent_case : (p n : ℕ) (stage : Stage) (b : Bool) → (p == port) ≡ b
-      → is_made port (number + 1) (if b then sent_by stage (failure p n stage) else failure p n stage) ≡ is_made port (number + 1 + 1) (failure p n stage)
+      → is_made port (number + 1) (if b then after_send_in stage (failure p n stage) else failure p n stage) ≡ is_made port (number + 1 + 1) (failure p n stage)
   sent_case p n Waiting true q = refl
   sent_case p n Counting true q = ap (λ (b : Bool). (p == port) && b) (one_less n)
   sent_case p n Waiting false q = refl
   sent_case p n Counting false q = not_one p port (n == number + 1) q ∙ sym (not_one p port (n == number + 1 + 1) q)
 
-  sent_made : (f : SendFailure) → is_made port (number + 1) (sent_at port f) ≡ is_made port (number + 1 + 1) f
+  sent_made : (f : SendFailure) → is_made port (number + 1) (after_send_at port f) ≡ is_made port (number + 1 + 1) f
   sent_made f = sent_case f.port f.number f.stage (f.port == port) refl
 
 -- a send doesn't touch the failing ones that wait
 sent_waits_case : (port number other p n : ℕ) (stage : Stage) (b : Bool)
-    → waits port number (if b then sent_by stage (failure p n stage) else failure p n stage) ≡ waits port number (failure p n stage)
+    → waits port number (if b then after_send_in stage (failure p n stage) else failure p n stage) ≡ waits port number (failure p n stage)
 sent_waits_case port number other p n Waiting true = refl
 sent_waits_case port number other p n Counting true = refl
 sent_waits_case port number other p n stage false = refl
@@ -179,10 +179,10 @@ module _ (config : Config) (pair : ℕ) (half : Half) where
   at_same (Sent a g ok) = refl
 
   abbrev any_made : ℕ → List Happening → Bool
-  any_made j past = list_any (is_made port (j + 1)) (sends config past)
+  any_made j past = list_any (is_made port (j + 1)) (sends_to_fail config past)
 
   abbrev any_waits : ℕ → List Happening → Bool
-  any_waits j past = list_any (waits port (j + 1)) (sends config past)
+  any_waits j past = list_any (waits port (j + 1)) (sends_to_fail config past)
 
   -- how many sends came since the end was made
   abbrev sent_since : List Happening → ℕ
@@ -197,25 +197,25 @@ module _ (config : Config) (pair : ℕ) (half : Half) where
   WaitsAre past = (j : ℕ) → any_waits j past ≡ list_any (fails_send port (j + 1)) (until makes past)
 
   -- a line that asks for no failing send
-  quiet_made : (s : model.Step) (past : List Happening) → send_asked s ≡ [] → MadeAre past → MadeAre (Made s ∷ past)
+  quiet_made : (s : model.ReplayStep) (past : List Happening) → send_asked s ≡ [] → MadeAre past → MadeAre (Made s ∷ past)
   quiet_made s past none made j =
-      ap (λ (xs : List SendFailure). list_any (is_made port (j + 1)) (sends config past ++ xs)) none
-      ∙ ap (λ (xs : List SendFailure). list_any (is_made port (j + 1)) xs) (append-nil (sends config past)) ∙ made j
+      ap (λ (xs : List SendFailure). list_any (is_made port (j + 1)) (sends_to_fail config past ++ xs)) none
+      ∙ ap (λ (xs : List SendFailure). list_any (is_made port (j + 1)) xs) (append-nil (sends_to_fail config past)) ∙ made j
 
-  quiet_waits : (s : model.Step) (past : List Happening) → send_asked s ≡ [] → ((n : ℕ) → fails_send port n (Made s) ≡ false) → WaitsAre past → WaitsAre (Made s ∷ past)
+  quiet_waits : (s : model.ReplayStep) (past : List Happening) → send_asked s ≡ [] → ((n : ℕ) → fails_send port n (Made s) ≡ false) → WaitsAre past → WaitsAre (Made s ∷ past)
   quiet_waits s past none fails_none wait j =
-      ap (λ (xs : List SendFailure). list_any (waits port (j + 1)) (sends config past ++ xs)) none
-      ∙ ap (λ (xs : List SendFailure). list_any (waits port (j + 1)) xs) (append-nil (sends config past)) ∙ wait j
+      ap (λ (xs : List SendFailure). list_any (waits port (j + 1)) (sends_to_fail config past ++ xs)) none
+      ∙ ap (λ (xs : List SendFailure). list_any (waits port (j + 1)) xs) (append-nil (sends_to_fail config past)) ∙ wait j
       ∙ sym (ap (λ (b : Bool). b || list_any (fails_send port (j + 1)) (until makes past)) (fails_none (j + 1)))
 
-  quiet : (s : model.Step) (past : List Happening) → send_asked s ≡ [] → ((n : ℕ) → fails_send port n (Made s) ≡ false) → MadeAre past × WaitsAre past
+  quiet : (s : model.ReplayStep) (past : List Happening) → send_asked s ≡ [] → ((n : ℕ) → fails_send port n (Made s) ≡ false) → MadeAre past × WaitsAre past
       → MadeAre (Made s ∷ past) × WaitsAre (Made s ∷ past)
   quiet s past none fails_none (made, wait) = (quiet_made s past none made, quiet_waits s past none fails_none wait)
 
-  one_made : (s : model.Step) (past : List Happening) → MadeAre past × WaitsAre past → MadeAre (Made s ∷ past) × WaitsAre (Made s ∷ past)
+  one_made : (s : model.ReplayStep) (past : List Happening) → MadeAre past × WaitsAre past → MadeAre (Made s ∷ past) × WaitsAre (Made s ∷ past)
   one_made (model.FailSend q n) past (made, wait) = (
-    λ j. any_both (is_made port (j + 1)) (sends config past) (waiting_for q n ∷ []) ∙ sym (or_none (any_made j past)) ∙ made j,
-    λ j. any_both (waits port (j + 1)) (sends config past) (waiting_for q n ∷ [])
+    λ j. any_both (is_made port (j + 1)) (sends_to_fail config past) (waiting_for q n ∷ []) ∙ sym (or_none (any_made j past)) ∙ made j,
+    λ j. any_both (waits port (j + 1)) (sends_to_fail config past) (waiting_for q n ∷ [])
         ∙ or_swap (any_waits j past) (((q == port) && (n == j + 1)) || false)
         ∙ ap (λ (b : Bool). b || any_waits j past) (sym (or_none ((q == port) && (n == j + 1))))
         ∙ ap (λ (b : Bool). ((q == port) && (n == j + 1)) || b) (wait j),
@@ -234,24 +234,24 @@ module _ (config : Config) (pair : ℕ) (half : Half) where
   opened_here : (a : ℕ) (g : Half) (past : List Happening) → half_port config a g ≡ port → ((a == pair) && is_half g half) ≡ true → WaitsAre past
       → MadeAre (Opened a g true ∷ past) × WaitsAre (Opened a g true ∷ past)
   opened_here a g past at it wait = (
-    λ j. ap (λ (q : ℕ). list_any (is_made port (j + 1)) (map (opened_at q) (sends config past))) at
-        ∙ any_over (is_made port (j + 1)) (waits port (j + 1)) (opened_at port) (opened_made port j) (sends config past) ∙ wait j
+    λ j. ap (λ (q : ℕ). list_any (is_made port (j + 1)) (map (after_open_at q) (sends_to_fail config past))) at
+        ∙ any_over (is_made port (j + 1)) (waits port (j + 1)) (after_open_at port) (opened_made port j) (sends_to_fail config past) ∙ wait j
         ∙ ap (λ (n : ℕ). list_any (fails_send port n) (until makes past)) (sym (plus_none (j + 1)))
         ∙ sym (ap (λ (b : Bool). list_any (fails_send port (count_by sends_it (if b then [] else Opened a g true ∷ until makes past) + (j + 1))) (until makes (if b then past else behind makes past))) it),
-    λ j. ap (λ (q : ℕ). list_any (waits port (j + 1)) (map (opened_at q) (sends config past))) at
-        ∙ any_over (waits port (j + 1)) (λ f. false) (opened_at port) (opened_waits port (j + 1)) (sends config past)
-        ∙ any_never (λ f. false) (λ f. refl) (sends config past)
+    λ j. ap (λ (q : ℕ). list_any (waits port (j + 1)) (map (after_open_at q) (sends_to_fail config past))) at
+        ∙ any_over (waits port (j + 1)) (λ f. false) (after_open_at port) (opened_waits port (j + 1)) (sends_to_fail config past)
+        ∙ any_never (λ f. false) (λ f. refl) (sends_to_fail config past)
         ∙ sym (ap (λ (b : Bool). list_any (fails_send port (j + 1)) (if b then [] else Opened a g true ∷ until makes past)) it),
   )
 
   opened_there : (a : ℕ) (g : Half) (past : List Happening) → (half_port config a g == port) ≡ false → ((a == pair) && is_half g half) ≡ false → MadeAre past × WaitsAre past
       → MadeAre (Opened a g true ∷ past) × WaitsAre (Opened a g true ∷ past)
   opened_there a g past apart other (made, wait) = (
-    λ j. any_over (is_made port (j + 1)) (is_made port (j + 1)) (opened_at (half_port config a g))
-        (λ f. opened_apart port (j + 1) (half_port config a g) apart f.port f.number f.stage (f.port == half_port config a g) refl) (sends config past) ∙ made j
+    λ j. any_over (is_made port (j + 1)) (is_made port (j + 1)) (after_open_at (half_port config a g))
+        (λ f. opened_apart port (j + 1) (half_port config a g) apart f.port f.number f.stage (f.port == half_port config a g) refl) (sends_to_fail config past) ∙ made j
         ∙ sym (ap (λ (b : Bool). list_any (fails_send port (count_by sends_it (if b then [] else Opened a g true ∷ until makes past) + (j + 1))) (until makes (if b then past else behind makes past))) other),
-    λ j. any_over (waits port (j + 1)) (waits port (j + 1)) (opened_at (half_port config a g))
-        (λ f. waits_apart port (j + 1) (half_port config a g) apart f.port f.number f.stage (f.port == half_port config a g) refl) (sends config past) ∙ wait j
+    λ j. any_over (waits port (j + 1)) (waits port (j + 1)) (after_open_at (half_port config a g))
+        (λ f. waits_apart port (j + 1) (half_port config a g) apart f.port f.number f.stage (f.port == half_port config a g) refl) (sends_to_fail config past) ∙ wait j
         ∙ sym (ap (λ (b : Bool). list_any (fails_send port (j + 1)) (if b then [] else Opened a g true ∷ until makes past)) other),
   )
 
@@ -266,8 +266,8 @@ module _ (config : Config) (pair : ℕ) (half : Half) where
   -- a packet was sent by this end, or by another
   sent_here : (a : ℕ) (g : Half) (ok : Bool) (past : List Happening) → half_port config a g ≡ port → ((a == pair) && is_half g half) ≡ true → MadeAre past → MadeAre (Sent a g ok ∷ past)
   sent_here a g ok past at it made j =
-      ap (λ (q : ℕ). list_any (is_made port (j + 1)) (map (sent_at q) (sends config past))) at
-      ∙ any_over (is_made port (j + 1)) (is_made port (j + 1 + 1)) (sent_at port) (sent_made port j) (sends config past) ∙ made (j + 1)
+      ap (λ (q : ℕ). list_any (is_made port (j + 1)) (map (after_send_at q) (sends_to_fail config past))) at
+      ∙ any_over (is_made port (j + 1)) (is_made port (j + 1 + 1)) (after_send_at port) (sent_made port j) (sends_to_fail config past) ∙ made (j + 1)
       ∙ ap (λ (n : ℕ). list_any (fails_send port n) (until makes (behind makes past))) (one_on (sent_since past) j)
       ∙ sym (ap (λ (b : Bool). list_any (fails_send port (cond b 1 0 + sent_since past + (j + 1))) (until makes (behind makes past))) it)
       ∙ ap (λ (n : ℕ). list_any (fails_send port (n + (j + 1))) (until makes (behind makes past))) (sym (count_one sends_it (Sent a g ok) (until makes past)))
@@ -277,16 +277,16 @@ module _ (config : Config) (pair : ℕ) (half : Half) where
 
   sent_there : (a : ℕ) (g : Half) (ok : Bool) (past : List Happening) → (half_port config a g == port) ≡ false → ((a == pair) && is_half g half) ≡ false → MadeAre past → MadeAre (Sent a g ok ∷ past)
   sent_there a g ok past apart other made j =
-      any_over (is_made port (j + 1)) (is_made port (j + 1)) (sent_at (half_port config a g))
-      (λ f. sent_apart port (j + 1) (half_port config a g) apart f.port f.number f.stage (f.port == half_port config a g) refl) (sends config past) ∙ made j
+      any_over (is_made port (j + 1)) (is_made port (j + 1)) (after_send_at (half_port config a g))
+      (λ f. sent_apart port (j + 1) (half_port config a g) apart f.port f.number f.stage (f.port == half_port config a g) refl) (sends_to_fail config past) ∙ made j
       ∙ ap (λ (n : ℕ). list_any (fails_send port (n + (j + 1))) (until makes (behind makes past))) (sym (plus_none (sent_since past)))
       ∙ sym (ap (λ (b : Bool). list_any (fails_send port (cond b 1 0 + sent_since past + (j + 1))) (until makes (behind makes past))) other)
       ∙ ap (λ (n : ℕ). list_any (fails_send port (n + (j + 1))) (until makes (behind makes past))) (sym (count_one sends_it (Sent a g ok) (until makes past)))
 
   sent_waits : (a : ℕ) (g : Half) (ok : Bool) (past : List Happening) → WaitsAre past → WaitsAre (Sent a g ok ∷ past)
   sent_waits a g ok past wait j =
-      any_over (waits port (j + 1)) (waits port (j + 1)) (sent_at (half_port config a g))
-      (λ f. sent_waits_case port (j + 1) (half_port config a g) f.port f.number f.stage (f.port == half_port config a g)) (sends config past) ∙ wait j
+      any_over (waits port (j + 1)) (waits port (j + 1)) (after_send_at (half_port config a g))
+      (λ f. sent_waits_case port (j + 1) (half_port config a g) f.port f.number f.stage (f.port == half_port config a g)) (sends_to_fail config past) ∙ wait j
 
   sent_case_of : (a : ℕ) (g : Half) (ok : Bool) (past : List Happening) (b : Bool) → (half_port config a g == port) ≡ b → MadeAre past → MadeAre (Sent a g ok ∷ past)
   sent_case_of a g ok past true at made = sent_here a g ok past (same_number (half_port config a g) port at) (sym (same_port config a g pair half) ∙ at) made
@@ -305,7 +305,7 @@ module _ (config : Config) (pair : ℕ) (half : Half) where
   all_are (Sent a g ok ∷ past) = (sent_case_of a g ok past (half_port config a g == port) refl (all_are past).0, sent_waits a g ok past (all_are past).1)
 
   -- the next send by the end fails where one of them is the next
-  pub sends_fail : (past : List Happening) → any_next_at port (sends config past) ≡ send_fails config past pair half
+  pub sends_fail : (past : List Happening) → any_next_at port (sends_to_fail config past) ≡ send_fails config past pair half
   sends_fail past =
-      any_same (is_next_at port) (is_made port 1) (λ f. next_made port f.port f.number f.stage) (sends config past) ∙ (all_are past).0 0
+      any_same (is_next_at port) (is_made port 1) (λ f. next_made port f.port f.number f.stage) (sends_to_fail config past) ∙ (all_are past).0 0
       ∙ ap (λ (xs : List Happening). list_any (fails_send port (next_send past pair half)) xs) (sym (until_same (makes_at config port) makes at_same (behind makes past)))

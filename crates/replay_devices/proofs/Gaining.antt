@@ -6,15 +6,15 @@ use Rattle.relay_outside.specs.declared.answers.OutOfMemory.{OutOfMemory}
 use Rattle.relay_outside.specs.declared.lines.LineCall.{LineCall}
 use Rattle.relay_outside.specs.declared.lines.LineCall.TheVariants as call
 use Rattle.relay_outside.specs.declared.lines.LineGiven.TheVariants as given
-use Rattle.relay_outside.specs.Told.{Gains, Gained}
+use Rattle.relay_outside.specs.DeviceLogs.{Gains, Gained}
 use Rattle.relay_outside.proofs.Telling.{gained_none, gained_one, gained_both}
 use Rattle.relay_script.specs.declared.step.Step as coded
-use Rattle.relay_script.specs.Steps.{Step, meaning}
-use Rattle.replay_devices.specs.declared.reading.Found.{Found}
-use Rattle.replay_devices.specs.declared.reading.Found.TheVariants as found
+use Rattle.relay_script.specs.Steps.{Step, step_meaning}
+use Rattle.replay_devices.specs.declared.script_reader.Found.{Found}
+use Rattle.replay_devices.specs.declared.script_reader.Found.TheVariants as found
 use Rattle.replay_devices.specs.declared.script.Ending.{Ending}
-use Rattle.replay_devices.specs.Finding.{Answers, Finds, StandsFor, OneRead}
-use Rattle.replay_devices.specs.Scripts.{read, ReadsStep, ReadsSteps, ReadsEnding, Reads, ReadsFront}
+use Rattle.replay_devices.specs.LineReads.{IsFoundOrShort, Finds, IsFoundBy, OneRead}
+use Rattle.replay_devices.specs.Scripts.{read, ReadsStep, ReadsSteps, ReadsEnding, ReadsScript, ReadsFront}
 
 reads_more : (steps : List Step) (calls : List LineCall) (step : Step) (made : LineCall) → ReadsSteps steps calls → ReadsStep step made
     → ReadsSteps (steps ++ step ∷ []) (calls ++ made ∷ [])
@@ -31,19 +31,19 @@ module _ (old mid new : Option (List LineCall)) where
       before (gained_one mid new made (λ calls. calls ≡ made ∷ []) gains refl)
 
   -- one more step
-  pub step_read : (steps more : List coded.Step) (step : coded.Step) → more ≡ steps ++ step ∷ [] → Gained old mid (ReadsSteps (map meaning steps))
-      → OneRead mid new (StandsFor (found.Step step)) → Gained old new (ReadsSteps (map meaning more))
+  pub step_read : (steps more : List coded.Step) (step : coded.Step) → more ≡ steps ++ step ∷ [] → Gained old mid (ReadsSteps (map step_meaning steps))
+      → OneRead mid new (IsFoundBy (found.Step step)) → Gained old new (ReadsSteps (map step_meaning more))
   step_read steps more step is before one =
-      subst (λ (all : List Step). Gained old new (ReadsSteps all)) (sym (ap (map meaning) is ∙ map-append meaning steps (step ∷ [])))
-      (one_more one.made (ReadsSteps (map meaning steps)) (ReadsSteps (map meaning steps ++ meaning step ∷ []))
-      (λ xs x. reads_more (map meaning steps) xs (meaning step) one.made x one.holds) before one.gains)
+      subst (λ (all : List Step). Gained old new (ReadsSteps all)) (sym (ap (map step_meaning) is ∙ map-append step_meaning steps (step ∷ [])))
+      (one_more one.made (ReadsSteps (map step_meaning steps)) (ReadsSteps (map step_meaning steps ++ step_meaning step ∷ []))
+      (λ xs x. reads_more (map step_meaning steps) xs (step_meaning step) one.made x one.holds) before one.gains)
 
   -- the last read
-  pub ending_read : (steps : List coded.Step) (ending : Ending) → length steps ≤ 50000 → Gained old mid (ReadsSteps (map meaning steps))
-      → OneRead mid new (ReadsEnding (length steps) ending) → Gained old new (Reads (map meaning steps) ending)
+  pub ending_read : (steps : List coded.Step) (ending : Ending) → length steps ≤ 50000 → Gained old mid (ReadsSteps (map step_meaning steps))
+      → OneRead mid new (ReadsEnding (length steps) ending) → Gained old new (ReadsScript (map step_meaning steps) ending)
   ending_read steps ending most before one =
-      let same : length (map meaning steps) ≡ length steps = length-map steps meaning in
-      one_more one.made (ReadsSteps (map meaning steps)) (Reads (map meaning steps) ending)
+      let same : length (map step_meaning steps) ≡ length steps = length-map steps step_meaning in
+      one_more one.made (ReadsSteps (map step_meaning steps)) (ReadsScript (map step_meaning steps) ending)
       (λ xs x. record {
         before = xs;
         last = one.made;
@@ -55,19 +55,19 @@ module _ (old mid new : Option (List LineCall)) where
       before one.gains
 
   -- the same, of an ending that was found before a script's last line
-  pub ending_found : (steps : List coded.Step) (ending : Ending) → length steps ≤ 50000 → Gained old mid (ReadsSteps (map meaning steps))
-      → OneRead mid new (StandsFor (found.Ending ending)) → Gained old new (Reads (map meaning steps) ending)
+  pub ending_found : (steps : List coded.Step) (ending : Ending) → length steps ≤ 50000 → Gained old mid (ReadsSteps (map step_meaning steps))
+      → OneRead mid new (IsFoundBy (found.Ending ending)) → Gained old new (ReadsScript (map step_meaning steps) ending)
   ending_found steps ending most before one =
       ending_read steps ending most before (record { made = one.made; gains = one.gains; holds = one.holds (length steps) })
 
   -- a line for whose step there was no memory
-  pub line_read : (steps : List coded.Step) → length steps ≤ 50000 → Gained old mid (ReadsSteps (map meaning steps))
+  pub line_read : (steps : List coded.Step) → length steps ≤ 50000 → Gained old mid (ReadsSteps (map step_meaning steps))
       → OneRead mid new (λ made. (line : List ℕ) × (made ≡ read (given.Text line))) → Gained old new ReadsFront
   line_read steps most before one =
-      let same : length (map meaning steps) ≡ length steps = length-map steps meaning in
-      one_more one.made (ReadsSteps (map meaning steps)) ReadsFront
+      let same : length (map step_meaning steps) ≡ length steps = length-map steps step_meaning in
+      one_more one.made (ReadsSteps (map step_meaning steps)) ReadsFront
       (λ xs x. record {
-        steps = map meaning steps;
+        steps = map step_meaning steps;
         before = xs;
         more = one.made ∷ [];
         calls_are = refl;
@@ -77,14 +77,14 @@ module _ (old mid new : Option (List LineCall)) where
       })
       before one.gains
 
-  pub step_lost : (steps : List coded.Step) (step : coded.Step) → length steps ≤ 50000 → Gained old mid (ReadsSteps (map meaning steps))
-      → OneRead mid new (StandsFor (found.Step step)) → Gained old new ReadsFront
+  pub step_lost : (steps : List coded.Step) (step : coded.Step) → length steps ≤ 50000 → Gained old mid (ReadsSteps (map step_meaning steps))
+      → OneRead mid new (IsFoundBy (found.Step step)) → Gained old new ReadsFront
   step_lost steps step most before one =
       line_read steps most before (record { made = one.made; gains = one.gains; holds = (one.holds.line, one.holds.read_is) })
 
 -- a line
 pub text_read : (old new : Option (List LineCall)) (room : ℕ) (line : List ℕ) (answer : Result Found OutOfMemory) → room ≡ 40001 → Gains old new (call.Line room (given.Text line))
-    → IfOk answer (Finds line) → OneRead old new (Answers answer)
+    → IfOk answer (Finds line) → OneRead old new (IsFoundOrShort answer)
 text_read old new room line (Ok (found.Step step)) full gains finds = record {
   made = call.Line room (given.Text line);
   gains = gains;
@@ -104,8 +104,8 @@ text_read old new room line (Err fault) full gains finds = record {
 }
 
 -- nothing is read yet
-pub none_read : (told : Option (List LineCall)) → Gained told told (ReadsSteps [])
-none_read told = gained_none told (ReadsSteps []) tt
+pub none_read : (log : Option (List LineCall)) → Gained log log (ReadsSteps [])
+none_read log = gained_none log (ReadsSteps []) tt
 
-pub no_line_read : (told : Option (List LineCall)) → Gained told told ReadsFront
-no_line_read told = gained_none told ReadsFront (record { steps = []; before = []; more = []; calls_are = refl; each = tt; most = omega arith; line = tt })
+pub no_line_read : (log : Option (List LineCall)) → Gained log log ReadsFront
+no_line_read log = gained_none log ReadsFront (record { steps = []; before = []; more = []; calls_are = refl; each = tt; most = omega arith; line = tt })

@@ -9,7 +9,7 @@ use Rattle.relay_outside.specs.declared.ports.OutCall.{OutCall}
 use Rattle.relay_outside.specs.declared.ports.PortCall.{PortCall}
 use Rattle.relay_outside.specs.declared.ports.PortCall.TheVariants.{Open, Close}
 use Rattle.relay_outside.specs.Ports.{IsOpen, ClosesNot}
-use Rattle.relay_outside.specs.Told.{Gains, WhereTold}
+use Rattle.relay_outside.specs.DeviceLogs.{Gains, WhereLogged}
 
 none_at_first : (at : Addr) → IsOpen [] at → ⊥
 none_at_first at o = never o.before o.opened
@@ -19,8 +19,8 @@ none_at_first at o = never o.before o.opened
     never (call ∷ before) e = cc
 
 -- a maker that was not called has no address open
-pub first_open : (told : Option (List PortCall)) (at : Addr) → told ≡ Some [] → WhereTold told (λ calls. IsOpen calls at → ⊥)
-first_open told at is = subst (λ (t : Option (List PortCall)). WhereTold t (λ calls. IsOpen calls at → ⊥)) (sym is) (none_at_first at)
+pub first_open : (log : Option (List PortCall)) (at : Addr) → log ≡ Some [] → WhereLogged log (λ calls. IsOpen calls at → ⊥)
+first_open log at is = subst (λ (t : Option (List PortCall)). WhereLogged t (λ calls. IsOpen calls at → ⊥)) (sym is) (none_at_first at)
 
 -- the last of these is the one in the middle, or stands after it
 at_end : {A : Type 0} (xs before after : List A) (y z : A) → xs ++ y ∷ [] ≡ before ++ z ∷ after →
@@ -49,7 +49,7 @@ just_closed calls at taken sent o =
 
 -- an address that was closed last is not open
 pub closed : (old new : Option (List PortCall)) (at : Addr) (taken : Option (List InCall)) (sent : Option (List OutCall)) →
-    Gains old new (Close at taken sent) → WhereTold new (λ calls. IsOpen calls at → ⊥)
+    Gains old new (Close at taken sent) → WhereLogged new (λ calls. IsOpen calls at → ⊥)
 closed old None at taken sent gains = tt
 closed None (Some new) at taken sent gains = absurd gains
 closed (Some old) (Some new) at taken sent gains =

@@ -5,7 +5,7 @@ use Rattle.std.proofs.lemmas.Bool.Decides.{nat_tests}
 use Rattle.relay_outside.specs.declared.settings.Config.{Config}
 use Rattle.replay_devices.specs.Steps as model
 use Rattle.replay_devices.specs.Devices.{Happening, Made, Opened, Drew, Replied, Sent, counts_for, same_kind, fails_nth, fails_behind, fails}
-use Rattle.replay_devices.specs.Countdowns.{after_call, next_fails}
+use Rattle.replay_devices.specs.Countdowns.{counted_down, next_counted_fails}
 use Rattle.replay_devices.specs.declared.failures.SendFailure.{SendFailure}
 use Rattle.replay_devices.specs.Watch.{asked_now, counts, sends_after, due, WatchState, Notes}
 
@@ -31,12 +31,12 @@ any_both p (x ∷ xs) ys = ap (λ (b : Bool). p x || b) (any_both p xs ys) ∙ o
 one_less : (n later : ℕ) → (n - 1 == later + 1) ≡ (n == later + 1 + 1)
 one_less n later = grind (arith, nat_tests)
 
-any_less : (later : ℕ) (xs : List ℕ) → list_any (λ n. n == later + 1) (after_call xs) ≡ list_any (λ n. n == later + 1 + 1) xs
+any_less : (later : ℕ) (xs : List ℕ) → list_any (λ n. n == later + 1) (counted_down xs) ≡ list_any (λ n. n == later + 1 + 1) xs
 any_less later [] = refl
 any_less later (x ∷ xs) =
-    ap (λ (b : Bool). b || list_any (λ n. n == later + 1) (after_call xs)) (one_less x later) ∙ ap (λ (b : Bool). (x == later + 1 + 1) || b) (any_less later xs)
+    ap (λ (b : Bool). b || list_any (λ n. n == later + 1) (counted_down xs)) (one_less x later) ∙ ap (λ (b : Bool). (x == later + 1 + 1) || b) (any_less later xs)
 
-any_counted : (c : Bool) (later : ℕ) (xs : List ℕ) → list_any (λ n. n == later + 1) (if c then after_call xs else xs) ≡ list_any (λ n. n == (if c then later + 1 else later) + 1) xs
+any_counted : (c : Bool) (later : ℕ) (xs : List ℕ) → list_any (λ n. n == later + 1) (if c then counted_down xs else xs) ≡ list_any (λ n. n == (if c then later + 1 else later) + 1) xs
 any_counted true later xs = any_less later xs
 any_counted false later xs = refl
 
@@ -65,19 +65,19 @@ behind_counts kind [] later = refl
 behind_counts kind (x ∷ past) later =
     let c = counts_for kind x in
     let was = counts kind past in
-    let now = if c then after_call was else was in
+    let now = if c then counted_down was else was in
     ap (λ (b : Bool). b || fails_behind kind past (if c then later + 1 else later)) (asked_nth kind (later + 1) x)
     ∙ ap (λ (b : Bool). list_any (λ n. n == later + 1) (asked_now kind x) || b) (behind_counts kind past (if c then later + 1 else later) ∙ sym (any_counted c later was))
     ∙ or_swap (list_any (λ n. n == later + 1) (asked_now kind x)) (list_any (λ n. n == later + 1) now)
     ∙ sym (any_both (λ n. n == later + 1) now (asked_now kind x))
 
 -- the next call of a kind fails where one of the numbers is 1
-pub counts_fail : (kind : model.FailKind) (past : List Happening) (numbers : List ℕ) → numbers ≡ counts kind past → next_fails numbers ≡ fails kind past
-counts_fail kind past numbers is = ap (λ (ns : List ℕ). next_fails ns) is ∙ sym (behind_counts kind past 0)
+pub counts_fail : (kind : model.FailKind) (past : List Happening) (numbers : List ℕ) → numbers ≡ counts kind past → next_counted_fails numbers ≡ fails kind past
+counts_fail kind past numbers is = ap (λ (ns : List ℕ). next_counted_fails ns) is ∙ sym (behind_counts kind past 0)
 
 -- the numbers of a kind after one more thing
 abbrev pub counted_on : model.FailKind → Happening → List ℕ → List ℕ
-counted_on kind x numbers = (if counts_for kind x then after_call numbers else numbers) ++ asked_now kind x
+counted_on kind x numbers = (if counts_for kind x then counted_down numbers else numbers) ++ asked_now kind x
 
 -- one more thing
 pub noted : (config : Config) (seed : ℕ) (x : Happening) (old new : WatchState) → new.opens ≡ counted_on model.Opening x old.opens → new.draws ≡ counted_on model.Drawing x old.draws

@@ -5,16 +5,16 @@ use Rattle.relay_outside.specs.Failures.{next_count}
 use Rattle.ng_bencode.specs.Room.{Room}
 
 -- whether the next call fails
-abbrev pub next_fails : List ℕ → Bool
-next_fails numbers = list_any (λ n. n == 1) numbers
+abbrev pub next_counted_fails : List ℕ → Bool
+next_counted_fails numbers = list_any (λ n. n == 1) numbers
 
 -- the numbers after the next call, whether it failed or not
-abbrev pub after_call : List ℕ → List ℕ
-after_call numbers = map (λ n. n - 1) numbers
+abbrev pub counted_down : List ℕ → List ℕ
+counted_down numbers = map (λ n. n - 1) numbers
 
 -- the same, with the room for more of them
-abbrev pub counted : Room ℕ → Room ℕ
-counted numbers = record { list = after_call numbers.list; spare = numbers.spare }
+abbrev pub counted_room : Room ℕ → Room ℕ
+counted_room numbers = record { list = counted_down numbers.list; spare = numbers.spare }
 
 -- the count of faults after a call that returned Ok or failed
 abbrev pub faults_after : (done : Bool) → ℕ → ℕ

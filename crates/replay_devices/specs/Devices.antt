@@ -8,14 +8,14 @@ use Rattle.srtp_sources.specs.Notes.{is_half}
 use Rattle.histories.specs.Words.{first, until}
 use Rattle.port_pool.specs.Ports.{half_port}
 use Rattle.call_cell.specs.Cells.{Sending}
-use Rattle.replay_devices.specs.Steps.{FailKind, Opening, Drawing, Replying, Reading, Taking, Step}
+use Rattle.replay_devices.specs.Steps.{FailKind, Opening, Drawing, Replying, Reading, Taking, ReplayStep}
 use Rattle.replay_devices.specs.Steps as step
 
 -- What happened in a replay, in a list of which the latest stands first: a step was made; a port of a pair was opened, or the
 -- open failed; a key was drawn, or the draw failed; a reply was sent, or the send failed; an out end sent a packet, or its send
 -- failed
 pub data Happening : Type 0 where
-  Made : Step → Happening
+  Made : ReplayStep → Happening
   Opened : (pair : ℕ) → Half → (ok : Bool) → Happening
   Drew : (ok : Bool) → Happening
   Replied : (ok : Bool) → Happening
@@ -25,7 +25,7 @@ pub data Happening : Type 0 where
 
 -- the line meets a take of this kind: each line `ng` one of the control link, each line `take` or `packet` one of an in end,
 -- whether its port is open or not
-abbrev pub meets : FailKind → Step → Bool
+abbrev pub meets : FailKind → ReplayStep → Bool
 meets Reading (step.Ng source bytes) = true
 meets Taking (step.Take port source bytes) = true
 meets Taking (step.Packet port source bytes) = true
@@ -47,7 +47,7 @@ same_kind Reading Reading = true
 same_kind Taking Taking = true
 same_kind _ _ = false
 
-abbrev pub is_failure : FailKind → ℕ → Step → Bool
+abbrev pub is_failure : FailKind → ℕ → ReplayStep → Bool
 is_failure kind n (step.Fail other count) = same_kind other kind && (count == n)
 is_failure kind n _ = false
 
@@ -87,7 +87,7 @@ abbrev pub sends_by : (pair : ℕ) → Half → Happening → Bool
 sends_by pair half (Sent other sent ok) = (other == pair) && is_half sent half
 sends_by pair half _ = false
 
-abbrev pub is_send_failure : (port n : ℕ) → Step → Bool
+abbrev pub is_send_failure : (port n : ℕ) → ReplayStep → Bool
 is_send_failure port n (step.FailSend other count) = (other == port) && (count == n)
 is_send_failure port n _ = false
 
@@ -121,7 +121,7 @@ after_send past ok (Some sending) = Sent sending.pair sending.half ok ∷ past
 
 -- Keys.
 
-abbrev pub key_of_step : Step → List (List ℕ)
+abbrev pub key_of_step : ReplayStep → List (List ℕ)
 key_of_step (step.Key bytes) = bytes ∷ []
 key_of_step _ = []
 

@@ -11,21 +11,21 @@ abbrev pub waiting_for : (port number : ℕ) → SendFailure
 waiting_for port number = record { port = port; number = number; stage = Waiting }
 
 -- after an end was made at its port, which ends the one before it
-abbrev pub opened_by : Stage → SendFailure → SendFailure
-opened_by Waiting failure = record { port = failure.port; number = failure.number; stage = Counting }
-opened_by Counting failure = record { port = failure.port; number = 0; stage = failure.stage }
+abbrev pub after_open_in : Stage → SendFailure → SendFailure
+after_open_in Waiting failure = record { port = failure.port; number = failure.number; stage = Counting }
+after_open_in Counting failure = record { port = failure.port; number = 0; stage = failure.stage }
 
 -- after an end was made at this port
-abbrev pub opened_at : (port : ℕ) → SendFailure → SendFailure
-opened_at port failure = if failure.port == port then opened_by failure.stage failure else failure
+abbrev pub after_open_at : (port : ℕ) → SendFailure → SendFailure
+after_open_at port failure = if failure.port == port then after_open_in failure.stage failure else failure
 
-abbrev pub sent_by : Stage → SendFailure → SendFailure
-sent_by Waiting failure = failure
-sent_by Counting failure = record { port = failure.port; number = failure.number - 1; stage = failure.stage }
+abbrev pub after_send_in : Stage → SendFailure → SendFailure
+after_send_in Waiting failure = failure
+after_send_in Counting failure = record { port = failure.port; number = failure.number - 1; stage = failure.stage }
 
 -- after a send by this port
-abbrev pub sent_at : (port : ℕ) → SendFailure → SendFailure
-sent_at port failure = if failure.port == port then sent_by failure.stage failure else failure
+abbrev pub after_send_at : (port : ℕ) → SendFailure → SendFailure
+after_send_at port failure = if failure.port == port then after_send_in failure.stage failure else failure
 
 abbrev pub is_next_by : Stage → (port : ℕ) → SendFailure → Bool
 is_next_by Waiting port failure = false

@@ -1,6 +1,6 @@
 pub mod Steps
 pub mod Devices
-pub mod Finding
+pub mod LineReads
 pub mod Scripts
 pub mod Countdowns
 pub mod Due

@@ -15,20 +15,20 @@ abbrev pub between : List Step → (from before : ℕ) → List Step
 between steps from before = drop from (take before steps)
 
 -- the key of a line `key`
-abbrev pub key_of : Step → Option (List ℕ)
-key_of (line.Key bytes) = Some bytes
-key_of _ = None
+abbrev pub scripted_key : Step → Option (List ℕ)
+scripted_key (line.Key bytes) = Some bytes
+scripted_key _ = None
 
 -- the source and the bytes of a line `ng`
-abbrev pub datagram_of : Step → Option (Addr × List ℕ)
-datagram_of (line.Ng source bytes) = Some (source, bytes.list)
-datagram_of _ = None
+abbrev pub datagram_in : Step → Option (Addr × List ℕ)
+datagram_in (line.Ng source bytes) = Some (source, bytes.list)
+datagram_in _ = None
 
 -- the source and the bytes of a line `take` or `packet`
-abbrev pub packet_of : Step → Option (Addr × List ℕ)
-packet_of (line.Take port source bytes) = Some (source, bytes.list)
-packet_of (line.Packet port source bytes) = Some (source, bytes.list)
-packet_of _ = None
+abbrev pub packet_in : Step → Option (Addr × List ℕ)
+packet_in (line.Take port source bytes) = Some (source, bytes.list)
+packet_in (line.Packet port source bytes) = Some (source, bytes.list)
+packet_in _ = None
 
 -- it is a line `take` or `packet`, at whatever port
 abbrev pub is_arrival : Step → Bool
@@ -47,13 +47,13 @@ arrives_at at (line.Take port source bytes) = (port == at.port) && same_family s
 arrives_at at (line.Packet port source bytes) = (port == at.port) && same_family source.ip at.ip
 arrives_at at _ = false
 
-abbrev pub same_kind : FailKind → FailKind → Bool
-same_kind kind.Open kind.Open = true
-same_kind kind.Draw kind.Draw = true
-same_kind kind.Take kind.Take = true
-same_kind kind.Read kind.Read = true
-same_kind kind.Reply kind.Reply = true
-same_kind _ _ = false
+abbrev pub same_line_kind : FailKind → FailKind → Bool
+same_line_kind kind.Open kind.Open = true
+same_line_kind kind.Draw kind.Draw = true
+same_line_kind kind.Take kind.Take = true
+same_line_kind kind.Read kind.Read = true
+same_line_kind kind.Reply kind.Reply = true
+same_line_kind _ _ = false
 
 abbrev pub where_true : Bool → ℕ → Option ℕ
 where_true true n = Some n
@@ -61,13 +61,13 @@ where_true false n = None
 
 -- the number of a line `fail` of this kind
 abbrev pub asked_of : FailKind → Step → Option ℕ
-asked_of wanted (line.Fail kind number) = where_true (same_kind kind wanted) number
+asked_of wanted (line.Fail kind number) = where_true (same_line_kind kind wanted) number
 asked_of wanted _ = None
 
 -- the same, where there is a line
-abbrev pub asked_by : FailKind → Option Step → Option ℕ
-asked_by wanted None = None
-asked_by wanted (Some step) = asked_of wanted step
+abbrev pub fail_asked_by : FailKind → Option Step → Option ℕ
+fail_asked_by wanted None = None
+fail_asked_by wanted (Some step) = asked_of wanted step
 
 -- how many lines `fail` of this kind there are
 abbrev pub failures_of : FailKind → List Step → ℕ
@@ -88,5 +88,5 @@ is_number None number = false
 is_number (Some other) number = other == number
 
 -- it is a line `fail send` of this port and number
-abbrev pub fails_send : (port number : ℕ) → Step → Bool
-fails_send port number step = is_number (send_failure port step) number
+abbrev pub is_fail_send : (port number : ℕ) → Step → Bool
+is_fail_send port number step = is_number (send_failure port step) number

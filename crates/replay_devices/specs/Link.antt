@@ -11,15 +11,15 @@ use Rattle.relay_outside.specs.Link.{datagrams}
 use Rattle.relay_script.specs.declared.step.FailKind.TheVariants as kind
 use Rattle.relay_script.specs.declared.step.Step.{Step}
 use Rattle.relay_script.specs.declared.step.Step.TheVariants as line
-use Rattle.replay_devices.specs.Countdowns.{counted}
-use Rattle.replay_devices.specs.Lines.{Asks, asked_by, datagram_of}
+use Rattle.replay_devices.specs.Countdowns.{counted_room}
+use Rattle.replay_devices.specs.Lines.{Asks, fail_asked_by, datagram_in}
 use Rattle.replay_devices.specs.declared.link.Waiting.{Waiting}
 use Rattle.replay_devices.specs.declared.link.Waiting.TheVariants as waiting
 
 -- the control link of a replay: what it tells; the script, and the index of the present line; what a take meets; which later
 -- lines `ng` meet a failing take, and which later sends fail; the count of faults
-pub record LinkState : Type 0 where
-  pub told : Option (List LinkCall)
+pub record ReplayLinkState : Type 0 where
+  pub log : Option (List LinkCall)
   pub steps : List Step
   pub step : ℕ
   pub waiting : Waiting
@@ -28,23 +28,23 @@ pub record LinkState : Type 0 where
   pub faults : ℕ
 
 -- what the take for a line `ng` meets
-abbrev pub waiting_for : (failing : Bool) → Waiting
-waiting_for true = waiting.Failure
-waiting_for false = waiting.Datagram
+abbrev pub take_waiting : (failing : Bool) → Waiting
+take_waiting true = waiting.Failure
+take_waiting false = waiting.Datagram
 
 -- what the first take for a line meets, where the next line `ng` meets a failing take or doesn't
 abbrev pub met_at : Option Step → (failing : Bool) → Waiting
-met_at (Some (line.Ng source bytes)) failing = waiting_for failing
+met_at (Some (line.Ng source bytes)) failing = take_waiting failing
 met_at _ failing = waiting.Nothing
 
 -- a line `ng` is counted, a line `fail read` asks
 abbrev pub CountsRead : Option Step → Room ℕ → Room ℕ → Type 0
-CountsRead (Some (line.Ng source bytes)) before after = after ≡ counted before
-CountsRead step before after = Asks (asked_by kind.Read step) before after
+CountsRead (Some (line.Ng source bytes)) before after = after ≡ counted_room before
+CountsRead step before after = Asks (fail_asked_by kind.Read step) before after
 
 abbrev pub datagram_at : Option Step → Option (Addr × List ℕ)
 datagram_at None = None
-datagram_at (Some step) = datagram_of step
+datagram_at (Some step) = datagram_in step
 
 -- a datagram, cut at the room of the buffer
 abbrev pub GivesDatagram : Option (Addr × List ℕ) → Result Taken Failed → List ℕ → Type 0
@@ -54,10 +54,10 @@ GivesDatagram (Some datagram) answer buf =
     (answer ≡ Ok (taken.Datagram datagram.0 len)) × (take len buf ≡ take len datagram.1)
 
 -- a take gives the datagram of the present line, fails, or gives nothing
-abbrev pub Gives : Waiting → Option Step → Result Taken Failed → List ℕ → Type 0
-Gives waiting.Nothing step answer buf = answer ≡ Ok taken.Nothing
-Gives waiting.Datagram step answer buf = GivesDatagram (datagram_at step) answer buf
-Gives waiting.Failure step answer buf = (failed : Failed) × (answer ≡ Err failed)
+abbrev pub GivesLineDatagram : Waiting → Option Step → Result Taken Failed → List ℕ → Type 0
+GivesLineDatagram waiting.Nothing step answer buf = answer ≡ Ok taken.Nothing
+GivesLineDatagram waiting.Datagram step answer buf = GivesDatagram (datagram_at step) answer buf
+GivesLineDatagram waiting.Failure step answer buf = (failed : Failed) × (answer ≡ Err failed)
 
 -- the last datagram that a link says a take gave
 abbrev pub last_taken : Option (List LinkCall) → Option (Addr × List ℕ)

@@ -6,7 +6,7 @@ use Rattle.relay_outside.specs.declared.lines.LineCall.TheVariants as call
 use Rattle.relay_outside.specs.declared.lines.LineGiven.{LineGiven}
 use Rattle.relay_outside.specs.declared.lines.LineGiven.TheVariants as given
 use Rattle.relay_script.specs.declared.step.Step as coded
-use Rattle.relay_script.specs.Lines.{Spells, IsOutside}
+use Rattle.relay_script.specs.Lines.{SpellsLine, IsOutside}
 use Rattle.relay_script.specs.Steps.{Step}
 use Rattle.replay_devices.specs.declared.script.Ending.{Ending}
 use Rattle.replay_devices.specs.declared.script.Ending.TheVariants as ending
@@ -24,7 +24,7 @@ read what = call.Line 40001 what
 pub record ReadsStep (step : Step) (made : LineCall) : Type 0 where
   pub line : List ℕ
   pub read_is : made ≡ read (given.Text line)
-  pub spells : Spells line step
+  pub spells : SpellsLine line step
 
 -- one read for each step, in order
 abbrev pub ReadsSteps : List Step → List LineCall → Type 0
@@ -44,7 +44,7 @@ ReadsEnding count ending.Fault made = made ≡ read given.Failed
 ReadsEnding count ending.Outside made = ReadsOutside count made
 
 -- a script of these steps, at most 50,000, and with this ending: a read for each step, and then one more, the last
-pub record Reads (steps : List Step) (ending : Ending) (calls : List LineCall) : Type 0 where
+pub record ReadsScript (steps : List Step) (ending : Ending) (calls : List LineCall) : Type 0 where
   pub before : List LineCall
   pub last : LineCall
   pub calls_are : calls ≡ before ++ last ∷ []
@@ -53,10 +53,10 @@ pub record Reads (steps : List Step) (ending : Ending) (calls : List LineCall) :
   pub ends : ReadsEnding (length steps) ending last
 
 -- no read, or one that gave a line
-abbrev pub ReadsLine : List LineCall → Type 0
-ReadsLine [] = Unit {0}
-ReadsLine (made ∷ []) = (line : List ℕ) × (made ≡ read (given.Text line))
-ReadsLine (made ∷ again ∷ calls) = ⊥
+abbrev pub ReadsLineOrNone : List LineCall → Type 0
+ReadsLineOrNone [] = Unit {0}
+ReadsLineOrNone (made ∷ []) = (line : List ℕ) × (made ≡ read (given.Text line))
+ReadsLineOrNone (made ∷ again ∷ calls) = ⊥
 
 -- the front of a script, as far as it was read: a read for each step, at most 50,000, and at most one line more
 pub record ReadsFront (calls : List LineCall) : Type 0 where
@@ -66,4 +66,4 @@ pub record ReadsFront (calls : List LineCall) : Type 0 where
   pub calls_are : calls ≡ before ++ more
   pub each : ReadsSteps steps before
   pub most : length steps ≤ 50000
-  pub line : ReadsLine more
+  pub line : ReadsLineOrNone more

@@ -14,14 +14,14 @@ pub data FailKind : Type 0 where
 -- One line: an empty one or a comment; a moment for the clock; the 30 bytes of a key for the next draw; a failure, counted
 -- from now; a failure of a send of the end that the next open of a port makes; a datagram for the control link; a packet that
 -- arrives at a port and is received; the relay of a receipt; both in one; a tick
-pub data Step : Type 0 where
-  Skip : Step
-  At : (moment : ℕ) → Step
-  Key : (bytes : List ℕ) → Step
-  Fail : FailKind → (count : ℕ) → Step
-  FailSend : (port : ℕ) → (count : ℕ) → Step
-  Ng : (source : Addr) → (bytes : List ℕ) → Step
-  Take : (port : ℕ) → (source : Addr) → (bytes : List ℕ) → Step
-  Relay : (receipt : ℕ) → Step
-  Packet : (port : ℕ) → (source : Addr) → (bytes : List ℕ) → Step
-  Tick : Step
+pub data ReplayStep : Type 0 where
+  Skip : ReplayStep
+  At : (moment : ℕ) → ReplayStep
+  Key : (bytes : List ℕ) → ReplayStep
+  Fail : FailKind → (count : ℕ) → ReplayStep
+  FailSend : (port : ℕ) → (count : ℕ) → ReplayStep
+  Ng : (source : Addr) → (bytes : List ℕ) → ReplayStep
+  Take : (port : ℕ) → (source : Addr) → (bytes : List ℕ) → ReplayStep
+  Relay : (receipt : ℕ) → ReplayStep
+  Packet : (port : ℕ) → (source : Addr) → (bytes : List ℕ) → ReplayStep
+  Tick : ReplayStep

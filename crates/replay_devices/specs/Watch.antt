@@ -10,25 +10,25 @@ use Rattle.relay_script.specs.Steps as line
 use Rattle.relay_script.specs.Steps.{Step}
 use Rattle.replay_devices.specs.Steps as model
 use Rattle.replay_devices.specs.Devices.{Happening, Made, Opened, Drew, Sent, counts_for, same_kind, unused, streamed, next_key}
-use Rattle.replay_devices.specs.Countdowns.{after_call}
+use Rattle.replay_devices.specs.Countdowns.{counted_down}
 use Rattle.replay_devices.specs.declared.failures.SendFailure.{SendFailure}
-use Rattle.replay_devices.specs.Failures.{waiting_for, opened_at, sent_at}
+use Rattle.replay_devices.specs.Failures.{waiting_for, after_open_at, after_send_at}
 use Rattle.replay_devices.specs.Due.{DueState, stream_from}
 
 -- Lines as the steps of the model.
 
-abbrev pub kind_of : FailKind → model.FailKind
-kind_of kind.Open = model.Opening
-kind_of kind.Draw = model.Drawing
-kind_of kind.Take = model.Taking
-kind_of kind.Read = model.Reading
-kind_of kind.Reply = model.Replying
+abbrev pub model_kind : FailKind → model.FailKind
+model_kind kind.Open = model.Opening
+model_kind kind.Draw = model.Drawing
+model_kind kind.Take = model.Taking
+model_kind kind.Read = model.Reading
+model_kind kind.Reply = model.Replying
 
-abbrev pub step_of : Step → model.Step
+abbrev pub step_of : Step → model.ReplayStep
 step_of line.Skip = model.Skip
 step_of (line.At moment) = model.At moment
 step_of (line.Key bytes) = model.Key bytes
-step_of (line.Fail kind count) = model.Fail (kind_of kind) count
+step_of (line.Fail kind count) = model.Fail (model_kind kind) count
 step_of (line.FailSend port count) = model.FailSend port count
 step_of (line.Ng source bytes) = model.Ng source bytes
 step_of (line.Take port source bytes) = model.Take port source bytes
@@ -38,7 +38,7 @@ step_of line.Tick = model.Tick
 
 -- Numbers of calls.
 
-abbrev pub asked_in : model.FailKind → model.Step → List ℕ
+abbrev pub asked_in : model.FailKind → model.ReplayStep → List ℕ
 asked_in kind (model.Fail other count) = if same_kind other kind then count ∷ [] else []
 asked_in kind s = []
 
@@ -50,25 +50,25 @@ asked_now kind x = []
 -- the numbers that lines asked for of this kind, each less the calls of the kind that came since
 abbrev pub counts : model.FailKind → List Happening → List ℕ
 counts kind [] = []
-counts kind (x ∷ past) = (if counts_for kind x then after_call (counts kind past) else counts kind past) ++ asked_now kind x
+counts kind (x ∷ past) = (if counts_for kind x then counted_down (counts kind past) else counts kind past) ++ asked_now kind x
 
 -- Sends of out ends.
 
-abbrev pub send_asked : model.Step → List SendFailure
+abbrev pub send_asked : model.ReplayStep → List SendFailure
 send_asked (model.FailSend port number) = waiting_for port number ∷ []
 send_asked _ = []
 
 -- after one more thing: a line `fail send` asks for one, an opening makes an end, a packet is sent
 abbrev pub sends_after : Config → Happening → List SendFailure → List SendFailure
 sends_after config (Made s) failures = failures ++ send_asked s
-sends_after config (Opened pair half true) failures = map (opened_at (half_port config pair half)) failures
-sends_after config (Sent pair half ok) failures = map (sent_at (half_port config pair half)) failures
+sends_after config (Opened pair half true) failures = map (after_open_at (half_port config pair half)) failures
+sends_after config (Sent pair half ok) failures = map (after_send_at (half_port config pair half)) failures
 sends_after config _ failures = failures
 
 -- the sends that lines asked to fail
-abbrev pub sends : Config → List Happening → List SendFailure
-sends config [] = []
-sends config (x ∷ past) = sends_after config x (sends config past)
+abbrev pub sends_to_fail : Config → List Happening → List SendFailure
+sends_to_fail config [] = []
+sends_to_fail config (x ∷ past) = sends_after config x (sends_to_fail config past)
 
 -- Keys.
 
@@ -87,20 +87,20 @@ pub record WatchState : Type 0 where
   pub keys : DueState
 
 -- they are those of what happened, with the ports of this configuration and the stream of this seed
-pub record StandsFor (config : Config) (seed : ℕ) (past : List Happening) (w : WatchState) : Type 0 where
+pub record WatchStandsFor (config : Config) (seed : ℕ) (past : List Happening) (w : WatchState) : Type 0 where
   pub opens_are : w.opens ≡ counts model.Opening past
   pub draws_are : w.draws ≡ counts model.Drawing past
   pub takes_are : w.takes ≡ counts model.Taking past
   pub reads_are : w.reads ≡ counts model.Reading past
   pub replies_are : w.replies ≡ counts model.Replying past
-  pub sends_are : w.sends ≡ sends config past
+  pub sends_are : w.sends ≡ sends_to_fail config past
   pub keys_are : w.keys ≡ due seed past
 
 -- one more thing happened
 abbrev pub Notes : Config → (seed : ℕ) → WatchState → WatchState → Happening → Type 0
-Notes config seed old new x = (past : List Happening) → StandsFor config seed past old → StandsFor config seed (x ∷ past) new
+Notes config seed old new x = (past : List Happening) → WatchStandsFor config seed past old → WatchStandsFor config seed (x ∷ past) new
 
 -- the same of a draw, which has to give this key
 abbrev pub NotesDraw : Config → (seed : ℕ) → WatchState → WatchState → List ℕ → Type 0
 NotesDraw config seed old new key =
-    (past : List Happening) → StandsFor config seed past old → (key ≡ next_key (stream_from seed) past) × StandsFor config seed (Drew true ∷ past) new
+    (past : List Happening) → WatchStandsFor config seed past old → (key ≡ next_key (stream_from seed) past) × WatchStandsFor config seed (Drew true ∷ past) new

@@ -1,6 +1,6 @@
 ghost use Rattle.std.specs.Prelude.{◌≡◌, ◌<◌, ◌≤◌, ◌+◌, ◌-◌, ℕ, [], ◌∷◌, ◌++◌, IfOk, IfErr, OnErr, vec_len, vec_capacity};
 ghost use Rattle.ng_bencode.specs.Room.{Room};
-ghost use Rattle.replay_devices.specs.Countdowns.{next_fails, counted};
+ghost use Rattle.replay_devices.specs.Countdowns.{next_counted_fails, counted_room};
 
 use relay_outside::OutOfMemory;
 use std::alloc::Global;
@@ -44,14 +44,14 @@ impl Countdowns {
 
     /// Whether the next call fails.
     pub(crate) fn next_fails(&self) -> bool
-        ensures { result ≡ next_fails self.now.list }
+        ensures { result ≡ next_counted_fails self.now.list }
     {
         self.numbers.iter().any(|number| *number == 1)
     }
 
     /// Counts a call.
     pub(crate) fn count_call(&mut self)
-        ensures { self.new ≡ counted self.old }
+        ensures { self.new ≡ counted_room self.old }
     {
         for number in self.numbers.iter_mut() {
             *number = number.saturating_sub(1);

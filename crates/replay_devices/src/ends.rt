@@ -1,9 +1,9 @@
 ghost use Rattle.std.specs.Prelude.{◌≡◌, ◌↔◌, ◌≤◌, ◌<◌, ◌+◌, ℕ, true, Some, None, Ok, [], List, IsTrue, IsSome, IfOk, OnErr, MatchOption, length, not};
-ghost use Rattle.relay_outside.specs.Told.{EndGains, HasCause, is_done, opened_for};
+ghost use Rattle.relay_outside.specs.DeviceLogs.{EndGains, HasCause, is_done, opened_for};
 ghost use Rattle.relay_outside.specs.Ports.{FitsTake, in_given};
 ghost use Rattle.relay_outside.specs.Failures.{next_count};
 ghost use Rattle.replay_devices.specs.Countdowns.{faults_after};
-ghost use Rattle.replay_devices.specs.Ports.{Takes, send_fails, lesser, IsNextFailing};
+ghost use Rattle.replay_devices.specs.Ports.{TakesFirstLine, next_send_fails, lesser, IsNextFailing};
 ghost use Rattle.replay_devices.specs.Lines.{is_number};
 
 use crate::lines::{fill, send_failure};
@@ -19,7 +19,7 @@ use std::marker::Model;
 #[derive(Drop)]
 pub struct ReplayIn<'a> {
     alloc: Global,
-    told: CallList<InCall>,
+    log: CallList<InCall>,
     timetable: &'a Timetable<'a>,
     at: Addr,
     next: usize,
@@ -27,11 +27,11 @@ pub struct ReplayIn<'a> {
 }
 
 impl<'a> Model for ReplayIn<'a> {
-    ghost use Rattle.replay_devices.specs.Ports.{InState};
+    ghost use Rattle.replay_devices.specs.Ports.{ReplayInState};
 
-    ghost Value = { InState };
+    ghost Value = { ReplayInState };
 
-    ghost view = { λ end. record { told = record { at = end.at; calls = end.told }; steps = end.timetable.now; next = end.next; faults = end.faults } };
+    ghost view = { λ end. record { log = record { at = end.at; calls = end.log }; steps = end.timetable.now; next = end.next; faults = end.faults } };
 }
 
 impl<'a> ReplayIn<'a> {
@@ -42,11 +42,11 @@ impl<'a> ReplayIn<'a> {
         at: Addr,
         next: usize,
     ) -> ReplayIn<'a>
-        ensures { result ≡ record { told = opened_for at; steps = timetable.now; next = next; faults = 0 } }
+        ensures { result ≡ record { log = opened_for at; steps = timetable.now; next = next; faults = 0 } }
     {
         ReplayIn {
             alloc,
-            told: CallList::new(alloc),
+            log: CallList::new(alloc),
             timetable,
             at,
             next,
@@ -56,62 +56,62 @@ impl<'a> ReplayIn<'a> {
 
     /// Whether the end still tells its list.
     pub fn tells(&self) -> bool
-        ensures { IsTrue result ↔ IsSome self.now.told.calls }
+        ensures { IsTrue result ↔ IsSome self.now.log.calls }
     {
-        self.told.tells()
+        self.log.tells()
     }
 
     /// What the end told of its calls.
     pub(crate) fn into_list(self) -> CallList<InCall>
-        ensures { result ≡ self.entry.told.calls }
+        ensures { result ≡ self.entry.log.calls }
     {
-        let ReplayIn { told, .. } = self;
-        told
+        let ReplayIn { log, .. } = self;
+        log
     }
 }
 
 impl<'a> InEnd for ReplayIn<'a> {
     ghost use Rattle.std.specs.Prelude.{◌≡◌, ◌<◌, OnErr, length};
-    ghost use Rattle.relay_outside.specs.Told.{EndGains, HasCause, is_done};
+    ghost use Rattle.relay_outside.specs.DeviceLogs.{EndGains, HasCause, is_done};
     ghost use Rattle.relay_outside.specs.Ports.{FitsTake, in_given};
     ghost use Rattle.replay_devices.specs.Countdowns.{faults_after};
-    ghost use Rattle.replay_devices.specs.Ports.{Takes};
+    ghost use Rattle.replay_devices.specs.Ports.{TakesFirstLine};
 
-    ghost told = { λ end. end.told };
+    ghost log = { λ end. end.log };
 
     ghost faults = { λ end. end.faults };
 
     fn take(&mut self, buf: &mut [u8]) -> Result<Option<(Addr, usize)>, Failed>
         requires { 0 < length buf.old }
         ensures within { FitsTake result (length buf.old) }
-        ensures told { EndGains self.old.told self.new.told (InCall.Take (length buf.old) (in_given result buf.new)) }
+        ensures log { EndGains self.old.log self.new.log (InCall.Take (length buf.old) (in_given result buf.new)) }
         ensures cause { HasCause self.old.faults self.new.faults result }
         ensures counted { self.new.faults ≡ faults_after (is_done result) self.old.faults }
-        ensures takes { Takes self.old self.new result buf.new }
+        ensures takes { TakesFirstLine self.old self.new result buf.new }
         ensures kept { OnErr result (buf.new ≡ buf.old) }
-        ensures same { self.new ≡ record self.old { told = self.new.told; next = self.new.next; faults = self.new.faults } }
+        ensures same { self.new ≡ record self.old { log = self.new.log; next = self.new.next; faults = self.new.faults } }
     {
         let room = buf.len();
         let Some(index) = self.timetable.next_line(self.at, self.next) else {
             let given = InGiven::Nothing;
-            self.told.note(Some(InCall::Take { room, given }));
+            self.log.note(Some(InCall::Take { room, given }));
             return Ok(None);
         };
         self.next = index + 1;
         if self.timetable.take_fails(index) {
             self.faults = self.faults.saturating_add(1);
             let given = InGiven::Failed;
-            self.told.note(Some(InCall::Take { room, given }));
+            self.log.note(Some(InCall::Take { room, given }));
             return Err(Failed);
         }
         let Some((from, bytes)) = self.timetable.packet(index) else {
             let given = InGiven::Nothing;
-            self.told.note(Some(InCall::Take { room, given }));
+            self.log.note(Some(InCall::Take { room, given }));
             return Ok(None);
         };
         let len = fill(buf, bytes);
         let call = arrival_call(self.alloc, room, from, &buf[..len]);
-        self.told.note(call);
+        self.log.note(call);
         Ok(Some((from, len)))
     }
 }
@@ -160,7 +160,7 @@ fn lesser(least: Option<u32>, number: u32) -> u32
 #[derive(Drop)]
 pub struct ReplayOut<'a> {
     alloc: Global,
-    told: CallList<OutCall>,
+    log: CallList<OutCall>,
     window: &'a [Step],
     at: Addr,
     sends: u64,
@@ -170,11 +170,11 @@ pub struct ReplayOut<'a> {
 }
 
 impl<'a> Model for ReplayOut<'a> {
-    ghost use Rattle.replay_devices.specs.Ports.{OutState, IsNextFailing};
+    ghost use Rattle.replay_devices.specs.Ports.{ReplayOutState, IsNextFailing};
 
-    ghost Value = { OutState };
+    ghost Value = { ReplayOutState };
 
-    ghost view = { λ end. record { told = record { at = end.at; calls = end.told }; window = end.window.now; sends = end.sends; faults = end.faults } };
+    ghost view = { λ end. record { log = record { at = end.at; calls = end.log }; window = end.window.now; sends = end.sends; faults = end.faults } };
 
     ghost invariant = { λ end. IsNextFailing end.at.port end.sends end.window.now end.failing };
 }
@@ -182,11 +182,11 @@ impl<'a> Model for ReplayOut<'a> {
 impl<'a> ReplayOut<'a> {
     /// An end for an address that was not called yet, whose sends fail by these lines.
     pub(crate) fn new(alloc: Global, window: &'a [Step], at: Addr) -> ReplayOut<'a>
-        ensures { result ≡ record { told = opened_for at; window = window.now; sends = 0; faults = 0 } }
+        ensures { result ≡ record { log = opened_for at; window = window.now; sends = 0; faults = 0 } }
     {
         ReplayOut {
             alloc,
-            told: CallList::new(alloc),
+            log: CallList::new(alloc),
             window,
             at,
             sends: 0,
@@ -197,37 +197,37 @@ impl<'a> ReplayOut<'a> {
 
     /// Whether the end still tells its list.
     pub fn tells(&self) -> bool
-        ensures { IsTrue result ↔ IsSome self.now.told.calls }
+        ensures { IsTrue result ↔ IsSome self.now.log.calls }
     {
-        self.told.tells()
+        self.log.tells()
     }
 
     /// What the end told of its calls.
     pub(crate) fn into_list(self) -> CallList<OutCall>
-        ensures { result ≡ self.entry.told.calls }
+        ensures { result ≡ self.entry.log.calls }
     {
-        let ReplayOut { told, .. } = self;
-        told
+        let ReplayOut { log, .. } = self;
+        log
     }
 }
 
 impl<'a> OutEnd for ReplayOut<'a> {
     ghost use Rattle.std.specs.Prelude.{◌≡◌, not};
-    ghost use Rattle.relay_outside.specs.Told.{EndGains, HasCause, is_done};
+    ghost use Rattle.relay_outside.specs.DeviceLogs.{EndGains, HasCause, is_done};
     ghost use Rattle.relay_outside.specs.Failures.{next_count};
     ghost use Rattle.replay_devices.specs.Countdowns.{faults_after};
-    ghost use Rattle.replay_devices.specs.Ports.{send_fails};
+    ghost use Rattle.replay_devices.specs.Ports.{next_send_fails};
 
-    ghost told = { λ end. end.told };
+    ghost log = { λ end. end.log };
 
     ghost faults = { λ end. end.faults };
 
     fn send(&mut self, to: Addr, bytes: &[u8]) -> Result<(), Failed>
-        ensures told { EndGains self.old.told self.new.told (OutCall.Send to bytes.now (is_done result)) }
+        ensures log { EndGains self.old.log self.new.log (OutCall.Send to bytes.now (is_done result)) }
         ensures cause { HasCause self.old.faults self.new.faults result }
         ensures counted { self.new.faults ≡ faults_after (is_done result) self.old.faults }
-        ensures fails { send_fails self.old ≡ not (is_done result) }
-        ensures left { self.new ≡ record self.old { told = self.new.told; sends = next_count self.old.sends; faults = self.new.faults } }
+        ensures fails { next_send_fails self.old ≡ not (is_done result) }
+        ensures left { self.new ≡ record self.old { log = self.new.log; sends = next_count self.old.sends; faults = self.new.faults } }
     {
         let number = self.sends.saturating_add(1);
         let fails = is_number(self.failing, number);
@@ -236,7 +236,7 @@ impl<'a> OutEnd for ReplayOut<'a> {
             self.failing = next_failing(self.window, self.at.port, number);
         }
         let call = departure_call(self.alloc, to, bytes, !fails);
-        self.told.note(call);
+        self.log.note(call);
         if fails {
             self.faults = self.faults.saturating_add(1);
             return Err(Failed);

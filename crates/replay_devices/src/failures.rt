@@ -1,5 +1,5 @@
 ghost use Rattle.std.specs.Prelude.{◌≡◌, [], ◌∷◌, ◌++◌, OnOk, map};
-ghost use Rattle.replay_devices.specs.Failures.{opened_at, sent_at, is_next_at, any_next_at, waiting_for};
+ghost use Rattle.replay_devices.specs.Failures.{after_open_at, after_send_at, is_next_at, any_next_at, waiting_for};
 
 use relay_outside::OutOfMemory;
 use std::alloc::Global;
@@ -27,7 +27,7 @@ pub(crate) struct SendFailure {
 impl SendFailure {
     /// The same, after an opening of a port that made an end.
     fn opened(self, port: u16) -> SendFailure
-        ensures { result ≡ opened_at port self }
+        ensures { result ≡ after_open_at port self }
     {
         if self.port != port {
             return self;
@@ -43,7 +43,7 @@ impl SendFailure {
 
     /// The same, after a send by a port.
     fn sent(self, port: u16) -> SendFailure
-        ensures { result ≡ sent_at port self }
+        ensures { result ≡ after_send_at port self }
     {
         if self.port != port {
             return self;
@@ -108,7 +108,7 @@ impl SendFailures {
 
     /// An opening of a port made an end.
     pub(crate) fn opened(&mut self, port: u16)
-        ensures { self.new ≡ map (opened_at port) self.old }
+        ensures { self.new ≡ map (after_open_at port) self.old }
     {
         for failure in self.list.iter_mut() {
             *failure = failure.opened(port);
@@ -117,7 +117,7 @@ impl SendFailures {
 
     /// A packet was sent by a port, or its send failed.
     pub(crate) fn sent(&mut self, port: u16)
-        ensures { self.new ≡ map (sent_at port) self.old }
+        ensures { self.new ≡ map (after_send_at port) self.old }
     {
         for failure in self.list.iter_mut() {
             *failure = failure.sent(port);

@@ -1,11 +1,11 @@
 ghost use Rattle.std.specs.Prelude.{◌≡◌, ◌↔◌, ◌<◌, ◌+◌, ◌∷◌, ℕ, Some, None, Ok, [], IsTrue, IsSome, IfOk, MatchOption, MatchResult, length, take, drop, filter_map, not, slice_get};
-ghost use Rattle.relay_outside.specs.Told.{Gains, HasCause, is_done};
+ghost use Rattle.relay_outside.specs.DeviceLogs.{Gains, HasCause, is_done};
 ghost use Rattle.relay_outside.specs.Keys.{drawn_as};
 ghost use Rattle.outside_real.specs.KeyStream.{stream_of};
 ghost use Rattle.relay_script.specs.declared.step.FailKind.TheVariants as kind;
-ghost use Rattle.replay_devices.specs.Countdowns.{next_fails, counted, faults_after};
-ghost use Rattle.replay_devices.specs.Lines.{Asks, asked_by, failures_of, key_of};
-ghost use Rattle.replay_devices.specs.Keys.{unused, GivesKey, BeginsAt};
+ghost use Rattle.replay_devices.specs.Countdowns.{next_counted_fails, counted_room, faults_after};
+ghost use Rattle.replay_devices.specs.Lines.{Asks, fail_asked_by, failures_of, scripted_key};
+ghost use Rattle.replay_devices.specs.Keys.{unused_keys, GivesNextKey, BeginsAt};
 
 use crate::countdowns::Countdowns;
 use crate::lines::{asked_at, between, failures_of};
@@ -20,7 +20,7 @@ use std::marker::Model;
 /// for; a failing draw uses nothing up.
 #[derive(Drop)]
 pub struct ReplayKeys<'a> {
-    told: CallList<KeyCall>,
+    log: CallList<KeyCall>,
     steps: &'a [Step],
     step: usize,
     next: usize,
@@ -34,14 +34,14 @@ impl<'a> Model for ReplayKeys<'a> {
 
     ghost Value = { KeysState };
 
-    ghost view = { λ keys. record { told = keys.told; steps = keys.steps.now; step = keys.step; next = keys.next; stream = keys.stream; draws = keys.draws; faults = keys.faults } };
+    ghost view = { λ keys. record { log = keys.log; steps = keys.steps.now; step = keys.step; next = keys.next; stream = keys.stream; draws = keys.draws; faults = keys.faults } };
 }
 
 impl<'a> ReplayKeys<'a> {
     /// The keys of a replay of these steps, of which none is made yet, and of this seed. The memory for each failing
     /// draw that the lines ask for is taken here.
     pub fn new(alloc: Global, steps: &'a [Step], seed: u64) -> Result<ReplayKeys<'a>, OutOfMemory>
-        ensures told { IfOk result (λ keys. keys.told ≡ Some []) }
+        ensures log { IfOk result (λ keys. keys.log ≡ Some []) }
         ensures steps { IfOk result (λ keys. keys.steps ≡ steps.now) }
         ensures step { IfOk result (λ keys. keys.step ≡ 0) }
         ensures next { IfOk result (λ keys. keys.next ≡ 0) }
@@ -51,7 +51,7 @@ impl<'a> ReplayKeys<'a> {
     {
         let draws = Countdowns::with_room(alloc, failures_of(FailKind::Draw, steps))?;
         Ok(ReplayKeys {
-            told: CallList::new(alloc),
+            log: CallList::new(alloc),
             steps,
             step: 0,
             next: 0,
@@ -63,12 +63,12 @@ impl<'a> ReplayKeys<'a> {
 
     /// The line of this index, from 0, is made next.
     pub fn begin(&mut self, index: usize)
-        ensures told { self.new.told ≡ self.old.told }
+        ensures log { self.new.log ≡ self.old.log }
         ensures steps { self.new.steps ≡ self.old.steps }
         ensures step { self.new.step ≡ index }
         ensures next { self.new.next ≡ self.old.next }
         ensures stream { self.new.stream ≡ self.old.stream }
-        ensures draws { Asks (asked_by kind.Draw (slice_get self.old.steps index)) self.old.draws self.new.draws }
+        ensures draws { Asks (fail_asked_by kind.Draw (slice_get self.old.steps index)) self.old.draws self.new.draws }
         ensures faults { self.new.faults ≡ self.old.faults }
     {
         self.step = index;
@@ -79,21 +79,21 @@ impl<'a> ReplayKeys<'a> {
 
     /// The draws so far: `None` where the source tells nothing any more.
     pub fn calls(&self) -> Option<&[KeyCall]>
-        ensures { MatchOption result (self.now.told ≡ None) (λ calls. self.now.told ≡ Some calls.now) }
+        ensures { MatchOption result (self.now.log ≡ None) (λ calls. self.now.log ≡ Some calls.now) }
     {
-        self.told.get()
+        self.log.get()
     }
 
     /// Whether the source still tells its list.
     pub fn tells(&self) -> bool
-        ensures { IsTrue result ↔ IsSome self.now.told }
+        ensures { IsTrue result ↔ IsSome self.now.log }
     {
-        self.told.tells()
+        self.log.tells()
     }
 
     /// The oldest unused key of a line, which is then used up.
     fn use_line_key(&mut self) -> Option<KeyAndSalt>
-        ensures unused { MatchOption result ((unused self.old ≡ []) × (unused self.new ≡ [])) (λ key. unused self.old ≡ key ∷ unused self.new) }
+        ensures unused { MatchOption result ((unused_keys self.old ≡ []) × (unused_keys self.new ≡ [])) (λ key. unused_keys self.old ≡ key ∷ unused_keys self.new) }
         ensures same { self.new ≡ record self.old { next = self.new.next } }
     {
         let lines = between(self.steps, self.next, self.step);
@@ -108,7 +108,7 @@ impl<'a> ReplayKeys<'a> {
 
 /// The key of a line `key`.
 fn key_of(line: &Step) -> Option<KeyAndSalt>
-    ensures { result ≡ key_of line.now }
+    ensures { result ≡ scripted_key line.now }
 {
     match line {
         Step::Key(key) => Some(*key),
@@ -118,7 +118,7 @@ fn key_of(line: &Step) -> Option<KeyAndSalt>
 
 /// Where the first line `key` stands.
 fn first_key(lines: &[Step]) -> Option<usize>
-    ensures { MatchOption result (filter_map key_of lines.now ≡ []) (λ place. BeginsAt place lines.now) }
+    ensures { MatchOption result (filter_map scripted_key lines.now ≡ []) (λ place. BeginsAt place lines.now) }
 {
     for (place, line) in lines.iter().enumerate() {
         if key_of(line).is_some() {
@@ -130,22 +130,22 @@ fn first_key(lines: &[Step]) -> Option<usize>
 
 impl<'a> KeySource for ReplayKeys<'a> {
     ghost use Rattle.std.specs.Prelude.{◌≡◌, MatchResult, not};
-    ghost use Rattle.relay_outside.specs.Told.{Gains, HasCause, is_done};
+    ghost use Rattle.relay_outside.specs.DeviceLogs.{Gains, HasCause, is_done};
     ghost use Rattle.relay_outside.specs.Keys.{drawn_as};
-    ghost use Rattle.replay_devices.specs.Countdowns.{next_fails, counted, faults_after};
-    ghost use Rattle.replay_devices.specs.Keys.{unused, GivesKey};
+    ghost use Rattle.replay_devices.specs.Countdowns.{next_counted_fails, counted_room, faults_after};
+    ghost use Rattle.replay_devices.specs.Keys.{unused_keys, GivesNextKey};
 
-    ghost told = { λ keys. keys.told };
+    ghost log = { λ keys. keys.log };
 
     ghost faults = { λ keys. keys.faults };
 
     fn draw(&mut self) -> Result<KeyAndSalt, Failed>
-        ensures told { Gains self.old.told self.new.told (drawn_as result) }
+        ensures log { Gains self.old.log self.new.log (drawn_as result) }
         ensures cause { HasCause self.old.faults self.new.faults result }
         ensures counted { self.new.faults ≡ faults_after (is_done result) self.old.faults }
-        ensures fails { next_fails self.old.draws.list ≡ not (is_done result) }
-        ensures key { MatchResult result (λ key. GivesKey (unused self.old) (unused self.new) self.old.stream self.new.stream key) (λ _. (self.new.next ≡ self.old.next) × (self.new.stream ≡ self.old.stream)) }
-        ensures draws { self.new.draws ≡ counted self.old.draws }
+        ensures fails { next_counted_fails self.old.draws.list ≡ not (is_done result) }
+        ensures key { MatchResult result (λ key. GivesNextKey (unused_keys self.old) (unused_keys self.new) self.old.stream self.new.stream key) (λ _. (self.new.next ≡ self.old.next) × (self.new.stream ≡ self.old.stream)) }
+        ensures draws { self.new.draws ≡ counted_room self.old.draws }
         ensures steps { self.new.steps ≡ self.old.steps }
         ensures step { self.new.step ≡ self.old.step }
     {
@@ -153,14 +153,14 @@ impl<'a> KeySource for ReplayKeys<'a> {
         self.draws.count_call();
         if fails {
             self.faults = self.faults.saturating_add(1);
-            self.told.note(Some(KeyCall::Failed));
+            self.log.note(Some(KeyCall::Failed));
             return Err(Failed);
         }
         let key = match self.use_line_key() {
             Some(key) => key,
             None => self.stream.draw()?,
         };
-        self.told.note(Some(KeyCall::Drawn { key }));
+        self.log.note(Some(KeyCall::Drawn { key }));
         Ok(key)
     }
 }

@@ -1,8 +1,8 @@
 //! The devices of a replayed script, in memory: its lines, the control link, the ports with their ends, and the key source. Each is
 //! told which line of the script is made next, and gives and fails by the lines.
 //!
-//! Module `reading` reads a script from its source into the steps that its lines ask for, up to the first line outside the grammar,
-//! and `writing` writes what a replay prints, a line each. `specs/Scripts.antt` says which reads a script takes and how they stand for its
+//! Module `script_reader` reads a script from its source into the steps that its lines ask for, up to the first line outside the grammar,
+//! and `event_writer` writes what a replay prints, a line each. `specs/Scripts.antt` says which reads a script takes and how they stand for its
 //! steps and its ending.
 //!
 //! `specs/Lines.antt` says what single lines ask of the devices; `specs/Link.antt`, `specs/Ports.antt` and `specs/Keys.antt` say what
@@ -14,23 +14,23 @@
 mod countdowns;
 mod due;
 mod ends;
+mod event_writer;
 mod failures;
 mod keys;
 mod lines;
 mod link;
 mod ports;
-mod reading;
 mod script;
+mod script_reader;
 mod timetable;
 mod watch;
-mod writing;
 
 pub use ends::{ReplayIn, ReplayOut};
+pub use event_writer::{WriteFault, write_event};
 pub use keys::ReplayKeys;
 pub use link::ReplayLink;
 pub use ports::ReplayPorts;
-pub use reading::read_script;
 pub use script::{Ending, Script};
+pub use script_reader::read_script;
 pub use timetable::Timetable;
 pub use watch::Watch;
-pub use writing::{WriteFault, write_event};

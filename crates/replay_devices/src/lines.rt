@@ -1,7 +1,7 @@
 ghost use Rattle.std.specs.Prelude.{◌≡◌, ◌+◌, ◌^◌, ℕ, ◌≤◌, MatchOption, IsSome, Some, None, min, length, take, drop, count_by, position, slice_get, IfSome, ◌<◌};
 ghost use Rattle.std.specs.Option.{is_some};
-ghost use Rattle.replay_devices.specs.Ports.{next_line, packet_at};
-ghost use Rattle.replay_devices.specs.Lines.{between, key_of, asked_of, asked_by, failures_of, same_family, same_kind, arrives_at, send_failure};
+ghost use Rattle.replay_devices.specs.Ports.{next_line, packet_in_line};
+ghost use Rattle.replay_devices.specs.Lines.{between, scripted_key, asked_of, fail_asked_by, failures_of, same_family, same_line_kind, arrives_at, send_failure};
 
 use relay_outside::{Addr, Ip};
 use relay_script::{FailKind, Step};
@@ -39,7 +39,7 @@ pub(crate) fn between(steps: &[Step], from: usize, before: usize) -> &[Step]
 fn first_at(at: Addr, lines: &[Step]) -> Option<usize>
     ensures place { result ≡ position (arrives_at at) lines.now }
     ensures within { IfSome result (λ place. place < length lines.now) }
-    ensures arrives { IfSome result (λ place. IsSome (packet_at (slice_get lines.now place))) }
+    ensures arrives { IfSome result (λ place. IsSome (packet_in_line (slice_get lines.now place))) }
 {
     lines.iter().position(|step| arrives_at(at, step))
 }
@@ -49,7 +49,7 @@ pub(crate) fn next_line(steps: &[Step], at: Addr, from: usize) -> Option<usize>
     ensures line { result ≡ next_line steps.now at from }
     ensures within { IfSome result (λ index. index < length steps.now) }
     ensures bounded { IfSome result (λ index. index + 1 < 2 ^ 64) }
-    ensures arrives { IfSome result (λ index. IsSome (packet_at (slice_get steps.now index))) }
+    ensures arrives { IfSome result (λ index. IsSome (packet_in_line (slice_get steps.now index))) }
 {
     match first_at(at, behind(steps, from)) {
         Some(place) => Some(from + place),
@@ -59,7 +59,7 @@ pub(crate) fn next_line(steps: &[Step], at: Addr, from: usize) -> Option<usize>
 
 /// Whether two kinds of failing calls are the same.
 fn is_same_kind(kind: FailKind, wanted: FailKind) -> bool
-    ensures { result ≡ same_kind kind wanted }
+    ensures { result ≡ same_line_kind kind wanted }
 {
     kind == wanted
 }
@@ -125,7 +125,7 @@ pub(crate) fn fill(buf: &mut [u8], bytes: &[u8]) -> usize
 
 /// The number of the line `fail` of this kind at an index.
 pub(crate) fn asked_at(wanted: FailKind, steps: &[Step], index: usize) -> Option<u32>
-    ensures { result ≡ asked_by wanted (slice_get steps.now index) }
+    ensures { result ≡ fail_asked_by wanted (slice_get steps.now index) }
 {
     match steps.get(index) {
         Some(step) => asked_of(wanted, step),

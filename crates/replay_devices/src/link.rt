@@ -1,13 +1,13 @@
 ghost use Rattle.std.specs.Prelude.{◌≡◌, ◌↔◌, ◌≤◌, ◌<◌, ℕ, List, Option, Some, None, Result, Ok, Err, [], IsTrue, IsSome, IfOk, IsOk, OnErr, MatchOption, length, not, slice_get};
 ghost use Rattle.std.specs.List.{last_or};
-ghost use Rattle.relay_outside.specs.Told.{Gains, HasCause, is_done};
+ghost use Rattle.relay_outside.specs.DeviceLogs.{Gains, HasCause, is_done};
 ghost use Rattle.relay_outside.specs.Link.{FitsRoom, link_given, datagram_of, datagrams};
 ghost use Rattle.relay_outside.specs.LinkTape.{last_sent};
 ghost use Rattle.relay_outside.specs.Failures.{next_count};
 ghost use Rattle.relay_script.specs.declared.step.FailKind.TheVariants as kind;
-ghost use Rattle.replay_devices.specs.Countdowns.{next_fails, counted, faults_after};
-ghost use Rattle.replay_devices.specs.Lines.{Asks, asked_by, failures_of};
-ghost use Rattle.replay_devices.specs.Link.{met_at, waiting_for, datagram_at, CountsRead, Gives, last_taken};
+ghost use Rattle.replay_devices.specs.Countdowns.{next_counted_fails, counted_room, faults_after};
+ghost use Rattle.replay_devices.specs.Lines.{Asks, fail_asked_by, failures_of};
+ghost use Rattle.replay_devices.specs.Link.{met_at, take_waiting, datagram_at, CountsRead, GivesLineDatagram, last_taken};
 
 use crate::countdowns::Countdowns;
 use crate::lines::{asked_of, failures_of, fill};
@@ -36,7 +36,7 @@ pub(crate) enum Waiting {
 #[derive(Drop)]
 pub struct ReplayLink<'a> {
     alloc: Global,
-    told: CallList<LinkCall>,
+    log: CallList<LinkCall>,
     steps: &'a [Step],
     step: usize,
     waiting: Waiting,
@@ -46,18 +46,18 @@ pub struct ReplayLink<'a> {
 }
 
 impl<'a> Model for ReplayLink<'a> {
-    ghost use Rattle.replay_devices.specs.Link.{LinkState};
+    ghost use Rattle.replay_devices.specs.Link.{ReplayLinkState};
 
-    ghost Value = { LinkState };
+    ghost Value = { ReplayLinkState };
 
-    ghost view = { λ link. record { told = link.told; steps = link.steps.now; step = link.step; waiting = link.waiting; reads = link.reads; replies = link.replies; faults = link.faults } };
+    ghost view = { λ link. record { log = link.log; steps = link.steps.now; step = link.step; waiting = link.waiting; reads = link.reads; replies = link.replies; faults = link.faults } };
 }
 
 impl<'a> ReplayLink<'a> {
     /// The link of a replay of these steps, of which none is made yet. The memory for each failing call that the
     /// lines ask for is taken here.
     pub fn new(alloc: Global, steps: &'a [Step]) -> Result<ReplayLink<'a>, OutOfMemory>
-        ensures told { IfOk result (λ link. link.told ≡ Some []) }
+        ensures log { IfOk result (λ link. link.log ≡ Some []) }
         ensures steps { IfOk result (λ link. link.steps ≡ steps.now) }
         ensures step { IfOk result (λ link. link.step ≡ 0) }
         ensures waiting { IfOk result (λ link. link.waiting ≡ Waiting.Nothing) }
@@ -69,7 +69,7 @@ impl<'a> ReplayLink<'a> {
         let replies = Countdowns::with_room(alloc, failures_of(FailKind::Reply, steps))?;
         Ok(ReplayLink {
             alloc,
-            told: CallList::new(alloc),
+            log: CallList::new(alloc),
             steps,
             step: 0,
             waiting: Waiting::Nothing,
@@ -81,12 +81,12 @@ impl<'a> ReplayLink<'a> {
 
     /// The line of this index, from 0, is made next.
     pub fn begin(&mut self, index: usize)
-        ensures told { self.new.told ≡ self.old.told }
+        ensures log { self.new.log ≡ self.old.log }
         ensures steps { self.new.steps ≡ self.old.steps }
         ensures step { self.new.step ≡ index }
-        ensures waiting { self.new.waiting ≡ met_at (slice_get self.old.steps index) (next_fails self.old.reads.list) }
+        ensures waiting { self.new.waiting ≡ met_at (slice_get self.old.steps index) (next_counted_fails self.old.reads.list) }
         ensures reads { CountsRead (slice_get self.old.steps index) self.old.reads self.new.reads }
-        ensures replies { Asks (asked_by kind.Reply (slice_get self.old.steps index)) self.old.replies self.new.replies }
+        ensures replies { Asks (fail_asked_by kind.Reply (slice_get self.old.steps index)) self.old.replies self.new.replies }
         ensures faults { self.new.faults ≡ self.old.faults }
     {
         self.step = index;
@@ -110,31 +110,31 @@ impl<'a> ReplayLink<'a> {
 
     /// The last send that returned Ok: `None` where there was none, or the link tells nothing any more.
     pub fn last_sent(&self) -> Option<(Addr, &[u8])>
-        ensures { MatchOption result (last_sent self.now.told ≡ None) (λ sent. last_sent self.now.told ≡ Some (sent.0, sent.1.now)) }
+        ensures { MatchOption result (last_sent self.now.log ≡ None) (λ sent. last_sent self.now.log ≡ Some (sent.0, sent.1.now)) }
     {
-        let calls = self.told.get()?;
+        let calls = self.log.get()?;
         last_sent_of(calls)
     }
 
     /// The last datagram that a take gave: `None` where there was none, or the link tells nothing any more.
     pub fn last_taken(&self) -> Option<(Addr, &[u8])>
-        ensures { MatchOption result (last_taken self.now.told ≡ None) (λ taken. last_taken self.now.told ≡ Some (taken.0, taken.1.now)) }
+        ensures { MatchOption result (last_taken self.now.log ≡ None) (λ taken. last_taken self.now.log ≡ Some (taken.0, taken.1.now)) }
     {
-        let calls = self.told.get()?;
+        let calls = self.log.get()?;
         last_taken_of(calls)
     }
 
     /// Whether the link still tells its list.
     pub fn tells(&self) -> bool
-        ensures { IsTrue result ↔ IsSome self.now.told }
+        ensures { IsTrue result ↔ IsSome self.now.log }
     {
-        self.told.tells()
+        self.log.tells()
     }
 }
 
 /// What the take for a line `ng` meets.
 fn waiting_for(failing: bool) -> Waiting
-    ensures { result ≡ waiting_for failing }
+    ensures { result ≡ take_waiting failing }
 {
     if failing {
         Waiting::Failure
@@ -184,35 +184,35 @@ fn datagram_at<'a>(steps: &'a [Step], index: usize) -> Option<(Addr, &'a [u8])>
 
 impl<'a> ControlLink for ReplayLink<'a> {
     ghost use Rattle.std.specs.Prelude.{◌≡◌, ◌<◌, IsOk, OnErr, length, not, slice_get};
-    ghost use Rattle.relay_outside.specs.Told.{Gains, HasCause, is_done};
+    ghost use Rattle.relay_outside.specs.DeviceLogs.{Gains, HasCause, is_done};
     ghost use Rattle.relay_outside.specs.Link.{FitsRoom, link_given};
-    ghost use Rattle.replay_devices.specs.Countdowns.{next_fails, counted, faults_after};
-    ghost use Rattle.replay_devices.specs.Link.{Gives};
+    ghost use Rattle.replay_devices.specs.Countdowns.{next_counted_fails, counted_room, faults_after};
+    ghost use Rattle.replay_devices.specs.Link.{GivesLineDatagram};
 
-    ghost told = { λ link. link.told };
+    ghost log = { λ link. link.log };
 
     ghost faults = { λ link. link.faults };
 
     fn bind(&mut self, at: Addr) -> Result<(), Failed>
-        ensures told { Gains self.old.told self.new.told (LinkCall.Bind at (is_done result)) }
+        ensures log { Gains self.old.log self.new.log (LinkCall.Bind at (is_done result)) }
         ensures cause { HasCause self.old.faults self.new.faults result }
         ensures counted { self.new.faults ≡ faults_after (is_done result) self.old.faults }
         ensures done { IsOk result }
-        ensures same { self.new ≡ record self.old { told = self.new.told } }
+        ensures same { self.new ≡ record self.old { log = self.new.log } }
     {
-        self.told.note(Some(LinkCall::Bind { at, done: true }));
+        self.log.note(Some(LinkCall::Bind { at, done: true }));
         Ok(())
     }
 
     fn take(&mut self, buf: &mut [u8]) -> Result<Taken, Failed>
         requires { 0 < length buf.old }
         ensures within { FitsRoom result (length buf.old) }
-        ensures told { Gains self.old.told self.new.told (LinkCall.Take (length buf.old) (link_given result buf.new)) }
+        ensures log { Gains self.old.log self.new.log (LinkCall.Take (length buf.old) (link_given result buf.new)) }
         ensures cause { HasCause self.old.faults self.new.faults result }
         ensures counted { self.new.faults ≡ faults_after (is_done result) self.old.faults }
         ensures kept { OnErr result (buf.new ≡ buf.old) }
-        ensures gives { Gives self.old.waiting (slice_get self.old.steps self.old.step) result buf.new }
-        ensures left { self.new ≡ record self.old { told = self.new.told; waiting = Waiting.Nothing; faults = self.new.faults } }
+        ensures gives { GivesLineDatagram self.old.waiting (slice_get self.old.steps self.old.step) result buf.new }
+        ensures left { self.new ≡ record self.old { log = self.new.log; waiting = Waiting.Nothing; faults = self.new.faults } }
     {
         let room = buf.len();
         let waiting = self.waiting;
@@ -220,7 +220,7 @@ impl<'a> ControlLink for ReplayLink<'a> {
         if waiting == Waiting::Failure {
             self.faults = self.faults.saturating_add(1);
             let given = LinkGiven::Failed;
-            self.told.note(Some(LinkCall::Take { room, given }));
+            self.log.note(Some(LinkCall::Take { room, given }));
             return Err(Failed);
         }
         let datagram = if waiting == Waiting::Datagram {
@@ -230,26 +230,26 @@ impl<'a> ControlLink for ReplayLink<'a> {
         };
         let Some((from, bytes)) = datagram else {
             let given = LinkGiven::Nothing;
-            self.told.note(Some(LinkCall::Take { room, given }));
+            self.log.note(Some(LinkCall::Take { room, given }));
             return Ok(Taken::Nothing);
         };
         let len = fill(buf, bytes);
         let call = datagram_call(self.alloc, room, from, &buf[..len]);
-        self.told.note(call);
+        self.log.note(call);
         Ok(Taken::Datagram { from, len })
     }
 
     fn send(&mut self, to: Addr, bytes: &[u8]) -> Result<(), Failed>
-        ensures told { Gains self.old.told self.new.told (LinkCall.Send to bytes.now (is_done result)) }
+        ensures log { Gains self.old.log self.new.log (LinkCall.Send to bytes.now (is_done result)) }
         ensures cause { HasCause self.old.faults self.new.faults result }
         ensures counted { self.new.faults ≡ faults_after (is_done result) self.old.faults }
-        ensures fails { next_fails self.old.replies.list ≡ not (is_done result) }
-        ensures left { self.new ≡ record self.old { told = self.new.told; replies = counted self.old.replies; faults = self.new.faults } }
+        ensures fails { next_counted_fails self.old.replies.list ≡ not (is_done result) }
+        ensures left { self.new ≡ record self.old { log = self.new.log; replies = counted_room self.old.replies; faults = self.new.faults } }
     {
         let fails = self.replies.next_fails();
         self.replies.count_call();
         let call = send_call(self.alloc, to, bytes, !fails);
-        self.told.note(call);
+        self.log.note(call);
         if fails {
             self.faults = self.faults.saturating_add(1);
             return Err(Failed);

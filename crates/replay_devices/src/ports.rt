@@ -1,9 +1,9 @@
 ghost use Rattle.std.specs.Prelude.{◌≡◌, ◌↔◌, ◌≤◌, ◌<◌, ◌+◌, ℕ, Some, None, [], IsTrue, IsSome, IfOk, IfSome, MatchOption, MatchResult, length, min, not, replicate, slice_get, slice_set};
-ghost use Rattle.relay_outside.specs.Told.{Gains, HasCause, IsOpenedFor, WhereTold, is_done};
+ghost use Rattle.relay_outside.specs.DeviceLogs.{Gains, HasCause, IsOpenedFor, WhereLogged, is_done};
 ghost use Rattle.relay_outside.specs.Ports.{IsOpen};
 ghost use Rattle.relay_script.specs.declared.step.FailKind.TheVariants as kind;
-ghost use Rattle.replay_devices.specs.Countdowns.{next_fails, counted, faults_after};
-ghost use Rattle.replay_devices.specs.Lines.{Asks, asked_by, failures_of};
+ghost use Rattle.replay_devices.specs.Countdowns.{next_counted_fails, counted_room, faults_after};
+ghost use Rattle.replay_devices.specs.Lines.{Asks, fail_asked_by, failures_of};
 ghost use Rattle.replay_devices.specs.Ports.{Opens};
 
 use crate::countdowns::Countdowns;
@@ -23,7 +23,7 @@ const PORTS: usize = 65_536;
 #[derive(Drop)]
 pub struct ReplayPorts<'a> {
     alloc: Global,
-    told: CallList<PortCall>,
+    log: CallList<PortCall>,
     timetable: &'a Timetable<'a>,
     step: usize,
     opens: Countdowns,
@@ -34,11 +34,11 @@ pub struct ReplayPorts<'a> {
 
 impl<'a> Model for ReplayPorts<'a> {
     ghost use Rattle.std.specs.Prelude.{◌≡◌, ◌≤◌, length, vec_len};
-    ghost use Rattle.replay_devices.specs.Ports.{PortsState};
+    ghost use Rattle.replay_devices.specs.Ports.{ReplayPortsState};
 
-    ghost Value = { PortsState };
+    ghost Value = { ReplayPortsState };
 
-    ghost view = { λ maker. record { told = maker.told; steps = maker.timetable.now; step = maker.step; opens = maker.opens; since = maker.since.items; faults = maker.faults } };
+    ghost view = { λ maker. record { log = maker.log; steps = maker.timetable.now; step = maker.step; opens = maker.opens; since = maker.since.items; faults = maker.faults } };
 
     ghost invariant = { λ maker. (vec_len maker.since ≡ 65536) × (maker.step ≤ length maker.timetable.now) };
 }
@@ -47,7 +47,7 @@ impl<'a> ReplayPorts<'a> {
     /// The maker of a replay by this timetable, of whose steps none is made yet. The memory for each failing open
     /// that the lines ask for is taken here.
     pub fn new(alloc: Global, timetable: &'a Timetable<'a>) -> Result<ReplayPorts<'a>, OutOfMemory>
-        ensures told { IfOk result (λ maker. maker.told ≡ Some []) }
+        ensures log { IfOk result (λ maker. maker.log ≡ Some []) }
         ensures steps { IfOk result (λ maker. maker.steps ≡ timetable.now) }
         ensures step { IfOk result (λ maker. maker.step ≡ 0) }
         ensures opens { IfOk result (λ maker. maker.opens ≡ record { list = []; spare = failures_of kind.Open timetable.now }) }
@@ -58,7 +58,7 @@ impl<'a> ReplayPorts<'a> {
         let since = vec![in alloc; 0; PORTS]?;
         Ok(ReplayPorts {
             alloc,
-            told: CallList::new(alloc),
+            log: CallList::new(alloc),
             timetable,
             step: 0,
             opens,
@@ -69,10 +69,10 @@ impl<'a> ReplayPorts<'a> {
 
     /// The line of this index, from 0, is made next.
     pub fn begin(&mut self, index: usize)
-        ensures told { self.new.told ≡ self.old.told }
+        ensures log { self.new.log ≡ self.old.log }
         ensures steps { self.new.steps ≡ self.old.steps }
         ensures step { self.new.step ≡ min index (length self.old.steps) }
-        ensures opens { Asks (asked_by kind.Open (slice_get self.old.steps index)) self.old.opens self.new.opens }
+        ensures opens { Asks (fail_asked_by kind.Open (slice_get self.old.steps index)) self.old.opens self.new.opens }
         ensures since { self.new.since ≡ self.old.since }
         ensures faults { self.new.faults ≡ self.old.faults }
     {
@@ -84,23 +84,23 @@ impl<'a> ReplayPorts<'a> {
 
     /// The calls so far: `None` where the maker tells nothing any more.
     pub fn calls(&self) -> Option<&[PortCall]>
-        ensures { MatchOption result (self.now.told ≡ None) (λ calls. self.now.told ≡ Some calls.now) }
+        ensures { MatchOption result (self.now.log ≡ None) (λ calls. self.now.log ≡ Some calls.now) }
     {
-        self.told.get()
+        self.log.get()
     }
 
     /// Whether the maker still tells its list, and each of its ends that were given back told its own.
     pub fn tells(&self) -> bool
-        ensures { IsTrue result ↔ IsSome self.now.told }
+        ensures { IsTrue result ↔ IsSome self.now.log }
     {
-        self.told.tells()
+        self.log.tells()
     }
 }
 
 /// The record of a closing; `None` where an end tells nothing any more.
 fn close_call<'a>(at: Addr, receiving: ReplayIn<'a>, sending: ReplayOut<'a>) -> Option<PortCall>
-    ensures call { IfSome result (λ call. call ≡ PortCall.Close at receiving.entry.told.calls sending.entry.told.calls) }
-    ensures told { IsSome result → IsSome receiving.entry.told.calls × IsSome sending.entry.told.calls }
+    ensures call { IfSome result (λ call. call ≡ PortCall.Close at receiving.entry.log.calls sending.entry.log.calls) }
+    ensures log { IsSome result → IsSome receiving.entry.log.calls × IsSome sending.entry.log.calls }
 {
     if !receiving.tells() || !sending.tells() {
         return None;
@@ -116,32 +116,32 @@ impl<'a> PortMaker for ReplayPorts<'a> {
     type Out = ReplayOut<'a>;
 
     ghost use Rattle.std.specs.Prelude.{◌≡◌, ◌≤◌, ◌+◌, IsSome, IfOk, MatchResult, not, slice_set};
-    ghost use Rattle.relay_outside.specs.Told.{Gains, HasCause, IsOpenedFor, WhereTold, is_done};
+    ghost use Rattle.relay_outside.specs.DeviceLogs.{Gains, HasCause, IsOpenedFor, WhereLogged, is_done};
     ghost use Rattle.relay_outside.specs.Ports.{IsOpen};
-    ghost use Rattle.replay_devices.specs.Countdowns.{next_fails, counted, faults_after};
+    ghost use Rattle.replay_devices.specs.Countdowns.{next_counted_fails, counted_room, faults_after};
     ghost use Rattle.replay_devices.specs.Ports.{Opens};
 
-    ghost told = { λ maker. maker.told };
+    ghost log = { λ maker. maker.log };
 
     ghost faults = { λ maker. maker.faults };
 
     fn open(&mut self, at: Addr) -> Result<(ReplayIn<'a>, ReplayOut<'a>), Failed>
-        requires { WhereTold self.old.told (λ calls. IsOpen calls at → ⊥) }
-        ensures told { Gains self.old.told self.new.told (PortCall.Open at (is_done result)) }
-        ensures receiving { IfOk result (λ ends. IsOpenedFor at ends.0.told) }
-        ensures sending { IfOk result (λ ends. IsOpenedFor at ends.1.told) }
+        requires { WhereLogged self.old.log (λ calls. IsOpen calls at → ⊥) }
+        ensures log { Gains self.old.log self.new.log (PortCall.Open at (is_done result)) }
+        ensures receiving { IfOk result (λ ends. IsOpenedFor at ends.0.log) }
+        ensures sending { IfOk result (λ ends. IsOpenedFor at ends.1.log) }
         ensures cause { HasCause self.old.faults self.new.faults result }
         ensures counted { self.new.faults ≡ faults_after (is_done result) self.old.faults }
-        ensures fails { next_fails self.old.opens.list ≡ not (is_done result) }
+        ensures fails { next_counted_fails self.old.opens.list ≡ not (is_done result) }
         ensures ends { IfOk result (λ ends. Opens self.old at ends.0 ends.1) }
         ensures since { MatchResult result (λ _. self.new.since ≡ slice_set self.old.since at.port (self.old.step + 1)) (λ _. self.new.since ≡ self.old.since) }
-        ensures left { self.new ≡ record self.old { told = self.new.told; opens = counted self.old.opens; since = self.new.since; faults = self.new.faults } }
+        ensures left { self.new ≡ record self.old { log = self.new.log; opens = counted_room self.old.opens; since = self.new.since; faults = self.new.faults } }
     {
         let fails = self.opens.next_fails();
         self.opens.count_call();
         if fails {
             self.faults = self.faults.saturating_add(1);
-            self.told.note(Some(PortCall::Open { at, done: false }));
+            self.log.note(Some(PortCall::Open { at, done: false }));
             return Err(Failed);
         }
         let steps = self.timetable.steps();
@@ -149,21 +149,21 @@ impl<'a> PortMaker for ReplayPorts<'a> {
         let port = usize::from(at.port);
         let window = between(steps, self.since[port], self.step);
         self.since[port] = from;
-        self.told.note(Some(PortCall::Open { at, done: true }));
+        self.log.note(Some(PortCall::Open { at, done: true }));
         let receiving = ReplayIn::new(self.alloc, self.timetable, at, from);
         let sending = ReplayOut::new(self.alloc, window, at);
         Ok((receiving, sending))
     }
 
     fn close(&mut self, at: Addr, receiving: ReplayIn<'a>, sending: ReplayOut<'a>)
-        requires open { WhereTold self.old.told (λ calls. IsOpen calls at) }
-        requires ends { (receiving.told.at ≡ at) × (sending.told.at ≡ at) }
-        ensures told { Gains self.old.told self.new.told (PortCall.Close at receiving.entry.told.calls sending.entry.told.calls) }
-        ensures stops { IsSome self.new.told → IsSome receiving.entry.told.calls × IsSome sending.entry.told.calls }
+        requires open { WhereLogged self.old.log (λ calls. IsOpen calls at) }
+        requires ends { (receiving.log.at ≡ at) × (sending.log.at ≡ at) }
+        ensures log { Gains self.old.log self.new.log (PortCall.Close at receiving.entry.log.calls sending.entry.log.calls) }
+        ensures stops { IsSome self.new.log → IsSome receiving.entry.log.calls × IsSome sending.entry.log.calls }
         ensures later { self.old.faults ≤ self.new.faults }
-        ensures left { self.new ≡ record self.old { told = self.new.told } }
+        ensures left { self.new ≡ record self.old { log = self.new.log } }
     {
         let call = close_call(at, receiving, sending);
-        self.told.note(call);
+        self.log.note(call);
     }
 }

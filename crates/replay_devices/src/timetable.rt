@@ -1,6 +1,6 @@
 ghost use Rattle.std.specs.Prelude.{◌≡◌, ◌<◌, ◌+◌, ◌^◌, ℕ, Some, None, IsSome, IfOk, IfSome, MatchOption, length, slice_get, position, drop};
-ghost use Rattle.replay_devices.specs.Lines.{arrives_at, packet_of};
-ghost use Rattle.replay_devices.specs.Ports.{take_fails, takes_after, next_line, packet_at};
+ghost use Rattle.replay_devices.specs.Lines.{arrives_at, packet_in};
+ghost use Rattle.replay_devices.specs.Ports.{take_fails, takes_after, next_line, packet_in_line};
 
 use crate::countdowns::Countdowns;
 use crate::lines::{failures_of, next_line};
@@ -51,14 +51,14 @@ impl<'a> Timetable<'a> {
         ensures line { result ≡ next_line self.now at from }
         ensures within { IfSome result (λ index. index < length self.now) }
         ensures bounded { IfSome result (λ index. index + 1 < 2 ^ 64) }
-        ensures arrives { IfSome result (λ index. IsSome (packet_at (slice_get self.now index))) }
+        ensures arrives { IfSome result (λ index. IsSome (packet_in_line (slice_get self.now index))) }
     {
         next_line(self.steps, at, from)
     }
 
     /// The packet of the line `take` or `packet` of this index.
     pub(crate) fn packet(&self, index: usize) -> Option<(Addr, &'a [u8])>
-        ensures { MatchOption result (packet_at (slice_get self.now index) ≡ None) (λ found. packet_at (slice_get self.now index) ≡ Some (found.0, found.1.now)) }
+        ensures { MatchOption result (packet_in_line (slice_get self.now index) ≡ None) (λ found. packet_in_line (slice_get self.now index) ≡ Some (found.0, found.1.now)) }
     {
         match self.steps.get(index) {
             Some(Step::Take(_, from, bytes)) => Some((*from, bytes.as_slice())),

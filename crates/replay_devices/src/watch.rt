@@ -1,11 +1,11 @@
 ghost use Rattle.std.specs.Prelude.{◌≡◌, ◌≤◌, ◌-◌, ◌^◌, ℕ, Bool, false, None, List, [], IfOk, IfSome, OnOk};
 ghost use Rattle.relay_outside.specs.declared.settings.Config.{Config};
-ghost use Rattle.relay_script.specs.Steps.{meaning};
+ghost use Rattle.relay_script.specs.Steps.{step_meaning};
 ghost use Rattle.rtp_packet.specs.declared.head.Half.{Half};
 ghost use Rattle.port_pool.specs.Ports.{half_port};
 ghost use Rattle.replay_devices.specs.Steps as model;
 ghost use Rattle.replay_devices.specs.Devices.{Happening, Made, Opened, Drew, Replied, Sent, fails, send_fails, unused, streamed};
-ghost use Rattle.replay_devices.specs.Watch.{StandsFor, Notes, NotesDraw, kind_of, step_of};
+ghost use Rattle.replay_devices.specs.Watch.{WatchStandsFor, Notes, NotesDraw, model_kind, step_of};
 
 use crate::countdowns::Countdowns;
 use crate::due::KeysDue;
@@ -41,7 +41,7 @@ impl Model for Watch {
 impl Watch {
     /// Before the first line, with keys of that seed after those of the lines.
     pub fn new(alloc: Global, seed: u64) -> Result<Watch, OutOfMemory>
-        ensures { IfOk result (λ watch. (config : Config) → StandsFor config seed [] watch) }
+        ensures { IfOk result (λ watch. (config : Config) → WatchStandsFor config seed [] watch) }
     {
         Ok(Watch {
             opens: Countdowns::with_room(alloc, 0)?,
@@ -57,7 +57,7 @@ impl Watch {
     /// Whether the next call of a kind has to fail: for a line `ng` the take of the link, for a line `take` or `packet` the take at its
     /// port, where that is open.
     pub fn fails(&self, kind: FailKind) -> bool
-        ensures { (config : Config) (seed : ℕ) (past : List Happening) → StandsFor config seed past self.now → result ≡ fails (kind_of kind) past }
+        ensures { (config : Config) (seed : ℕ) (past : List Happening) → WatchStandsFor config seed past self.now → result ≡ fails (model_kind kind) past }
     {
         match kind {
             FailKind::Open => self.opens.next_fails(),
@@ -70,7 +70,7 @@ impl Watch {
 
     /// Whether the next send by the end of a port has to fail.
     pub fn send_fails(&self, port: u16) -> bool
-        ensures { (config : Config) (seed : ℕ) (past : List Happening) (pair : ℕ) (half : Half) → half_port config pair half ≡ port → StandsFor config seed past self.now → result ≡ send_fails config past pair half }
+        ensures { (config : Config) (seed : ℕ) (past : List Happening) (pair : ℕ) (half : Half) → half_port config pair half ≡ port → WatchStandsFor config seed past self.now → result ≡ send_fails config past pair half }
     {
         self.sends.next_fails(port)
     }
@@ -88,7 +88,7 @@ impl Watch {
     /// A key was drawn, which has to be the one that is returned. `None`: 2^64 - 1 keys of the seed's stream were drawn.
     pub fn drew(&mut self) -> Option<KeyAndSalt>
         ensures drew { IfSome result (λ key. (config : Config) (seed : ℕ) → NotesDraw config seed self.old self.new key) }
-        ensures spent { result ≡ None → (config : Config) (seed : ℕ) (past : List Happening) → StandsFor config seed past self.old → (unused past ≡ []) × (2 ^ 64 - 1 ≤ streamed past) }
+        ensures spent { result ≡ None → (config : Config) (seed : ℕ) (past : List Happening) → WatchStandsFor config seed past self.old → (unused past ≡ []) × (2 ^ 64 - 1 ≤ streamed past) }
     {
         self.draws.count_call();
         self.keys.draw()
@@ -117,7 +117,7 @@ impl Watch {
 
     /// The call of a number of this kind, from now, has to fail.
     fn ask(&mut self, kind: FailKind, number: u32) -> Result<(), OutOfMemory>
-        ensures { OnOk result ((config : Config) (seed : ℕ) → Notes config seed self.old self.new (Made (model.Fail (kind_of kind) number))) }
+        ensures { OnOk result ((config : Config) (seed : ℕ) → Notes config seed self.old self.new (Made (model.Fail (model_kind kind) number))) }
     {
         match kind {
             FailKind::Open => self.opens.add(number),
@@ -130,7 +130,7 @@ impl Watch {
 
     /// The step of a line was made.
     pub fn made(&mut self, step: &Step) -> Result<(), OutOfMemory>
-        ensures { OnOk result ((config : Config) (seed : ℕ) → Notes config seed self.old self.new (Made (step_of (meaning step.now)))) }
+        ensures { OnOk result ((config : Config) (seed : ℕ) → Notes config seed self.old self.new (Made (step_of (step_meaning step.now)))) }
     {
         match step {
             Step::Fail(kind, number) => return self.ask(*kind, *number),

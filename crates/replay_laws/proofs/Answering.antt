@@ -4,8 +4,8 @@ use Rattle.std.specs.Prelude.{◌&&◌, nat_le}
 use Rattle.std.specs.List.{list_any}
 use Rattle.relay_outside.specs.declared.address.Addr.{Addr}
 use Rattle.relay_outside.specs.declared.settings.Config.{Config}
-use Rattle.ng_command.specs.Said as said
-use Rattle.ng_command.specs.Said.{Said}
+use Rattle.ng_command.specs.Meanings as said
+use Rattle.ng_command.specs.Meanings.{Said}
 use Rattle.ng_reply.specs.declared.code.ErrorCode.{ErrorCode}
 use Rattle.ng_reply.specs.declared.code.ErrorCode.TheVariants.{E9, E10, E13, E14, E17}
 use Rattle.histories.specs.Words.{has}
@@ -17,14 +17,14 @@ use Rattle.call_board.specs.Acts as act
 use Rattle.call_board.specs.Acts.{Act, Call, Given, Control, BoardEvent, Turn, BoardEntry}
 use Rattle.call_board.specs.Calls.{live, find_call, new_call, rounds, ended_by_act}
 use Rattle.call_board.specs.Pairs.{held, free_in, is_short, closes_leg_act}
-use Rattle.call_board.specs.Kept.{kept}
-use Rattle.call_board.specs.Asked.{asked}
+use Rattle.call_board.specs.KeptReplies.{kept_reply}
+use Rattle.call_board.specs.Requests.{asked}
 use Rattle.call_board.specs.Replies.{Done, Fault, reply_text, reply_datagram, fault_datagram}
-use Rattle.call_board.specs.Answers.{Answered, failing, leased_pairs, offer_ask, answer_ask, offer_leased, offer_unless, offer_to, answer_unless, answer_to, missing, names_side, delete_of, query_of, answering, answering_asked, answering_unless}
+use Rattle.call_board.specs.Answers.{Answered, failing, leased_pairs, offer_ask, answer_ask, offer_leased, offer_unless, offer_to, answer_unless, answer_to, nothing_to_end, names_side, delete_of, query_of, answering, answering_asked, answering_unless}
 use Rattle.call_board.specs.Fits.{FitsControl, GivesFor, demanded}
 use Rattle.call_board.proofs.Fixed.{unless_out_of_memory}
 use Rattle.call_board.proofs.Tells.{leased_case}
-use Rattle.relay_core.specs.Scripts.{Owed, opening, closing, in_cell, reading, script, script_of_act}
+use Rattle.relay_core.specs.Scripts.{Owed, open_owed, closing, in_cell, reading, script, script_of_act}
 use Rattle.board_laws.specs.Alike.{HasMemory}
 use Rattle.replay_laws.specs.Alike.{bare_event}
 
@@ -65,11 +65,11 @@ answer_fed : (config : Config) (h : List BoardEntry) (ask : AnswerAsk) (o : Opti
 answer_fed config h ask None = refl
 answer_fed config h ask (Some of) = replied_fed config ask of (rounds h of.number) (plan.answer_fault (rounds h of.number) ask)
 
-missing_fed : (fatal : Bool) (code : ErrorCode) → runs_out (missing fatal code).act ≡ false
+missing_fed : (fatal : Bool) (code : ErrorCode) → runs_out (nothing_to_end fatal code).act ≡ false
 missing_fed true code = refl
 missing_fed false code = refl
 
-named_fed : (of : Call) (fatal named : Bool) → runs_out (cond named (record { reply = Done; act = act.Deleted of }) (missing fatal E10)).act ≡ false
+named_fed : (of : Call) (fatal named : Bool) → runs_out (cond named (record { reply = Done; act = act.Deleted of }) (nothing_to_end fatal E10)).act ≡ false
 named_fed of fatal true = refl
 named_fed of fatal false = missing_fed fatal E10
 
@@ -100,7 +100,7 @@ never e = cc
 
 pub not_out_of_memory : (config : Config) (h : List BoardEntry) (now : ℕ) (c : Control) → FitsControl config h now c → HasMemory c → c.act ≡ act.OutOfMemory → ⊥
 not_out_of_memory config h now c fits fed is =
-    never (sym (ap runs_out is) ∙ ap (λ (a : Answered). runs_out a.act) fits.answers ∙ due_fed config h c (kept h c.source c.cookie now) fed)
+    never (sym (ap runs_out is) ∙ ap (λ (a : Answered). runs_out a.act) fits.answers ∙ due_fed config h c (kept_reply h c.source c.cookie now) fed)
 
 -- the same, of the reply that is due
 flag_or_reply : (config : Config) (h : List BoardEntry) (c : Control) (ran_out : Bool) → (unless_out_of_memory config c.cookie c.body ran_out (answering config h c)).act ≡ act.OutOfMemory
@@ -120,14 +120,14 @@ act_of a = a.act
 
 -- a turn that doesn't say so had memory
 pub has_memory : (config : Config) (h : List BoardEntry) (now : ℕ) (c : Control) → FitsControl config h now c → (c.act ≡ act.OutOfMemory → ⊥) → HasMemory c
-has_memory config h now c fits fed = by_kept (kept h c.source c.cookie now) refl
+has_memory config h now c fits fed = by_kept (kept_reply h c.source c.cookie now) refl
   where
-    by_flag : (b : Bool) → c.given.out_of_memory ≡ b → kept h c.source c.cookie now ≡ None → HasMemory c
+    by_flag : (b : Bool) → c.given.out_of_memory ≡ b → kept_reply h c.source c.cookie now ≡ None → HasMemory c
     by_flag false flag none = flag
     by_flag true flag none =
         absurd (fed (ap act_of (fits.answers ∙ ap (answering_unless config h c) none ∙ ap (λ (b : Bool). unless_out_of_memory config c.cookie c.body b (answering config h c)) flag)))
 
-    by_kept : (o : Option (List ℕ)) → kept h c.source c.cookie now ≡ o → HasMemory c
+    by_kept : (o : Option (List ℕ)) → kept_reply h c.source c.cookie now ≡ o → HasMemory c
     by_kept (Some bytes) is = (subst (GivesFor (demanded config h c) c.given) (ap act_of (fits.answers ∙ ap (answering_unless config h c) is)) fits.gives).2
     by_kept None is = by_flag c.given.out_of_memory refl is
 
@@ -147,7 +147,7 @@ act_owes config h moment c d given same act.OutOfMemory fed = absurd (fed refl)
 act_owes config h moment c d given same (act.Failed code) fed = refl
 act_owes config h moment c d given same (act.Undone code leases draws) fed = refl
 act_owes config h moment c d given same (act.Offered o) fed =
-    ap (λ (a : Act). map (opening config) o.legs ++ in_cell o.of (Prepare o.of.number o.legs o.keys o.dropped) ∷ closes config h a o.of) same
+    ap (λ (a : Act). map (open_owed config) o.legs ++ in_cell o.of (Prepare o.of.number o.legs o.keys o.dropped) ∷ closes config h a o.of) same
 act_owes config h moment c d given same (act.Answered x) fed = ap (λ (a : Act). in_cell x.of (Commit x.signal) ∷ closes config h a x.of) same
 act_owes config h moment c d given same (act.Deleted of) fed = ap (λ (a : Act). in_cell of End ∷ closes config h a of) same
 act_owes config h moment c d given same (act.Queried of) fed = ap (λ (g : Given). reading (Some of) g.report) given

@@ -6,7 +6,7 @@ use Rattle.relay_outside.specs.declared.keys.KeyCall.TheVariants as key
 use Rattle.relay_outside.specs.declared.ports.PortCall.{PortCall}
 use Rattle.relay_outside.specs.declared.ports.PortCall.TheVariants.{Open, Close}
 use Rattle.relay_outside.specs.declared.settings.Config.{Config}
-use Rattle.media_ports.specs.Asked.{OpensAt, opening_answers, opening_calls, pair_addresses}
+use Rattle.media_ports.specs.Openings.{OpensAt, opening_answers, opening_calls, pair_addresses}
 use Rattle.media_ports.specs.Calls.{openings}
 use Rattle.replay_devices.specs.Devices.{Happening, Opened, Drew}
 use Rattle.replay_steps.specs.Arrivals.{End}

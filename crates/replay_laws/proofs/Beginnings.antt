@@ -8,12 +8,12 @@ use Rattle.histories.specs.Words.{In, here, there, greatest}
 use Rattle.histories.proofs.Lists.{Made, in_left, mapped, equal_if}
 use Rattle.port_pool.specs.declared.reports.LegReport.{LegReport}
 use Rattle.call_cell.specs.Cells.{CellEntry, Prepare, Commit, Relay, Expire, Read, End}
-use Rattle.call_cell.specs.Asked.{reports}
+use Rattle.call_cell.specs.Demands.{reports}
 use Rattle.relay_core.specs.Entries.{Event, Board, Cell, Box, Entry, is_nested, is_at, history, board_at, box_in, cell_entry, cell_at, cell_history}
 use Rattle.relay_core.specs.Legal.{Legal, is_handed_own, is_handed_boards, last_moment, FitsEvent}
-use Rattle.relay_core.specs.Made.{told, told_event, told_cell}
-use Rattle.relay_core.specs.Standing.{told_entry}
-use Rattle.relay_core.specs.Turning.{Numbered, IsAbove, Rising}
+use Rattle.relay_core.specs.Records.{as_logged, logged_event, logged_cell}
+use Rattle.relay_core.specs.PlaceHistories.{logged_entry}
+use Rattle.relay_core.specs.Turns.{Numbered, IsAbove, Rising}
 use Rattle.relay_core.proofs.Gains.{rising_above}
 use Rattle.relay_core.proofs.Histories.{Step, step, nothing, single, is_there}
 use Rattle.relay_core.proofs.Refilling.{Keeps, history_mapped}
@@ -23,17 +23,17 @@ use Rattle.replay_laws.proofs.Lists.{same_history}
 
 -- What is told keeps all but what a relay did.
 
-same_board : (moment : ℕ) (event : Event) → board_at moment (told_event event) ≡ board_at moment event
+same_board : (moment : ℕ) (event : Event) → board_at moment (logged_event event) ≡ board_at moment event
 same_board moment (Board b) = refl
 same_board moment (Cell c) = refl
 same_board moment (Box b) = refl
 
-same_box : (event : Event) → box_in (told_event event) ≡ box_in event
+same_box : (event : Event) → box_in (logged_event event) ≡ box_in event
 same_box (Board b) = refl
 same_box (Cell c) = refl
 same_box (Box b) = refl
 
-same_nested : (event : Event) → is_nested (told_event event) ≡ is_nested event
+same_nested : (event : Event) → is_nested (logged_event event) ≡ is_nested event
 same_nested (Board b) = refl
 same_nested (Cell (Prepare call legs keys dropped)) = refl
 same_nested (Cell (Commit signal)) = refl
@@ -44,7 +44,7 @@ same_nested (Cell End) = refl
 same_nested (Box b) = refl
 
 -- of a nested step all is recorded
-same_event : (event : Event) → is_nested event ≡ true → told_event event ≡ event
+same_event : (event : Event) → is_nested event ≡ true → logged_event event ≡ event
 same_event (Board b) nested = refl
 same_event (Cell (Prepare call legs keys dropped)) nested = refl
 same_event (Cell (Commit signal)) nested = refl
@@ -54,7 +54,7 @@ same_event (Cell (Read reports)) nested = refl
 same_event (Cell End) nested = refl
 same_event (Box b) nested = refl
 
-told_keeps : Keeps told
+told_keeps : Keeps as_logged
 told_keeps = record {
   place_is = λ e. refl;
   number_is = λ e. refl;
@@ -166,25 +166,25 @@ legal_number config l g e i =
 
 -- What is told of a list.
 
-told_moments : (xs : List Entry) → map (λ (e : Entry). e.moment) (map told xs) ≡ map (λ (e : Entry). e.moment) xs
+told_moments : (xs : List Entry) → map (λ (e : Entry). e.moment) (map as_logged xs) ≡ map (λ (e : Entry). e.moment) xs
 told_moments [] = refl
 told_moments (x ∷ xs) = ap (λ (ns : List ℕ). x.moment ∷ ns) (told_moments xs)
 
-told_long : (xs : List Entry) → length (map told xs) ≡ length xs
+told_long : (xs : List Entry) → length (map as_logged xs) ≡ length xs
 told_long [] = refl
 told_long (x ∷ xs) = let k = told_long xs in omega (arith, k)
 
-cell_told : (moment : ℕ) (v : Event) (rest : List Entry) → filter_map cell_entry (map told rest) ≡ map told_entry (filter_map cell_entry rest)
-    → cons_option (cell_at moment (told_event v)) (filter_map cell_entry (map told rest)) ≡ map told_entry (cons_option (cell_at moment v) (filter_map cell_entry rest))
+cell_told : (moment : ℕ) (v : Event) (rest : List Entry) → filter_map cell_entry (map as_logged rest) ≡ map logged_entry (filter_map cell_entry rest)
+    → cons_option (cell_at moment (logged_event v)) (filter_map cell_entry (map as_logged rest)) ≡ map logged_entry (cons_option (cell_at moment v) (filter_map cell_entry rest))
 cell_told moment (Board b) rest same = same
-cell_told moment (Cell c) rest same = ap (λ (es : List CellEntry). (record { moment = moment; event = told_cell c }) ∷ es) same
+cell_told moment (Cell c) rest same = ap (λ (es : List CellEntry). (record { moment = moment; event = logged_cell c }) ∷ es) same
 cell_told moment (Box b) rest same = same
 
-cells_told : (xs : List Entry) → filter_map cell_entry (map told xs) ≡ map told_entry (filter_map cell_entry xs)
+cells_told : (xs : List Entry) → filter_map cell_entry (map as_logged xs) ≡ map logged_entry (filter_map cell_entry xs)
 cells_told [] = refl
 cells_told (x ∷ xs) = cell_told x.moment x.event xs (cells_told xs)
 
-told_read : (v : Event) (some : List LegReport) → told_event v ≡ Cell (Read some) → v ≡ Cell (Read some)
+told_read : (v : Event) (some : List LegReport) → logged_event v ≡ Cell (Read some) → v ≡ Cell (Read some)
 told_read (Board b) some is = absurd (let e = is in cc)
 told_read (Box b) some is = absurd (let e = is in cc)
 told_read (Cell (Prepare call legs keys dropped)) some is = is
@@ -194,7 +194,7 @@ told_read (Cell (Expire due)) some is = is
 told_read (Cell (Read other)) some is = is
 told_read (Cell End) some is = is
 
-told_boards : (v : Event) → is_handed_boards (told_event v) ≡ is_handed_boards v
+told_boards : (v : Event) → is_handed_boards (logged_event v) ≡ is_handed_boards v
 told_boards (Board b) = refl
 told_boards (Box b) = refl
 told_boards (Cell (Prepare call legs keys dropped)) = refl
@@ -204,7 +204,7 @@ told_boards (Cell (Expire due)) = refl
 told_boards (Cell (Read other)) = refl
 told_boards (Cell End) = refl
 
-told_own : (v : Event) → is_handed_own (told_event v) ≡ is_handed_own v
+told_own : (v : Event) → is_handed_own (logged_event v) ≡ is_handed_own v
 told_own (Board b) = refl
 told_own (Box b) = refl
 told_own (Cell (Prepare call legs keys dropped)) = refl
@@ -223,25 +223,25 @@ pub record Begins (config : Config) (l : List Entry) : Type 0 where
   pub all : List Entry
   pub legal : Legal config all
   pub more : List Entry
-  pub is : map told all ≡ l ++ more
+  pub is : map as_logged all ≡ l ++ more
   pub rising : Rising l more
 
 module _ (config : Config) (l : List Entry) (b : Begins config l) (e : Entry) (i : In e l) where
-  abbrev made : Made told e b.all
-  made = mapped told b.all (subst (In e) (sym b.is) (in_left l b.more i))
+  abbrev made : Made as_logged e b.all
+  made = mapped as_logged b.all (subst (In e) (sym b.is) (in_left l b.more i))
 
   abbrev one : Entry
   one = made.from
 
-  past_is : history (map told b.all) e.place e.number ≡ history l e.place e.number
+  past_is : history (map as_logged b.all) e.place e.number ≡ history l e.place e.number
   past_is =
       ap (λ (k : List Entry). history k e.place e.number) b.is
       ∙ same_history l b.more e.place e.number (λ f j p. let low : e.number < f.number = rising_above l b.more b.rising f j e i (sym p) in omega (arith, low))
 
-  told_past : map told (history b.all one.place one.number) ≡ history l e.place e.number
+  told_past : map as_logged (history b.all one.place one.number) ≡ history l e.place e.number
   told_past =
-      sym (history_mapped told told_keeps b.all one.place one.number)
-      ∙ ap (λ (x : Entry). history (map told b.all) x.place x.number) made.makes ∙ past_is
+      sym (history_mapped as_logged told_keeps b.all one.place one.number)
+      ∙ ap (λ (x : Entry). history (map as_logged b.all) x.place x.number) made.makes ∙ past_is
 
   pub number_is : e.number ≡ length (history l e.place e.number)
   number_is =
@@ -265,7 +265,7 @@ module _ (config : Config) (l : List Entry) (b : Begins config l) (e : Entry) (i
   -- the moment of an entry that is handed the board's
   pub boards_moment : (last : Entry) → In last l → last.place ≡ 0 → last.number ≡ e.board → is_handed_boards e.event ≡ true → e.moment ≡ max last.moment (latest l e.place e.number)
   boards_moment last j at number handed =
-      let m : Made told last b.all = mapped told b.all (subst (In last) (sym b.is) (in_left l b.more j)) in
+      let m : Made as_logged last b.all = mapped as_logged b.all (subst (In last) (sym b.is) (in_left l b.more j)) in
       let timed = b.legal.timed one made.is_in in
       let same : one.moment ≡ max m.from.moment (last_moment b.all one) =
       timed.of_board m.from m.is_in (ap (λ (x : Entry). x.place) m.makes ∙ at)

@@ -8,9 +8,9 @@ use Rattle.port_pool.specs.Ports.{pair_count}
 use Rattle.port_pool.specs.declared.holder.Holder.{Holder}
 use Rattle.call_board.specs.Acts.{Call, Act, BoardEvent, Turn, Tick, Stop, BoardEntry, act, act_in}
 use Rattle.call_board.specs.Calls.{begun, begun_by_act, ended_in, has_ended, live, round_of, rounds, is_round, moment_or_zero, first_moment, latest_moment}
-use Rattle.call_board.specs.Pairs.{legs_of_act, closes_leg, held, calls_in, closed, leased_by_act, leased, undone_pairs, returned, free, draws_of_act, drawn}
-use Rattle.call_board.specs.Kept.{keeping_at, keeping_of, keepings}
-use Rattle.call_board.specs.Views.{last_moment}
+use Rattle.call_board.specs.Pairs.{legs_of_act, closes_leg, held, calls_in, closed, leased_by_act, all_leased, undone_pairs, returned, free, draws_of_act, drawn}
+use Rattle.call_board.specs.KeptReplies.{keeping_at, keeping_of, keepings}
+use Rattle.call_board.specs.Views.{board_last_moment}
 use Rattle.relay_core.proofs.Refilling.{filter_mapped, picked_mapped}
 use Rattle.replay_laws.specs.Alike.{bare_event, bare}
 
@@ -100,7 +100,7 @@ drawn_bare [] = refl
 drawn_bare (e ∷ h) =
     ap (λ (a : Act). drawn (map bare h) ++ draws_of_act a) (act_bare e.event) ∙ ap (λ (ks : List (List ℕ)). ks ++ draws_of_act (act e)) (drawn_bare h)
 
-leased_bare : (h : List BoardEntry) → leased (map bare h) ≡ leased h
+leased_bare : (h : List BoardEntry) → all_leased (map bare h) ≡ all_leased h
 leased_bare h = flat_bare (λ (e : BoardEntry). leased_by_act (act e)) h (λ e. ap leased_by_act (act_bare e.event))
 
 held_bare : (h : List BoardEntry) → held (map bare h) ≡ held h
@@ -133,15 +133,15 @@ free_by config out its back =
 free_bare : (config : Config) (h : List BoardEntry) → free config (map bare h) ≡ free config h
 free_bare config h =
     ap (λ (out : List ℕ). free_by config out (held (map bare h)) (returned (map bare h))) (leased_bare h)
-    ∙ ap (λ (its : List Holder). free_by config (leased h) its (returned (map bare h))) (held_bare h)
-    ∙ ap (free_by config (leased h) (held h)) (returned_bare h)
+    ∙ ap (λ (its : List Holder). free_by config (all_leased h) its (returned (map bare h))) (held_bare h)
+    ∙ ap (free_by config (all_leased h) (held h)) (returned_bare h)
 
 -- Replies and moments.
 
 keepings_bare : (h : List BoardEntry) → keepings (map bare h) ≡ keepings h
 keepings_bare h = picked_mapped bare keeping_of keeping_of h (λ e. keeping_bare e.moment e.event)
 
-moment_bare : (h : List BoardEntry) → last_moment (map bare h) ≡ last_moment h
+moment_bare : (h : List BoardEntry) → board_last_moment (map bare h) ≡ board_last_moment h
 moment_bare [] = refl
 moment_bare (e ∷ h) = ap (max e.moment) (moment_bare h)
 
@@ -153,11 +153,11 @@ pub record SameBoards (config : Config) (h k : List BoardEntry) : Type 0 where
   pub firsts_are : (n : ℕ) → first_moment h n ≡ first_moment k n
   pub latests_are : (n : ℕ) → latest_moment h n ≡ latest_moment k n
   pub drawn_is : drawn h ≡ drawn k
-  pub leased_is : leased h ≡ leased k
+  pub leased_is : all_leased h ≡ all_leased k
   pub held_is : held h ≡ held k
   pub free_is : free config h ≡ free config k
   pub keepings_are : keepings h ≡ keepings k
-  pub moment_is : last_moment h ≡ last_moment k
+  pub moment_is : board_last_moment h ≡ board_last_moment k
 
 pub same_boards : (config : Config) (h k : List BoardEntry) → map bare h ≡ map bare k → SameBoards config h k
 same_boards config h k is = record {
@@ -167,9 +167,9 @@ same_boards config h k is = record {
   firsts_are = λ n. sym (first_bare h n) ∙ ap (λ (x : List BoardEntry). first_moment x n) is ∙ first_bare k n;
   latests_are = λ n. sym (latest_bare h n) ∙ ap (λ (x : List BoardEntry). latest_moment x n) is ∙ latest_bare k n;
   drawn_is = sym (drawn_bare h) ∙ ap drawn is ∙ drawn_bare k;
-  leased_is = sym (leased_bare h) ∙ ap leased is ∙ leased_bare k;
+  leased_is = sym (leased_bare h) ∙ ap all_leased is ∙ leased_bare k;
   held_is = sym (held_bare h) ∙ ap held is ∙ held_bare k;
   free_is = sym (free_bare config h) ∙ ap (free config) is ∙ free_bare config k;
   keepings_are = sym (keepings_bare h) ∙ ap keepings is ∙ keepings_bare k;
-  moment_is = sym (moment_bare h) ∙ ap last_moment is ∙ moment_bare k;
+  moment_is = sym (moment_bare h) ∙ ap board_last_moment is ∙ moment_bare k;
 }

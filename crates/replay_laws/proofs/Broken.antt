@@ -5,14 +5,14 @@ use Rattle.relay_outside.specs.declared.lines.WriteCall.{WriteCall}
 use Rattle.relay_outside.specs.declared.lines.WriteCall.TheVariants.{Write}
 use Rattle.relay_outside.specs.declared.settings.Config.{Config}
 use Rattle.relay_core.specs.Entries.{Entry}
-use Rattle.relay_script.specs.Printing.{Printed, ScriptFault, line_of}
+use Rattle.relay_script.specs.EventLines.{Printed, ScriptFault, printed_line}
 use Rattle.relay_script.specs.Steps.{Step}
 use Rattle.replay_devices.specs.declared.script.Ending.{Ending}
 use Rattle.replay_devices.specs.declared.script.Ending.TheVariants as ending
 use Rattle.replay_steps.specs.declared.ended.Ended.{Ended}
 use Rattle.replay_steps.specs.declared.ended.Ended.TheVariants as ended
-use Rattle.replay_steps.specs.Steps.{Course, at_first, after, Makes, IsFaulty, Stops}
-use Rattle.replay_steps.specs.Written.{written, unwritten, Played, PlayedAnd, StopsAt, FailsAt, Demands}
+use Rattle.replay_steps.specs.Steps.{Course, at_first, course_after, Makes, IsFaulty, Stops}
+use Rattle.replay_steps.specs.Output.{written, unwritten, Played, PlayedAnd, StopsAt, FailsAt, Demands}
 use Rattle.replay_steps.proofs.Courses.{plays_more}
 use Rattle.replay_laws.specs.Alike.{NeverOutOfMemory, WritesOut, IsWrittenOut, BreaksOff}
 use Rattle.replay_laws.proofs.Texts.{InOrder, same, earlier, later, in_order, step_heads, step_tails, parted, Ran, ran, both_went, front_ran, never_made, played_once, stop_or_all, end_outside, fault_outside}
@@ -27,12 +27,12 @@ cut_there : (s t : Step) (front before : List Step) (one : Step) → s ≡ t →
 cut_there s t front before one is (inside rest q) = inside rest (ap (λ (xs : List Step). t ∷ xs) q ∙ ap (λ (x : Step). x ∷ front ++ rest) (sym is))
 cut_there s t front before one is (beyond rest q) = beyond rest (ap (λ (xs : List Step). s ∷ xs) q ∙ ap (λ (x : Step). x ∷ before ++ one ∷ rest) is)
 
-cut : (front after before behind : List Step) (one : Step) → front ++ after ≡ before ++ one ∷ behind → Cut front before one
-cut [] after before behind one is = inside before refl
-cut (s ∷ front) after [] behind one is = beyond front (ap (λ (x : Step). x ∷ front) (step_heads s one (front ++ after) behind is))
-cut (s ∷ front) after (t ∷ before) behind one is =
-    cut_there s t front before one (step_heads s t (front ++ after) (before ++ one ∷ behind) is)
-    (cut front after before behind one (step_tails s t (front ++ after) (before ++ one ∷ behind) is))
+cut : (front course_after before behind : List Step) (one : Step) → front ++ course_after ≡ before ++ one ∷ behind → Cut front before one
+cut [] course_after before behind one is = inside before refl
+cut (s ∷ front) course_after [] behind one is = beyond front (ap (λ (x : Step). x ∷ front) (step_heads s one (front ++ course_after) behind is))
+cut (s ∷ front) course_after (t ∷ before) behind one is =
+    cut_there s t front before one (step_heads s t (front ++ course_after) (before ++ one ∷ behind) is)
+    (cut front course_after before behind one (step_tails s t (front ++ course_after) (before ++ one ∷ behind) is))
 
 -- Of steps of which the one made the first, it printed the first.
 
@@ -48,7 +48,7 @@ against config seed front rest p q x y a b =
 broken_by : (p : List Printed) (e : Printed) (more : List Printed) (v w : List WriteCall) → v ≡ map written p ++ unwritten e ∷ [] → w ≡ map written ((p ++ e ∷ []) ++ more) → BreaksOff v w
 broken_by p e more v w is too = record {
   front = map written p;
-  line = line_of e ++ 10 ∷ [];
+  line = printed_line e ++ 10 ∷ [];
   rest = map written more;
   first_is = is;
   second_is =
@@ -74,9 +74,9 @@ module _ (config : Config) (seed : ℕ) (steps : List Step) (l : List Entry) (v 
   front_is = a.steps_are ∙ sym (append_assoc a.before (a.step ∷ []) a.after)
 
   -- it was made
-  made : Makes config seed a.course a.step (a.event ∷ []) a.last → Ran config seed front (a.prints ++ a.event ∷ []) (after a.step a.last)
+  made : Makes config seed a.course a.step (a.event ∷ []) a.last → Ran config seed front (a.prints ++ a.event ∷ []) (course_after a.step a.last)
   made makes =
-      ran config seed front (a.prints ++ a.event ∷ []) (after a.step a.last) l (plays_more config seed a.before at_first a.prints a.course a.step (a.event ∷ []) a.last a.plays makes) a.entries_are s fed
+      ran config seed front (a.prints ++ a.event ∷ []) (course_after a.step a.last) l (plays_more config seed a.before at_first a.prints a.course a.step (a.event ∷ []) a.last a.plays makes) a.entries_are s fed
 
   -- it can't be made
   stood : a.last ≡ a.course → Ran config seed a.before a.prints a.course
@@ -90,7 +90,7 @@ module _ (config : Config) (seed : ℕ) (steps : List Step) (l : List Entry) (v 
 
       by_case : Demands config seed a.course a.step (length a.before + 1) a.event a.last → BreaksOff v w
       by_case (inl makes) =
-          let more = against config seed front a.after (a.prints ++ a.event ∷ []) b.prints (after a.step a.last) b.course (made makes) (all (front ++ a.after) front_is) in
+          let more = against config seed front a.after (a.prints ++ a.event ∷ []) b.prints (course_after a.step a.last) b.course (made makes) (all (front ++ a.after) front_is) in
           broken_by a.prints a.event more.0 v w a.writes_are (b.writes_are ∙ ap (map written) more.1)
       by_case (inr faulty) =
           absurd (never_made config seed a.before a.step a.after a.prints b.prints a.course b.course (stood faulty.2) faulty.0 (all (a.before ++ a.step ∷ a.after) a.steps_are))
@@ -106,13 +106,13 @@ module _ (config : Config) (seed : ℕ) (steps : List Step) (l : List Entry) (v 
 
       by_cut : Makes config seed a.course a.step (a.event ∷ []) a.last → Cut front b.before b.step → BreaksOff v w
       by_cut makes (inside rest q) =
-          let more = against config seed front rest (a.prints ++ a.event ∷ []) b.prints (after a.step a.last) b.course (made makes) (rightly (front ++ rest) q) in
+          let more = against config seed front rest (a.prints ++ a.event ∷ []) b.prints (course_after a.step a.last) b.course (made makes) (rightly (front ++ rest) q) in
           let last : List Printed = ScriptFault (length b.before + 1) ∷ [] in
           broken_by a.prints a.event (more.0 ++ last) v w a.writes_are
           (b.writes_are ∙ ap (λ (xs : List Printed). map written (xs ++ last)) more.1 ∙ ap (map written) (append_assoc (a.prints ++ a.event ∷ []) more.0 last))
       by_cut makes (beyond rest q) =
-          absurd (never_made config seed b.before b.step rest b.prints (a.prints ++ a.event ∷ []) b.course (after a.step a.last) right b.faulty
-          (subst (λ (x : List Step). Ran config seed x (a.prints ++ a.event ∷ []) (after a.step a.last)) q (made makes)))
+          absurd (never_made config seed b.before b.step rest b.prints (a.prints ++ a.event ∷ []) b.course (course_after a.step a.last) right b.faulty
+          (subst (λ (x : List Step). Ran config seed x (a.prints ++ a.event ∷ []) (course_after a.step a.last)) q (made makes)))
 
       by_order : IsFaulty a.course a.step → a.event ≡ ScriptFault (length a.before + 1) → Ran config seed a.before a.prints a.course → InOrder a.before a.step b.before b.step → BreaksOff v w
       by_order faulty event left (same q) =
@@ -155,7 +155,7 @@ module _ (config : Config) (seed : ℕ) (steps : List Step) (how : Ending) (v w 
     | inl stops ↦ absurd (stop_or_all config seed steps b.entries l w a.front stops a.played b.stopped s b.fed fed)
     | inr all ↦ record {
       front = a.front;
-      line = line_of (ScriptFault (length steps + 1)) ++ 10 ∷ [];
+      line = printed_line (ScriptFault (length steps + 1)) ++ 10 ∷ [];
       rest = [];
       first_is = a.writes_are;
       second_is =

@@ -9,7 +9,7 @@ use Rattle.relay_outside.specs.declared.ports.PortCall.{PortCall}
 use Rattle.relay_outside.specs.declared.settings.Config.{Config}
 use Rattle.port_pool.specs.declared.reports.LegReport.{LegReport}
 use Rattle.call_cell.specs.Cells.{CellEntry, Read, since_end}
-use Rattle.call_cell.specs.Asked.{reports}
+use Rattle.call_cell.specs.Demands.{reports}
 use Rattle.call_cell.specs.Good.{FittingCell}
 use Rattle.call_board.specs.Acts as act
 use Rattle.call_board.specs.Acts.{Call, Control, Turn, BoardEvent, BoardEntry}
@@ -17,16 +17,16 @@ use Rattle.call_board.specs.Pairs.{free}
 use Rattle.call_board.specs.Fits.{FitsControl}
 use Rattle.relay_core.specs.Entries.{Event, Board, Entry, cell_at, cell_entry, cell_history}
 use Rattle.relay_core.specs.Scripts.{Owed, owed_by, in_cell, reading, script, script_of_act}
-use Rattle.relay_core.specs.Standing.{told_entry}
-use Rattle.relay_core.specs.Turning.{IsAbove}
-use Rattle.media_ports.specs.Asked.{OpensAt}
+use Rattle.relay_core.specs.PlaceHistories.{logged_entry}
+use Rattle.relay_core.specs.Turns.{IsAbove}
+use Rattle.media_ports.specs.Openings.{OpensAt}
 use Rattle.board_turns.specs.Between.{board_of}
-use Rattle.board_turns.specs.Controls.{Hearing, control_of, entry_at, moment_at}
-use Rattle.board_turns.specs.Giving.{draws_of}
+use Rattle.board_turns.specs.Controls.{RequestRecord, control_of, entry_at, moment_at}
+use Rattle.board_turns.specs.DeviceAnswers.{draws_of}
 use Rattle.replay_devices.specs.Devices.{Happening}
-use Rattle.relay_script.specs.Printing as event
-use Rattle.relay_script.specs.Printing.{Printed}
-use Rattle.replay_steps.specs.Steps.{TurnsBoard, IsHeard, Replying, Answers, Controls, OpensAsked, DrawsAsked, filled}
+use Rattle.relay_script.specs.EventLines as event
+use Rattle.relay_script.specs.EventLines.{Printed}
+use Rattle.replay_steps.specs.Steps.{TurnsBoard, IsRecordFrom, Replying, Answers, Controls, OpensAsked, DrawsAsked, filled}
 use Rattle.board_laws.specs.Alike.{AreOfOne, HasMemory, GiveAlike, AreOne}
 use Rattle.board_laws.proofs.Answered.{one_turn}
 use Rattle.replay_laws.specs.Alike.{bare_event, AlikeLists, NeverOutOfMemory, TellsReports, IsReport}
@@ -42,22 +42,22 @@ use Rattle.replay_laws.proofs.Asked.{openings_agree, openings_once, draws_agree,
 -- What is known of one turn.
 
 -- what was told of a call in a cell is by the history that a list has of the cell
-record Reported (config : Config) (l : List Entry) (cell : ℕ) (told : List LegReport) : Type 0 where
+record Reported (config : Config) (l : List Entry) (cell : ℕ) (all_reports : List LegReport) : Type 0 where
   number : ℕ
   above : IsAbove l cell number
   history_is : List CellEntry
-  recorded : map told_entry history_is ≡ cell_history l cell number
+  recorded : map logged_entry history_is ≡ cell_history l cell number
   fitting : FittingCell config history_is
-  told_is : told ≡ reports config (since_end history_is)
+  told_is : all_reports ≡ reports config (since_end history_is)
 
 -- the datagram with its reply after that history
-abbrev turn_of : Config → List BoardEntry → (clock : ℕ) → Hearing → Control
+abbrev turn_of : Config → List BoardEntry → (clock : ℕ) → RequestRecord → Control
 turn_of config h clock x = control_of config h (moment_at h clock) x
 
-record Turned (config : Config) (h : List BoardEntry) (clock : ℕ) (l : List Entry) (x : Hearing) : Type 0 where
+record Turned (config : Config) (h : List BoardEntry) (clock : ℕ) (l : List Entry) (x : RequestRecord) : Type 0 where
   fits : FitsControl config h (moment_at h clock) (turn_of config h clock x)
   fed : HasMemory (turn_of config h clock x)
-  told : (of : Call) (some : List LegReport) → (turn_of config h clock x).act ≡ act.Queried of → x.given.report ≡ Some some → Reported config l of.cell some
+  log : (of : Call) (some : List LegReport) → (turn_of config h clock x).act ≡ act.Queried of → x.given.report ≡ Some some → Reported config l of.cell some
 
 record One (w : Owed) (ns : List Entry) : Type 0 where
   entry : Entry
@@ -103,7 +103,7 @@ reported config l e new c of some t is tells owes =
       told_is = r.told_is;
     }
 
-turned : (config : Config) (clock : ℕ) (l : List Entry) (x : Hearing) (new : List Entry) → TurnsBoard config l (entry_at config (board_of l) (moment_at (board_of l) clock) x) new
+turned : (config : Config) (clock : ℕ) (l : List Entry) (x : RequestRecord) (new : List Entry) → TurnsBoard config l (entry_at config (board_of l) (moment_at (board_of l) clock) x) new
     → NeverOutOfMemory new → TellsReports config new → Turned config (board_of l) clock l x
 turned config clock l x new t fed tells =
     let h : List BoardEntry = board_of l in
@@ -113,8 +113,8 @@ turned config clock l x new t fed tells =
     record {
       fits = turn_fits config l e new t;
       fed = has_memory config h (moment_at h clock) c (turn_fits config l e new t) (fed t.last c there.0 there.1);
-      told = λ of some is told. reported config l e new c of some t refl tells
-          (ap (script_of_act config h e c) is ∙ ap (reading (Some of)) told);
+      log = λ of some is log. reported config l e new c of some t refl tells
+          (ap (script_of_act config h e c) is ∙ ap (reading (Some of)) log);
     }
 
 -- Two turns.
@@ -130,21 +130,21 @@ Parts = List ℕ × List ℕ
 parts_once : (x y : Parts) → Some x ≡ Some y → x ≡ y
 parts_once x y e = cc
 
-of_one : (config : Config) (h : List BoardEntry) (clock : ℕ) (source : Addr) (bytes : List ℕ) (x y : Hearing) → IsHeard x source bytes → IsHeard y source bytes
+of_one : (config : Config) (h : List BoardEntry) (clock : ℕ) (source : Addr) (bytes : List ℕ) (x y : RequestRecord) → IsRecordFrom x source bytes → IsRecordFrom y source bytes
     → AreOfOne (turn_of config h clock x) (turn_of config h clock y)
 of_one config h clock source bytes x y a b =
     let both = parts_once (x.cookie, x.body) (y.cookie, y.body) (sym a.framed ∙ b.framed) in
     record { source = a.source_is ∙ sym b.source_is; cookie = ap (λ (z : Parts). z.0) both; body = ap (λ (z : Parts). z.1) both }
 
 -- what the turn's calls came to
-record Ran (config : Config) (seed : ℕ) (old : List Happening) (pairs : List ℕ) (x : Hearing) (past : List Happening) : Type 0 where
+record Ran (config : Config) (seed : ℕ) (old : List Happening) (pairs : List ℕ) (x : RequestRecord) (past : List Happening) : Type 0 where
   opened : List PortCall
   between : List Happening
   opens : OpensAt config pairs x.given.opens opened
   asked : OpensAsked config opened old between
   drawn : DrawsAsked seed (draws_of x.given) between past
 
-ran_alike : (config : Config) (seed : ℕ) (h : List BoardEntry) (clock : ℕ) (l k : List Entry) (old : List Happening) (pairs : List ℕ) (x y : Hearing) (p q : List Happening) → SameCells l k
+ran_alike : (config : Config) (seed : ℕ) (h : List BoardEntry) (clock : ℕ) (l k : List Entry) (old : List Happening) (pairs : List ℕ) (x y : RequestRecord) (p q : List Happening) → SameCells l k
     → Turned config h clock l x → Turned config h clock k y → Ran config seed old pairs x p → Ran config seed old pairs y q → GiveAlike (turn_of config h clock x) (turn_of config h clock y)
 ran_alike config seed h clock l k old pairs x y p q cells s t a b = record {
   opens = openings_agree config pairs x.given.opens y.given.opens a.opened b.opened old a.between b.between a.opens b.opens a.asked b.asked;
@@ -152,10 +152,10 @@ ran_alike config seed h clock l k old pairs x y p q cells s t a b = record {
       let mid = openings_once config pairs x.given.opens y.given.opens a.opened b.opened old a.between b.between a.opens b.opens a.asked b.asked same in
       draws_agree seed (draws_of x.given) (draws_of y.given) b.between p q
       (subst (λ (z : List Happening). DrawsAsked seed (draws_of x.given) z p) mid a.drawn) b.drawn;
-  reports = λ of m n is_x is_y told_x told_y. report_once config l k of.cell m n cells (s.told of m is_x told_x) (t.told of n is_y told_y);
+  reports = λ of m n is_x is_y told_x told_y. report_once config l k of.cell m n cells (s.log of m is_x told_x) (t.log of n is_y told_y);
 }
 
-past_once : (config : Config) (seed : ℕ) (old : List Happening) (pairs : List ℕ) (x y : Hearing) (p q : List Happening) → x.given ≡ y.given
+past_once : (config : Config) (seed : ℕ) (old : List Happening) (pairs : List ℕ) (x y : RequestRecord) (p q : List Happening) → x.given ≡ y.given
     → Ran config seed old pairs x p → Ran config seed old pairs y q → p ≡ q
 past_once config seed old pairs x y p q same a b =
     let mid = openings_once config pairs x.given.opens y.given.opens a.opened b.opened old a.between b.between a.opens b.opens a.asked b.asked (ap (λ (g : act.Given). g.opens) same) in
@@ -169,8 +169,8 @@ replying_once false source m n e f same a b = a ∙ ap (event.Reply source) same
 
 -- one turn with its reply, after a history of the board
 record Replied (config : Config) (seed : ℕ) (h : List BoardEntry) (clock : ℕ) (l : List Entry) (old : List Happening) (source : Addr) (bytes : List ℕ) (failing : Bool) (e : Printed) (past : List Happening) : Type 0 where
-  heard : Hearing
-  is_heard : IsHeard heard source bytes
+  heard : RequestRecord
+  is_heard : IsRecordFrom heard source bytes
   turned_so : Turned config h clock l heard
   ran : Ran config seed old (free config h) heard past
   replies : Replying failing source (turn_of config h clock heard).reply e
@@ -186,8 +186,8 @@ one_reply config seed h clock l k old source bytes failing e f p q cells a b =
 replied_once : (config : Config) (seed : ℕ) (h : List BoardEntry) (clock : ℕ) (l k : List Entry) (old : List Happening) (source : Addr) (bytes : List ℕ) (failing : Bool) (e f : Printed) (p q : List Happening)
     → SameCells l k → Replied config seed h clock l old source bytes failing e p → Replied config seed h clock k old source bytes failing f q → (e ≡ f) × (p ≡ q)
 replied_once config seed h clock l k old source bytes failing e f p q cells a b =
-    let x : Hearing = a.heard in
-    let y : Hearing = b.heard in
+    let x : RequestRecord = a.heard in
+    let y : RequestRecord = b.heard in
     let one : AreOne (turn_of config h clock x) (turn_of config h clock y) =
     one_turn config h (moment_at h clock) (turn_of config h clock x) (turn_of config h clock y) a.turned_so.fits b.turned_so.fits
     (of_one config h clock source bytes x y a.is_heard b.is_heard) a.turned_so.fed b.turned_so.fed
@@ -209,13 +209,13 @@ replied config seed clock l old source bytes failing opened drawn e new between 
 
 -- the same by another history of the board, of which the same is asked
 module _ (config : Config) (seed : ℕ) (h k : List BoardEntry) (same : SameBoards config h k) (clock : ℕ) (l : List Entry) (old : List Happening) (source : Addr) (bytes : List ℕ) (failing : Bool) (e : Printed) (past : List Happening) where
-  turned_too : (x : Hearing) → Turned config h clock l x → Turned config k clock l x
+  turned_too : (x : RequestRecord) → Turned config h clock l x → Turned config k clock l x
   turned_too x t = record {
     fits = subst (λ (c : Control). FitsControl config k (moment_at k clock) c) (turn_same config h k same clock x)
         (subst (λ (m : ℕ). FitsControl config k m (turn_of config h clock x)) (time_same config h k same clock)
         (fits_same config h k same (moment_at h clock) (turn_of config h clock x) t.fits));
     fed = t.fed;
-    told = λ of some is told. t.told of some (ap (λ (c : Control). c.act) (turn_same config h k same clock x) ∙ is) told;
+    log = λ of some is log. t.log of some (ap (λ (c : Control). c.act) (turn_same config h k same clock x) ∙ is) log;
   }
 
   replied_too : Replied config seed h clock l old source bytes failing e past → Replied config seed k clock l old source bytes failing e past

@@ -5,14 +5,14 @@ use Rattle.histories.specs.Words.{In, here, there}
 use Rattle.relay_outside.specs.declared.lines.LineCall.{LineCall}
 use Rattle.relay_outside.specs.declared.lines.WriteCall.{WriteCall}
 use Rattle.relay_outside.specs.declared.settings.Config.{Config}
-use Rattle.relay_outside.specs.Told.{Gained}
-use Rattle.relay_script.specs.Printing.{ScriptFault, line_of}
+use Rattle.relay_outside.specs.DeviceLogs.{Gained}
+use Rattle.relay_script.specs.EventLines.{ScriptFault, printed_line}
 use Rattle.relay_script.specs.Steps.{Step}
-use Rattle.replay_devices.specs.Scripts.{Reads}
+use Rattle.replay_devices.specs.Scripts.{ReadsScript}
 use Rattle.replay_devices.specs.declared.script.Ending.{Ending}
 use Rattle.replay_devices.specs.declared.script.Ending.TheVariants as ending
 use Rattle.replay_steps.specs.Steps.{Stops}
-use Rattle.replay_steps.specs.Written.{written, unwritten, DidPlay, DidReplay, Replays}
+use Rattle.replay_steps.specs.Output.{written, unwritten, DidPlay, DidReplay, Replays}
 use Rattle.replay_steps.specs.declared.ended.Ended.{Ended}
 use Rattle.replay_steps.specs.declared.ended.Ended.TheVariants as ended
 use Rattle.replay_laws.specs.Alike.{NeverOutOfMemory, WritesOut}
@@ -26,11 +26,11 @@ pub written_are : (old writes text : List WriteCall) → Gained (Some old) (Some
 written_are old writes text gained = sym (append_cancel_left old writes gained.0 gained.1 ∙ gained.2)
 
 -- what is known of a replay is known of these steps
-tied : (config : Config) (seed : ℕ) (steps : List Step) (how : Ending) (end : Ended) (before calls : List LineCall) (old writes : List WriteCall) → Reads steps how calls
+tied : (config : Config) (seed : ℕ) (steps : List Step) (how : Ending) (end : Ended) (before calls : List LineCall) (old writes : List WriteCall) → ReadsScript steps how calls
     → DidReplay config seed end (Some before) (Some (before ++ calls)) (Some old) (Some (old ++ writes)) → DidPlay config seed steps how end writes
 tied config seed steps how end before calls old writes reads d =
     let more = d.reads_are in
-    let here : Reads d.steps d.how calls = subst (λ (l : List LineCall). Reads d.steps d.how l) (sym (append_cancel_left before calls more.0 more.1)) more.2 in
+    let here : ReadsScript d.steps d.how calls = subst (λ (l : List LineCall). ReadsScript d.steps d.how l) (sym (append_cancel_left before calls more.0 more.1)) more.2 in
     let same = reads_once d.steps steps d.how how calls here reads in
     let wrote : d.writes ≡ writes = written_are old writes d.writes d.writes_are in
     subst (λ (x : List Step). DidPlay config seed x how end writes) same.0
@@ -40,12 +40,12 @@ last_in : (xs : List WriteCall) (x : WriteCall) → In x (xs ++ x ∷ [])
 last_in [] x = here refl
 last_in (y ∷ xs) x = there (last_in xs x)
 
-pub ends_faultless : (config : Config) (seed : ℕ) (steps : List Step) (how : Ending) (end : Ended) (before calls : List LineCall) (old writes : List WriteCall) → Reads steps how calls
+pub ends_faultless : (config : Config) (seed : ℕ) (steps : List Step) (how : Ending) (end : Ended) (before calls : List LineCall) (old writes : List WriteCall) → ReadsScript steps how calls
     → IsFaultless config seed steps how → Replays config seed end (Some before) (Some (before ++ calls)) (Some old) (Some (old ++ writes)) → EndsFaultless config seed steps how end writes
 ends_faultless config seed steps how ended.Finished before calls old writes reads f d = (tied config seed steps how ended.Finished before calls old writes reads d).1.0
 ends_faultless config seed steps how ended.ScriptRead before calls old writes reads f d = (tied config seed steps how ended.ScriptRead before calls old writes reads d).1.0
 ends_faultless config seed steps how ended.PrintFault before calls old writes reads f d = elim (tied config seed steps how ended.PrintFault before calls old writes reads d).1 [
-  | inl x ↦ (line_of x.event ++ 10 ∷ [], subst (λ (l : List WriteCall). In (unwritten x.event) l) (sym x.writes_are) (last_in (map written x.prints) (unwritten x.event)))
+  | inl x ↦ (printed_line x.event ++ 10 ∷ [], subst (λ (l : List WriteCall). In (unwritten x.event) l) (sym x.writes_are) (last_in (map written x.prints) (unwritten x.event)))
   | inr x ↦ absurd (f.inside x.0)
 ]
 ends_faultless config seed steps how ended.OutOfMemory before calls old writes reads f d = tt

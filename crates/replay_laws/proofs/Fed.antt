@@ -16,20 +16,20 @@ use Rattle.call_cell.specs.Cells.{Receipt}
 use Rattle.call_board.specs.Acts as act
 use Rattle.call_board.specs.Acts.{Act, Call, Control, BoardEvent, BoardEntry, Turn, Tick, Stop}
 use Rattle.call_board.specs.Answers.{Answered, answering_unless}
-use Rattle.call_board.specs.Kept.{kept}
+use Rattle.call_board.specs.KeptReplies.{kept_reply}
 use Rattle.call_board.specs.Replies.{fault_datagram}
 use Rattle.relay_core.specs.Entries.{Event, Board, Cell, Box, Entry, is_nested}
 use Rattle.relay_core.specs.Legal.{Orderly}
 use Rattle.relay_core.proofs.Turns.{nothing_is_orderly, turn_elsewhere}
-use Rattle.media_lane.specs.Steps.{take_entry, relay_entry}
+use Rattle.media_lane.specs.Steps.{take_entry, recorded_relay}
 use Rattle.board_turns.specs.Between.{board_of}
-use Rattle.board_turns.specs.Controls.{Hearing, unanswered, with_answer, entry_at, moment_at}
+use Rattle.board_turns.specs.Controls.{RequestRecord, unanswered, with_answer, entry_at, moment_at}
 use Rattle.relay_script.specs.Steps as step
 use Rattle.relay_script.specs.Steps.{Step}
-use Rattle.relay_script.specs.Printing.{Printed, Reply, ReplyFault, ScriptFault, line_of}
+use Rattle.relay_script.specs.EventLines.{Printed, Reply, ReplyFault, ScriptFault, printed_line}
 use Rattle.replay_devices.specs.declared.script.Ending.{Ending}
-use Rattle.replay_steps.specs.Steps.{Course, Packet, TurnsBoard, TakesPacket, Misses, Replying, Controls, Makes, Plays, at_first, after}
-use Rattle.replay_steps.specs.Written.{written, unwritten, Played, PlayedAnd, StopsAt, FailsAt, Demands, DidWrite}
+use Rattle.replay_steps.specs.Steps.{Course, Packet, TurnsBoard, TakesPacket, Misses, Replying, Controls, Makes, Plays, at_first, course_after}
+use Rattle.replay_steps.specs.Output.{written, unwritten, Played, PlayedAnd, StopsAt, FailsAt, Demands, DidWrite}
 use Rattle.replay_steps.specs.declared.ended.Ended.{Ended}
 use Rattle.replay_steps.specs.declared.ended.Ended.TheVariants as ended
 use Rattle.replay_laws.specs.Alike.{NeverOutOfMemory, HasLine, NoReplyIsE17}
@@ -137,8 +137,8 @@ none_fed config l port source bytes failing e new (inr t) fed = take_fed config 
 packet_fed : (config : Config) (l : List Entry) (port : ℕ) (source : Addr) (bytes : List ℕ) (p : Packet) (new : List Entry) → TakesPacket config l port source bytes p new → NeverOutOfMemory l → NeverOutOfMemory new
 packet_fed config l port source bytes p new t fed = take_fed config l new _ _ _ _ t.list_is fed
 
-relay_fed : (l new : List Entry) (p : Receipt) (number moment : ℕ) (outcome : Outcome) → new ≡ l ++ relay_entry p number moment outcome ∷ [] → NeverOutOfMemory l → NeverOutOfMemory new
-relay_fed l new p number moment outcome is fed = one_fed l new (relay_entry p number moment outcome) is (λ c q. let k = q in cc) fed
+relay_fed : (l new : List Entry) (p : Receipt) (number moment : ℕ) (outcome : Outcome) → new ≡ l ++ recorded_relay p number moment outcome ∷ [] → NeverOutOfMemory l → NeverOutOfMemory new
+relay_fed l new p number moment outcome is fed = one_fed l new (recorded_relay p number moment outcome) is (λ c q. let k = q in cc) fed
 
 -- a reply that says so is printed, or its send fails
 not_replied : (failing : Bool) (source : Addr) (reply cookie body : List ℕ) (e : Printed) (p : List Printed) → p ≡ e ∷ [] → ShowsFed p → Replying failing source reply e
@@ -157,13 +157,13 @@ control_fed config clock l source bytes true reply_fails opened drawn e p new o 
 control_fed config clock l source bytes false reply_fails opened drawn e p new o is s (inl c) fed = same_fed l new c.2.2 fed
 control_fed config clock l source bytes false reply_fails opened drawn e p new o is s (inr a) fed =
     let h : List BoardEntry = board_of l in
-    let x : Hearing = a.heard in
-    let due : Answered = answering_unless config h (unanswered x) (kept h x.source x.cookie (moment_at h clock)) in
+    let x : RequestRecord = a.heard in
+    let due : Answered = answering_unless config h (unanswered x) (kept_reply h x.source x.cookie (moment_at h clock)) in
     turn_fed config l new (entry_at config h (moment_at h clock) x) o a.turns
     (λ c event does.
     let same = answered_once (with_answer x due) c event in
     not_replied reply_fails source due.bytes x.cookie x.body e p is s a.replies
-    (says_so config h (unanswered x) (kept h x.source x.cookie (moment_at h clock)) (ap (λ (d : Control). d.act) same ∙ does)))
+    (says_so config h (unanswered x) (kept_reply h x.source x.cookie (moment_at h clock)) (ap (λ (d : Control). d.act) same ∙ does)))
     fed
 
 course_fed : (x y : Course) → x ≡ y → NeverOutOfMemory y.entries → NeverOutOfMemory x.entries
@@ -200,7 +200,7 @@ play_fed : (config : Config) (seed : ℕ) (steps : List Step) (r : Course) (p : 
 play_fed config seed [] r p x o s plays fed = (subst (λ (c : Course). Orderly config c.entries) (sym plays.1) o, course_fed x r plays.1 fed)
 play_fed config seed (it ∷ steps) r p x o s plays fed =
     let shown : ShowsFed (plays.1 ++ plays.2) = subst ShowsFed plays.3 s in
-    play_fed config seed steps (after it plays.0) plays.2 x (step_gained config seed r it plays.1 plays.0 o plays.4).orderly (back_shows plays.1 plays.2 shown) plays.5
+    play_fed config seed steps (course_after it plays.0) plays.2 x (step_gained config seed r it plays.1 plays.0 o plays.4).orderly (back_shows plays.1 plays.2 shown) plays.5
     (step_fed config seed r it plays.1 plays.0 o (front_shows plays.1 plays.2 shown) plays.4 fed)
 
 -- By a text.
@@ -216,7 +216,7 @@ played_shows prints more writes is none =
     shows_by prints writes (λ e i. (true, subst (λ (l : List WriteCall). In (written e) l) (sym is) (in_left (map written prints) more (maps written prints i)))) none
 
 has_front : (e : Printed) (xs ys zs : List WriteCall) → zs ≡ xs ++ ys → HasLine e xs → HasLine e zs
-has_front e xs ys zs is line = (line.0, subst (λ (l : List WriteCall). In (Write (line_of e ++ 10 ∷ []) line.0) l) (sym is) (in_left xs ys line.1))
+has_front e xs ys zs is line = (line.0, subst (λ (l : List WriteCall). In (Write (printed_line e ++ 10 ∷ []) line.0) l) (sym is) (in_left xs ys line.1))
 
 -- what was written but for its last line
 front_none : (xs ys zs : List WriteCall) → zs ≡ xs ++ ys → NoReplyIsE17 zs → NoReplyIsE17 xs

@@ -8,8 +8,8 @@ use Rattle.cookie_cache.specs.Keepings as cache
 use Rattle.relay_outside.specs.declared.settings.Config.{Config}
 use Rattle.relay_outside.specs.declared.address.Addr.{Addr}
 use Rattle.relay_outside.specs.declared.address.Family.{Family}
-use Rattle.ng_command.specs.Said as said
-use Rattle.ng_command.specs.Said.{Said}
+use Rattle.ng_command.specs.Meanings as said
+use Rattle.ng_command.specs.Meanings.{Said}
 use Rattle.ng_reply.specs.declared.code.ErrorCode.{ErrorCode}
 use Rattle.ng_reply.specs.declared.code.ErrorCode.TheVariants.{E10, E13, E14, E15, E16}
 use Rattle.histories.specs.Words.{first, has}
@@ -20,16 +20,16 @@ use Rattle.call_cell.specs.Cells.{Prepare, Commit, Expire, End}
 use Rattle.call_board.specs.Acts as act
 use Rattle.call_board.specs.Acts.{Call, Act, Lease, Given, Control, BoardEvent, Turn, Tick, Stop, BoardEntry}
 use Rattle.call_board.specs.Calls.{begun, live, lowest_but, find_call, new_call, rounds, rounds_of_call, first_moment, latest_moment}
-use Rattle.call_board.specs.Pairs.{held, closes_leg, free, pair_family, family_eq, fronts, is_short, next_generation, new_legs, new_keys, drawn, leased}
-use Rattle.call_board.specs.Kept.{kept}
-use Rattle.call_board.specs.Asked.{asked}
+use Rattle.call_board.specs.Pairs.{held, closes_leg, free, pair_family, family_eq, fronts, is_short, next_generation, leased_new_legs, drawn_keys_from, drawn, all_leased}
+use Rattle.call_board.specs.KeptReplies.{kept_reply}
+use Rattle.call_board.specs.Requests.{asked}
 use Rattle.call_board.specs.Replies.{Done, Fault, Reported, Listed}
-use Rattle.call_board.specs.Answers.{Answering, failing, telling, leased_pairs, undoing, offering, offer_ask, answer_ask, offer_leased, offer_planned, offer_unless, offer_to, answer_unless, answer_to, names_side, missing, delete_of, legs_told, query_of, answering_asked, answering_unless}
-use Rattle.call_board.specs.Fits.{FitsControl, GivesFor, Hears, HearsAnswer, demanded_by, asks_after}
+use Rattle.call_board.specs.Answers.{Answering, failing, telling, leased_pairs, undoing, offering, offer_ask, answer_ask, offer_leased, offer_planned, offer_unless, offer_to, answer_unless, answer_to, names_side, nothing_to_end, delete_of, reported_legs, query_of, answering_asked, answering_unless}
+use Rattle.call_board.specs.Fits.{FitsControl, GivesFor, ReadsRequest, ReadsAnswerOf, demanded_by, asks_after}
 use Rattle.call_board.proofs.Fixed.{unless_out_of_memory}
 use Rattle.call_board.proofs.Tells.{leased_case}
-use Rattle.relay_core.specs.Scripts.{Owed, opening, closing, in_cell, reading, reading_out_of_memory, script_of_act, script_of, script}
-use Rattle.board_turns.specs.Controls.{Hearing, unanswered, with_answer, control_of, moment_at}
+use Rattle.relay_core.specs.Scripts.{Owed, open_owed, closing, in_cell, reading, reading_out_of_memory, script_of_act, script_of, script}
+use Rattle.board_turns.specs.Controls.{RequestRecord, unanswered, with_answer, control_of, moment_at}
 use Rattle.replay_laws.proofs.Boards.{SameBoards}
 
 abbrev call_as : ℕ → ℕ → List ℕ → Call
@@ -47,13 +47,13 @@ offer_as given ask of begins before legs n = record {
   begins = begins;
   ask = ask;
   legs = legs;
-  keys = new_keys n given.draws (plan.demand before ask).keys;
+  keys = drawn_keys_from n given.draws (plan.demand before ask).keys;
   dropped = (plan.demand before ask).dropped;
 }
 
 abbrev query_as : Given → Call → (created last : ℕ) → List Round → Answering
 query_as given of created last rounds = record {
-  reply = Reported (record { created = created; last_signal = last; rounds = rounds; legs = legs_told given.report });
+  reply = Reported (record { created = created; last_signal = last; rounds = rounds; legs = reported_legs given.report });
   act = act.Queried of;
 }
 
@@ -73,11 +73,11 @@ module _ (config : Config) (h k : List BoardEntry) (same : SameBoards config h k
   rounds_of_same None = refl
   rounds_of_same (Some of) = same.rounds_are of.number
 
-  legs_same : (c : Call) (ps : List ℕ) (legs : List NewLeg) → new_legs h c ps legs ≡ new_legs k c ps legs
+  legs_same : (c : Call) (ps : List ℕ) (legs : List NewLeg) → leased_new_legs h c ps legs ≡ leased_new_legs k c ps legs
   legs_same c [] legs = refl
   legs_same c (p ∷ ps) [] = refl
   legs_same c (p ∷ ps) (leg ∷ legs) =
-      ap (λ (out : List ℕ). leg_as c leg p (count_by (λ (q : ℕ). q == p) out + 1) ∷ new_legs h c ps legs) same.leased_is
+      ap (λ (out : List ℕ). leg_as c leg p (count_by (λ (q : ℕ). q == p) out + 1) ∷ leased_new_legs h c ps legs) same.leased_is
       ∙ ap (λ (ls : List Holder). leg_as c leg p (next_generation k p) ∷ ls) (legs_same c ps legs)
 
   pairs_same : (d : Demand) → leased_pairs config h d ≡ leased_pairs config k d
@@ -93,15 +93,15 @@ module _ (config : Config) (h k : List BoardEntry) (same : SameBoards config h k
   case_same given ask of begins before pairs false true = undoing_same E16 pairs given.draws
   case_same given ask of begins before pairs false false =
       ap (λ (ls : List Holder). offering config before (offer_as given ask of begins before ls (length (drawn h)))) (legs_same of pairs (plan.demand before ask).pairs)
-      ∙ ap (λ (ks : List (List ℕ)). offering config before (offer_as given ask of begins before (new_legs k of pairs (plan.demand before ask).pairs) (length ks))) same.drawn_is
+      ∙ ap (λ (ks : List (List ℕ)). offering config before (offer_as given ask of begins before (leased_new_legs k of pairs (plan.demand before ask).pairs) (length ks))) same.drawn_is
 
   leased_same : (given : Given) (ask : OfferAsk) (of : Call) (begins : Bool) (before : List Round) (pairs : List ℕ)
       → offer_leased config h given ask of begins before pairs ≡ offer_leased config k given ask of begins before pairs
   leased_same given ask of begins before pairs = case_same given ask of begins before pairs (list_any not given.opens) given.draw_failed
 
   abbrev planned_as : Given → OfferAsk → Call → Bool → List Round → List Call → List ℕ → Answering → Answering
-  planned_as given ask of begins before calls fr leased =
-      cond (begins && nat_le config.max_sessions (length calls)) (failing E14) (cond (is_short (of_family config fr) (plan.demand before ask).pairs) (failing E13) leased)
+  planned_as given ask of begins before calls fr all_leased =
+      cond (begins && nat_le config.max_sessions (length calls)) (failing E14) (cond (is_short (of_family config fr) (plan.demand before ask).pairs) (failing E13) all_leased)
 
   planned_same : (given : Given) (ask : OfferAsk) (of : Call) (begins : Bool) (before : List Round)
       → offer_planned config h given ask of begins before ≡ offer_planned config k given ask of begins before
@@ -133,7 +133,7 @@ module _ (config : Config) (h k : List BoardEntry) (same : SameBoards config h k
   delete_same : (tag : Option (List ℕ)) (fatal : Bool) (o : Option Call) → delete_of h tag fatal o ≡ delete_of k tag fatal o
   delete_same tag fatal None = refl
   delete_same tag fatal (Some of) =
-      ap (λ (rs : List Round). cond (names_side rs tag) (record { reply = Done; act = act.Deleted of }) (missing fatal E10)) (same.rounds_are of.number)
+      ap (λ (rs : List Round). cond (names_side rs tag) (record { reply = Done; act = act.Deleted of }) (nothing_to_end fatal E10)) (same.rounds_are of.number)
 
   query_same : (given : Given) (o : Option Call) → query_of h given o ≡ query_of k given o
   query_same given None = refl
@@ -159,22 +159,22 @@ module _ (config : Config) (h k : List BoardEntry) (same : SameBoards config h k
   unkept_same c (Some bytes) = refl
   unkept_same c None = ap (unless_out_of_memory config c.cookie c.body c.given.out_of_memory) (asked_same c (asked config c.too_long c.pairs))
 
-  kept_same : (source : Addr) (cookie : List ℕ) (now : ℕ) → kept h source cookie now ≡ kept k source cookie now
+  kept_same : (source : Addr) (cookie : List ℕ) (now : ℕ) → kept_reply h source cookie now ≡ kept_reply k source cookie now
   kept_same source cookie now = ap (λ (ks : List Keeping). cache.kept ks source cookie now) same.keepings_are
 
-  due_same : (c : Control) (now : ℕ) → answering_unless config h c (kept h c.source c.cookie now) ≡ answering_unless config k c (kept k c.source c.cookie now)
-  due_same c now = unkept_same c (kept h c.source c.cookie now) ∙ ap (answering_unless config k c) (kept_same c.source c.cookie now)
+  due_same : (c : Control) (now : ℕ) → answering_unless config h c (kept_reply h c.source c.cookie now) ≡ answering_unless config k c (kept_reply k c.source c.cookie now)
+  due_same c now = unkept_same c (kept_reply h c.source c.cookie now) ∙ ap (answering_unless config k c) (kept_same c.source c.cookie now)
 
-  answer_heard : (ask : AnswerAsk) (o : Option Call) → HearsAnswer h ask o → HearsAnswer k ask o
+  answer_heard : (ask : AnswerAsk) (o : Option Call) → ReadsAnswerOf h ask o → ReadsAnswerOf k ask o
   answer_heard ask None heard = tt
-  answer_heard ask (Some of) heard = subst (λ (rs : List Round). plan.AnswerHeard rs ask) (same.rounds_are of.number) heard
+  answer_heard ask (Some of) heard = subst (λ (rs : List Round). plan.AnswerRead rs ask) (same.rounds_are of.number) heard
 
-  hears_same : (c : Control) (r : Result Said ErrorCode) → Hears h c r → Hears k c r
+  hears_same : (c : Control) (r : Result Said ErrorCode) → ReadsRequest h c r → ReadsRequest k c r
   hears_same c (Err code) heard = tt
   hears_same c (Ok said.Ping) heard = tt
   hears_same c (Ok (said.Offer id from_tag sdp options)) heard = heard
   hears_same c (Ok (said.Answer id from_tag to_tag sdp options)) heard =
-      subst (HearsAnswer k (answer_ask from_tag to_tag sdp options c.chosen)) (find_same id) (answer_heard (answer_ask from_tag to_tag sdp options c.chosen) (find_call h id) heard)
+      subst (ReadsAnswerOf k (answer_ask from_tag to_tag sdp options c.chosen)) (find_same id) (answer_heard (answer_ask from_tag to_tag sdp options c.chosen) (find_call h id) heard)
   hears_same c (Ok (said.Delete id from_tag fatal)) heard = tt
   hears_same c (Ok (said.Query id)) heard = tt
   hears_same c (Ok (said.Listing limit)) heard = tt
@@ -212,7 +212,7 @@ module _ (config : Config) (h k : List BoardEntry) (same : SameBoards config h k
   pub time_same : (clock : ℕ) → moment_at h clock ≡ moment_at k clock
   time_same clock = ap (max clock) same.moment_is
 
-  pub turn_same : (clock : ℕ) (x : Hearing) → control_of config h (moment_at h clock) x ≡ control_of config k (moment_at k clock) x
+  pub turn_same : (clock : ℕ) (x : RequestRecord) → control_of config h (moment_at h clock) x ≡ control_of config k (moment_at k clock) x
   turn_same clock x =
       ap (λ (m : ℕ). control_of config h m x) (time_same clock) ∙ ap (with_answer x) (due_same (unanswered x) (moment_at k clock))
 
@@ -236,7 +236,7 @@ module _ (config : Config) (h k : List BoardEntry) (same : SameBoards config h k
   act_same e c (act.Failed code) = refl
   act_same e c (act.Undone code leases draws) = refl
   act_same e c (act.Offered o) =
-      ap (λ (ls : List Holder). map (opening config) o.legs ++ in_cell o.of (Prepare o.of.number o.legs o.keys o.dropped) ∷ closing_as e o.of ls) same.held_is
+      ap (λ (ls : List Holder). map (open_owed config) o.legs ++ in_cell o.of (Prepare o.of.number o.legs o.keys o.dropped) ∷ closing_as e o.of ls) same.held_is
   act_same e c (act.Answered a) = ap (λ (ls : List Holder). in_cell a.of (Commit a.signal) ∷ closing_as e a.of ls) same.held_is
   act_same e c (act.Deleted of) = ap (λ (ls : List Holder). in_cell of End ∷ closing_as e of ls) same.held_is
   act_same e c (act.Queried of) = refl

@@ -7,18 +7,18 @@ use Rattle.relay_outside.specs.declared.settings.Config.{Config}
 use Rattle.port_pool.specs.Boxes as box
 use Rattle.call_board.specs.Acts.{BoardEntry}
 use Rattle.call_cell.specs.Cells.{Receipt}
-use Rattle.call_cell.specs.CellStanding.{last_moment}
+use Rattle.call_cell.specs.CellHistories.{cell_last_moment}
 use Rattle.relay_core.specs.Entries.{Entry}
 use Rattle.relay_core.specs.Legal.{Orderly}
-use Rattle.relay_core.specs.Turning.{IsAbove, Rising, IsOfLane}
+use Rattle.relay_core.specs.Turns.{IsAbove, Rising, IsOfLane}
 use Rattle.relay_core.proofs.Gains.{rising_append}
 use Rattle.relay_core.proofs.Turns.{turn_keeps, lane_keeps}
-use Rattle.media_lane.specs.Steps.{take_entry, relay_entry}
+use Rattle.media_lane.specs.Steps.{take_entry, recorded_relay}
 use Rattle.relay_script.specs.Steps as step
 use Rattle.relay_script.specs.Steps.{Step}
-use Rattle.relay_script.specs.Printing.{Printed}
+use Rattle.relay_script.specs.EventLines.{Printed}
 use Rattle.replay_devices.specs.Devices.{Happening}
-use Rattle.replay_steps.specs.Steps.{Course, Packet, TurnsBoard, TakesPacket, Misses, RelaysPacket, Controls, Makes, Plays, after}
+use Rattle.replay_steps.specs.Steps.{Course, Packet, TurnsBoard, TakesPacket, Misses, RelaysPacket, Controls, Makes, Plays, course_after}
 use Rattle.replay_laws.proofs.Rising.{nothing_behind}
 use Rattle.replay_laws.proofs.Turns.{turn_list}
 
@@ -60,7 +60,7 @@ none_gained config l port source bytes failing e new o (inr t) = one_gained conf
 pub relay_gained : (config : Config) (clock : ℕ) (l : List Entry) (old : List Happening) (p : Receipt) (e : Printed) (new : List Entry) (past : List Happening) → Orderly config l
     → RelaysPacket config clock l old p e new past → Grown config l new
 relay_gained config clock l old p e new past o r =
-    one_gained config l new (relay_entry p r.relayed.number (max clock (last_moment r.relayed.history)) r.outcome) o tt r.relayed.at_front r.relayed.list_is
+    one_gained config l new (recorded_relay p r.relayed.number (max clock (cell_last_moment r.relayed.history)) r.outcome) o tt r.relayed.at_front r.relayed.list_is
 
 control_gained : (config : Config) (clock : ℕ) (l : List Entry) (source : Addr) (bytes : List ℕ) (read_fails reply_fails : Bool) (opened : List PortCall) (drawn : List KeyCall) (e : Printed) (new : List Entry)
     → Orderly config l → Controls config clock l source bytes read_fails reply_fails opened drawn e new → Grown config l new
@@ -102,4 +102,4 @@ pub play_gained : (config : Config) (seed : ℕ) (steps : List Step) (r : Course
 play_gained config seed [] r p x o plays = nothing_gained config r.entries x.entries o (ap (λ (c : Course). c.entries) plays.1)
 play_gained config seed (s ∷ steps) r p x o plays =
     let first = step_gained config seed r s plays.1 plays.0 o plays.4 in
-    gained_both config r.entries plays.0.entries x.entries first (play_gained config seed steps (after s plays.0) plays.2 x first.orderly plays.5)
+    gained_both config r.entries plays.0.entries x.entries first (play_gained config seed steps (course_after s plays.0) plays.2 x first.orderly plays.5)

@@ -12,7 +12,7 @@ use Rattle.relay_core.proofs.Histories.{at_place, is_there}
 use Rattle.relay_core.proofs.Turns.{filter_append, filter_none, filter_every, false_if}
 use Rattle.replay_laws.proofs.Lists.{same_history}
 use Rattle.relay_core.specs.Entries.{is_at, Event, Board, Cell, Box, Entry, board_at, box_in, cell_at, board_entry, box_event, cell_entry, history, front, box_of}
-use Rattle.relay_core.specs.Turning.{IsAbove}
+use Rattle.relay_core.specs.Turns.{IsAbove}
 use Rattle.relay_core.proofs.Boxes.{below_front}
 use Rattle.relay_core.proofs.Refilling.{picked_mapped}
 use Rattle.relay_core.proofs.Shut as elsewhere

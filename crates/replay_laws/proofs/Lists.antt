@@ -11,7 +11,7 @@ use Rattle.port_pool.specs.Ports.{first_port, half_port}
 use Rattle.call_cell.specs.Cells.{CellEntry}
 use Rattle.call_cell.specs.Good.{FittingCell}
 use Rattle.relay_core.specs.Entries.{Entry, is_at, history, cell_entry, cell_history}
-use Rattle.relay_core.specs.Standing.{told_entry}
+use Rattle.relay_core.specs.PlaceHistories.{logged_entry}
 use Rattle.relay_core.proofs.Filling.{fill_history, refill}
 use Rattle.relay_core.proofs.Histories.{at_place}
 use Rattle.relay_core.proofs.Turns.{filter_append, filter_none, false_if, nothing_more}
@@ -52,7 +52,7 @@ not_cell l e place (suc n) none =
     ∙ ap (λ (cs : List CellEntry). filter_map cell_entry (filter (is_at place n) l) ++ cs) (not_cell l e place n none)
     ∙ sym (filter_map-append cell_entry (filter (is_at place n) l) (history l place n))
 
-pub told_once : (config : Config) (h k : List CellEntry) → map told_entry h ≡ map told_entry k → FittingCell config h → FittingCell config k → h ≡ k
+pub told_once : (config : Config) (h k : List CellEntry) → map logged_entry h ≡ map logged_entry k → FittingCell config h → FittingCell config k → h ≡ k
 told_once config h k same f g =
     sym (refill config h f) ∙ ap (fill_history config) same ∙ refill config k g
 

@@ -3,11 +3,11 @@ use Rattle.std.proofs.Common.{◌≡◌, ◌∙◌, sym, ap, subst, refl, ℕ, L
 use Rattle.relay_outside.specs.declared.lines.LineCall.{LineCall}
 use Rattle.relay_outside.specs.declared.lines.LineGiven.TheVariants as given
 use Rattle.relay_script.proofs.Once.{one_step}
-use Rattle.relay_script.specs.Lines.{Spells}
+use Rattle.relay_script.specs.Lines.{SpellsLine}
 use Rattle.relay_script.specs.Steps.{Step}
 use Rattle.replay_devices.specs.declared.script.Ending.{Ending}
 use Rattle.replay_devices.specs.declared.script.Ending.TheVariants as ending
-use Rattle.replay_devices.specs.Scripts.{Reads, ReadsStep, ReadsSteps, ReadsEnding, read}
+use Rattle.replay_devices.specs.Scripts.{ReadsScript, ReadsStep, ReadsSteps, ReadsEnding, read}
 
 heads : {A : Type 0} (x y : A) (xs ys : List A) → x ∷ xs ≡ y ∷ ys → x ≡ y
 heads x y xs ys e = cc
@@ -34,7 +34,7 @@ line_once : (l k : List ℕ) → read (given.Text l) ≡ read (given.Text k) →
 line_once l k e = cc
 
 step_once : (s t : Step) (made : LineCall) → ReadsStep s made → ReadsStep t made → s ≡ t
-step_once s t made a b = one_step b.line s t (subst (λ (l : List ℕ). Spells l s) (line_once a.line b.line (sym a.read_is ∙ b.read_is)) a.spells) b.spells
+step_once s t made a b = one_step b.line s t (subst (λ (l : List ℕ). SpellsLine l s) (line_once a.line b.line (sym a.read_is ∙ b.read_is)) a.spells) b.spells
 
 steps_once : (ss ts : List Step) (calls : List LineCall) → ReadsSteps ss calls → ReadsSteps ts calls → ss ≡ ts
 steps_once [] [] calls a b = refl
@@ -66,7 +66,7 @@ ending_once m n ending.Outside ending.Fault made a b = fault_or_line a.line (sym
 ending_once m n ending.Outside ending.Outside made a b = refl
 
 -- the steps of a script, and how its reading ended
-pub reads_once : (ss ts : List Step) (x y : Ending) (calls : List LineCall) → Reads ss x calls → Reads ts y calls → (ss ≡ ts) × (x ≡ y)
+pub reads_once : (ss ts : List Step) (x y : Ending) (calls : List LineCall) → ReadsScript ss x calls → ReadsScript ts y calls → (ss ≡ ts) × (x ≡ y)
 reads_once ss ts x y calls a b =
     let same = last_once a.before b.before a.last b.last (sym a.calls_are ∙ b.calls_are) in (
       steps_once ss ts b.before (subst (λ (l : List LineCall). ReadsSteps ss l) same.0 a.each) b.each,

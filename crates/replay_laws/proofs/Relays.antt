@@ -9,21 +9,21 @@ use Rattle.port_pool.specs.declared.signal.LegSignal.{LegSignal}
 use Rattle.call_cell.specs.declared.outcome.Outcome.{Outcome}
 use Rattle.call_cell.specs.declared.outcome.Outcome.TheVariants as outcomes
 use Rattle.call_cell.specs.Cells.{CellEntry, Receipt, Sending, Deed, since_end, opposite, in_force}
-use Rattle.call_cell.specs.Keyed.{Judged, Stopped, Passed, Wrapped, Held, Leaves}
+use Rattle.call_cell.specs.Protection.{Judged, Stopped, Passed, Departure, Held, Leaves}
 use Rattle.call_cell.specs.Deeds.{kind, found, judged, wrapped_towards, deed_wrapped, deed_towards, deed_opposite, deed_judged, deed_found, deed}
-use Rattle.call_cell.specs.Standing.{sent_ok}
+use Rattle.call_cell.specs.LegHistories.{sent_ok}
 use Rattle.relay_core.specs.Entries.{Entry, cell_history}
-use Rattle.relay_core.specs.Turning.{IsAbove}
-use Rattle.media_lane.specs.Relaying.{AreSent}
-use Rattle.relay_script.specs.Printing as event
-use Rattle.relay_script.specs.Printing.{Printed}
+use Rattle.relay_core.specs.Turns.{IsAbove}
+use Rattle.media_lane.specs.Relays.{AreSent}
+use Rattle.relay_script.specs.EventLines as event
+use Rattle.relay_script.specs.EventLines.{Printed}
 use Rattle.replay_devices.specs.Devices.{Happening, send_answers, after_send}
 use Rattle.replay_steps.specs.Steps.{RelaysPacket}
 use Rattle.replay_laws.proofs.Lists.{told_once}
 
 -- Which send a relay makes doesn't depend on its answer.
 
-wrapped_alike : (config : Config) (h : List CellEntry) (p : Receipt) (noted : Option Note) (other : Holder) (s : LegSignal) (a b : Bool) (w : Wrapped)
+wrapped_alike : (config : Config) (h : List CellEntry) (p : Receipt) (noted : Option Note) (other : Holder) (s : LegSignal) (a b : Bool) (w : Departure)
     → (deed_wrapped config h p noted other s a w).sending ≡ (deed_wrapped config h p noted other s b w).sending
 wrapped_alike config h p noted other s a b (Held cause) = refl
 wrapped_alike config h p noted other s a b (Leaves shield bytes) = refl

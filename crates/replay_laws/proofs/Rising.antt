@@ -5,7 +5,7 @@ use Rattle.histories.specs.Words.{In, here, there, Before, begins, goes_on}
 use Rattle.histories.proofs.Lists.{in_append, in_left, in_right, keeps}
 use Rattle.relay_core.specs.Entries.{Entry, is_at}
 use Rattle.relay_core.specs.Legal.{Orderly}
-use Rattle.relay_core.specs.Turning.{Numbered, IsAbove, IsTurn, Rising}
+use Rattle.relay_core.specs.Turns.{Numbered, IsAbove, IsTurn, Rising}
 use Rattle.relay_core.proofs.Histories.{is_there}
 use Rattle.relay_core.proofs.Turns.{filter_append, turn_elsewhere}
 use Rattle.relay_core.proofs.Gains.{rising_append}

@@ -5,9 +5,9 @@ use Rattle.relay_outside.specs.declared.lines.LineCall.{LineCall}
 use Rattle.relay_outside.specs.declared.lines.WriteCall.{WriteCall}
 use Rattle.relay_outside.specs.declared.settings.Config.{Config}
 use Rattle.relay_script.specs.Steps.{Step}
-use Rattle.replay_devices.specs.Scripts.{Reads}
+use Rattle.replay_devices.specs.Scripts.{ReadsScript}
 use Rattle.replay_devices.specs.declared.script.Ending.{Ending}
-use Rattle.replay_steps.specs.Written.{DidPlay, DidReplay, Replays}
+use Rattle.replay_steps.specs.Output.{DidPlay, DidReplay, Replays}
 use Rattle.replay_steps.specs.declared.ended.Ended.{Ended}
 use Rattle.replay_steps.specs.declared.ended.Ended.TheVariants as ended
 use Rattle.replay_laws.specs.Alike.{NoReplyIsE17, IsWrittenOut, WritesOut, SaysTheSame, BreaksOff}
@@ -52,7 +52,7 @@ writes_out config seed steps how ended.DeviceFault v has none d = absurd has
 record OfScript (config : Config) (seed : ℕ) (end : Ended) (calls : List LineCall) (v : List WriteCall) : Type 0 where
   steps : List Step
   how : Ending
-  reads : Reads steps how calls
+  reads : ReadsScript steps how calls
   out : WritesOut config seed steps how end v
 
 of_script : (config : Config) (seed : ℕ) (end : Ended) (a calls : List LineCall) (p v : List WriteCall) → HasList end → NoReplyIsE17 v
@@ -63,13 +63,13 @@ of_script config seed end a calls p v has none r =
     record {
       steps = d.steps;
       how = d.how;
-      reads = subst (λ (l : List LineCall). Reads d.steps d.how l) (sym (append_cancel_left a calls more.0 more.1)) more.2;
+      reads = subst (λ (l : List LineCall). ReadsScript d.steps d.how l) (sym (append_cancel_left a calls more.0 more.1)) more.2;
       out = writes_out config seed d.steps d.how end v has none
           (subst (λ (w : List WriteCall). DidPlay config seed d.steps d.how end w) (written_are p v d.writes d.writes_are) d.did);
     }
 
 -- the one by the steps of the other
-tied_out : (config : Config) (seed : ℕ) (end : Ended) (calls : List LineCall) (v : List WriteCall) → (x : OfScript config seed end calls v) → (steps : List Step) (how : Ending) → Reads steps how calls
+tied_out : (config : Config) (seed : ℕ) (end : Ended) (calls : List LineCall) (v : List WriteCall) → (x : OfScript config seed end calls v) → (steps : List Step) (how : Ending) → ReadsScript steps how calls
     → WritesOut config seed steps how end v
 tied_out config seed end calls v x steps how reads =
     let same = reads_once x.steps steps x.how how calls x.reads reads in

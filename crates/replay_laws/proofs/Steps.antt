@@ -7,14 +7,14 @@ use Rattle.relay_outside.specs.declared.settings.Config.{Config}
 use Rattle.port_pool.specs.Boxes as box
 use Rattle.call_board.specs.Pairs.{Once}
 use Rattle.relay_core.specs.Entries.{Entry, cell_history}
-use Rattle.relay_core.specs.Turning.{IsAbove}
+use Rattle.relay_core.specs.Turns.{IsAbove}
 use Rattle.media_lane.specs.Steps.{take_entry}
 use Rattle.relay_script.specs.Steps as step
 use Rattle.relay_script.specs.Steps.{Step}
-use Rattle.relay_script.specs.Printing.{Printed}
+use Rattle.relay_script.specs.EventLines.{Printed}
 use Rattle.replay_devices.specs.Steps as model
 use Rattle.replay_devices.specs.Devices.{Happening, fails}
-use Rattle.replay_steps.specs.Steps.{Course, Packet, at_moment, with_entries, with_past, holding, left_with, replied, IsQuiet, TakesPacket, Misses, Holds, HoldsNone, Passes, RelaysHeld, Commands, EndsDueCalls, Makes}
+use Rattle.replay_steps.specs.Steps.{Course, Packet, course_at_moment, with_entries, with_past, holding, left_with, replied, IsQuiet, TakesPacket, Misses, Holds, HoldsNone, Passes, RelaysHeld, Commands, EndsDueCalls, Makes}
 use Rattle.replay_laws.specs.Alike.{AlikeLists, Alike, NeverOutOfMemory, TellsReports, GoesAlike, but_for_take}
 use Rattle.board_turns.specs.Between.{board_of}
 use Rattle.replay_laws.proofs.Boards.{same_boards}
@@ -49,9 +49,9 @@ module _ (config : Config) (seed : ℕ) (l k : List Entry) (held : List (ℕ × 
   quiet : (p q : List Printed) (x y : Course) → IsQuiet one p x → IsQuiet other q y → GoesAlike p q x y
   quiet p q x y a b = goes p q x y one other a.1 b.1 (record { prints = a.0 ∙ sym b.0; held = refl; received = refl; clock = refl; past = refl })
 
-  set_moment : (moment : ℕ) (p q : List Printed) (x y : Course) → (p ≡ []) × (x ≡ at_moment moment one) → (q ≡ []) × (y ≡ at_moment moment other) → GoesAlike p q x y
+  set_moment : (moment : ℕ) (p q : List Printed) (x y : Course) → (p ≡ []) × (x ≡ course_at_moment moment one) → (q ≡ []) × (y ≡ course_at_moment moment other) → GoesAlike p q x y
   set_moment moment p q x y a b =
-      goes p q x y (at_moment moment one) (at_moment moment other) a.1 b.1 (record { prints = a.0 ∙ sym b.0; held = refl; received = refl; clock = refl; past = refl })
+      goes p q x y (course_at_moment moment one) (course_at_moment moment other) a.1 b.1 (record { prints = a.0 ∙ sym b.0; held = refl; received = refl; clock = refl; past = refl })
 
   -- Takes.
 

@@ -6,11 +6,11 @@ use Rattle.port_pool.specs.declared.holder.Holder.{Holder}
 use Rattle.port_pool.specs.Boxes as box
 use Rattle.port_pool.specs.Boxes.{Taken, FitsTaken, holder}
 use Rattle.relay_core.specs.Entries.{Entry, box_of, box_history}
-use Rattle.relay_core.specs.Turning.{IsAbove}
-use Rattle.relay_script.specs.Printing as event
-use Rattle.relay_script.specs.Printing.{Printed}
+use Rattle.relay_core.specs.Turns.{IsAbove}
+use Rattle.relay_script.specs.EventLines as event
+use Rattle.relay_script.specs.EventLines.{Printed}
 use Rattle.replay_steps.specs.Arrivals.{End}
-use Rattle.replay_steps.specs.Steps.{Packet, TakesPacket, TakesNone, Misses, PrintsTaken, FailsSo}
+use Rattle.replay_steps.specs.Steps.{Packet, TakesPacket, TakesNoPacket, Misses, PrintsTaken, FailsSo}
 use Rattle.replay_laws.proofs.Lists.{end_once}
 use Rattle.replay_laws.proofs.Relays.{SamePacket}
 
@@ -108,7 +108,7 @@ held_case None t u bytes failing e f a b p q x y = shut_case t bytes e a p ∙ s
 held_case (Some leg) t u bytes failing e f a b p q x y = open_case leg t u bytes failing e f a b p q x y
 
 takes_none_once : (config : Config) (l k : List Entry) (port : ℕ) (source : Addr) (bytes : List ℕ) (failing : Bool) (e f : Printed) (new there : List Entry) → SameBoxes config l k
-    → TakesNone config l port source bytes failing e new → TakesNone config k port source bytes failing f there → e ≡ f
+    → TakesNoPacket config l port source bytes failing e new → TakesNoPacket config k port source bytes failing f there → e ≡ f
 takes_none_once config l k port source bytes failing e f new there boxes a b =
     let end = end_once config port source.ip source.ip a.end b.end a.at b.at in
     let same = holders_at config l k a.end.0 b.end.0 a.number b.number boxes (ap (λ (x : End). x.0) end) a.at_front b.at_front in

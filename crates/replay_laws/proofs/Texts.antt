@@ -9,13 +9,13 @@ use Rattle.relay_core.specs.Entries.{Entry}
 use Rattle.relay_core.proofs.Turns.{nothing_is_orderly}
 use Rattle.relay_script.specs.Steps as step
 use Rattle.relay_script.specs.Steps.{Step}
-use Rattle.relay_script.specs.Printing.{Printed, ScriptFault}
+use Rattle.relay_script.specs.EventLines.{Printed, ScriptFault}
 use Rattle.replay_devices.specs.declared.script.Ending.{Ending}
 use Rattle.replay_devices.specs.declared.script.Ending.TheVariants as ending
 use Rattle.replay_steps.specs.declared.ended.Ended.{Ended}
 use Rattle.replay_steps.specs.declared.ended.Ended.TheVariants as ended
-use Rattle.replay_steps.specs.Steps.{Course, Packet, at_first, after, is_under, Makes, IsFaulty, Plays, Stops}
-use Rattle.replay_steps.specs.Written.{written, Played, StopsAt, PlayedAnd}
+use Rattle.replay_steps.specs.Steps.{Course, Packet, at_first, course_after, is_under, Makes, IsFaulty, Plays, Stops}
+use Rattle.replay_steps.specs.Output.{written, Played, StopsAt, PlayedAnd}
 use Rattle.replay_laws.specs.Alike.{NeverOutOfMemory, WritesOut, IsWrittenOut, SaysTheSame}
 use Rattle.replay_laws.proofs.Beginnings.{Begins}
 use Rattle.replay_laws.proofs.Turns.{begins_less}
@@ -62,7 +62,7 @@ pub record Parted (config : Config) (seed : ℕ) (a b : List Step) (r : Course) 
 pub parted : (config : Config) (seed : ℕ) (a b : List Step) (r : Course) (p : List Printed) (x : Course) → Plays config seed (a ++ b) r p x → Parted config seed a b r p x
 parted config seed [] b r p x plays = record { mid = r; first = []; rest = p; prints_are = refl; plays = (refl, refl); plays_on = plays }
 parted config seed (s ∷ a) b r p x plays =
-    let more = parted config seed a b (after s plays.0) plays.2 x plays.5 in
+    let more = parted config seed a b (course_after s plays.0) plays.2 x plays.5 in
     record {
       mid = more.mid;
       first = plays.1 ++ more.first;

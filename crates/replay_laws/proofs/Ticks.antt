@@ -3,16 +3,16 @@ use Rattle.std.proofs.Common.{◌≡◌, ◌∙◌, sym, ap, subst, refl, ℕ, m
 use Rattle.histories.specs.Words.{In, here, there, has}
 use Rattle.relay_outside.specs.declared.settings.Config.{Config}
 use Rattle.call_cell.specs.Cells.{CellEntry, since_end}
-use Rattle.call_cell.specs.CellStanding as standing
-use Rattle.call_cell.specs.Asked.{is_due}
+use Rattle.call_cell.specs.CellHistories as standing
+use Rattle.call_cell.specs.Demands.{is_due}
 use Rattle.call_board.specs.Acts.{Call}
 use Rattle.call_board.specs.Calls.{live}
-use Rattle.call_board.specs.Views.{last_moment}
+use Rattle.call_board.specs.Views.{board_last_moment}
 use Rattle.relay_core.specs.Entries.{Entry}
 use Rattle.board_turns.specs.Between.{board_of}
-use Rattle.board_turns.specs.Ticking.{IsDueBy, tick_entry}
-use Rattle.relay_script.specs.Printing as event
-use Rattle.relay_script.specs.Printing.{Printed}
+use Rattle.board_turns.specs.Ticks.{IsDueBy, tick_entry}
+use Rattle.relay_script.specs.EventLines as event
+use Rattle.relay_script.specs.EventLines.{Printed}
 use Rattle.replay_steps.specs.Steps.{TicksAt}
 use Rattle.replay_laws.proofs.Boards.{SameBoards}
 use Rattle.replay_laws.proofs.Lists.{told_once}
@@ -23,7 +23,7 @@ use Rattle.replay_laws.proofs.Turned.{turn_fits}
 due_once : (config : Config) (l k : List Entry) (cell moment : ℕ) (a b : Bool) → SameCells l k → IsDueBy config l cell moment a → IsDueBy config k cell moment b → a ≡ b
 due_once config l k cell moment a b cells x y =
     let same = told_once config x.history y.history (x.recorded ∙ cells cell x.number y.number x.at_front y.at_front ∙ sym y.recorded) x.fitting y.fitting in
-    x.due_is ∙ ap (λ (h : List CellEntry). is_due config (since_end h) (max moment (standing.last_moment h))) same ∙ sym y.due_is
+    x.due_is ∙ ap (λ (h : List CellEntry). is_due config (since_end h) (max moment (standing.cell_last_moment h))) same ∙ sym y.due_is
 
 filtered_case : (x : Call) (p q : Bool) (rest more : List Call) → p ≡ q → rest ≡ more → cond p (x ∷ rest) rest ≡ cond q (x ∷ more) more
 filtered_case x p q rest more same equal =
@@ -45,8 +45,8 @@ tick_once config clock l k e f new more board cells a b =
     let same : (c : Call) → In c (live (board_of l)) → names a.calls c ≡ names b.calls c =
     (λ c i.
     let j : In c (live (board_of k)) = subst (λ (cs : List Call). In c cs) board.live_is i in
-    let time : max clock (last_moment (board_of k)) ≡ max clock (last_moment (board_of l)) = ap (max clock) (sym board.moment_is) in
-    due_once config l k c.cell (max clock (last_moment (board_of l))) (names a.calls c) (names b.calls c) cells (a.due c i)
+    let time : max clock (board_last_moment (board_of k)) ≡ max clock (board_last_moment (board_of l)) = ap (max clock) (sym board.moment_is) in
+    due_once config l k c.cell (max clock (board_last_moment (board_of l))) (names a.calls c) (names b.calls c) cells (a.due c i)
     (subst (λ (t : ℕ). IsDueBy config k c.cell t (names b.calls c)) time (b.due c j))) in
     let calls : a.calls ≡ b.calls =
     m ∙ filter_once (names a.calls) (names b.calls) (live (board_of l)) same ∙ ap (filter (names b.calls)) board.live_is ∙ sym n in

@@ -8,7 +8,7 @@ use Rattle.call_board.specs.Acts.{BoardEntry}
 use Rattle.relay_core.specs.Entries.{Event, Board, Cell, Box, Entry, is_nested, history, board_at}
 use Rattle.relay_core.specs.Legal.{Orderly, is_handed_own, is_handed_boards}
 use Rattle.relay_core.specs.Scripts.{Owed, owed_by, script}
-use Rattle.relay_core.specs.Turning.{IsAbove, Rising}
+use Rattle.relay_core.specs.Turns.{IsAbove, Rising}
 use Rattle.relay_core.proofs.Gains.{rising_above, rising_append}
 use Rattle.relay_core.proofs.Turns.{turn_elsewhere}
 use Rattle.board_turns.specs.Between.{board_of}
@@ -65,7 +65,7 @@ nested_own (Cell (Prepare call legs keys dropped)) is = refl
 nested_own (Cell (Commit signal)) is = refl
 nested_own (Cell (Relay x)) is = absurd (let e : false ≡ true = is in cc)
 nested_own (Cell (Expire due)) is = refl
-nested_own (Cell (Read told)) is = refl
+nested_own (Cell (Read log)) is = refl
 nested_own (Cell End) is = refl
 nested_own (Box b) is = refl
 

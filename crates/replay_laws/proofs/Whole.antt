@@ -11,25 +11,25 @@ use Rattle.port_pool.specs.Boxes as box
 use Rattle.port_pool.specs.Boxes.{Taken, Take, FitsTaken, holder}
 use Rattle.call_cell.specs.declared.outcome.Outcome.{Outcome}
 use Rattle.call_cell.specs.Cells.{Receipt, CellEntry}
-use Rattle.call_cell.specs.CellStanding.{last_moment}
+use Rattle.call_cell.specs.CellHistories.{cell_last_moment}
 use Rattle.call_board.specs.Pairs.{Once}
 use Rattle.relay_core.specs.Entries.{Entry, Event, Box, history, box_of, box_history}
 use Rattle.relay_core.specs.Legal.{Orderly}
 use Rattle.relay_core.specs.Scripts.{script}
-use Rattle.relay_core.specs.Turning.{IsAbove}
+use Rattle.relay_core.specs.Turns.{IsAbove}
 use Rattle.relay_core.proofs.Turns.{nothing_is_orderly}
-use Rattle.media_lane.specs.Steps.{take_entry, relay_entry}
+use Rattle.media_lane.specs.Steps.{take_entry, recorded_relay}
 use Rattle.board_turns.specs.Between.{board_of}
-use Rattle.board_turns.specs.Ticking.{tick_entry, tick_at}
+use Rattle.board_turns.specs.Ticks.{tick_entry, tick_at}
 use Rattle.relay_script.specs.Steps as step
 use Rattle.relay_script.specs.Steps.{Step}
-use Rattle.relay_script.specs.Printing as event
-use Rattle.relay_script.specs.Printing.{Printed}
+use Rattle.relay_script.specs.EventLines as event
+use Rattle.relay_script.specs.EventLines.{Printed}
 use Rattle.replay_devices.specs.Steps as model
 use Rattle.replay_devices.specs.Devices.{Happening, Made, fails}
 use Rattle.replay_devices.specs.Watch.{step_of}
 use Rattle.replay_steps.specs.Arrivals.{End}
-use Rattle.replay_steps.specs.Steps.{Course, Packet, at_first, at_moment, with_entries, with_past, holding, left_with, TakesPacket, Misses, PrintsTaken, FailsSo, RelaysPacket, TicksAt, Holds, HoldsNone, Passes, RelaysHeld, Commands, EndsDueCalls, Makes, Plays, Stops, is_under, IsFaulty, after}
+use Rattle.replay_steps.specs.Steps.{Course, Packet, at_first, course_at_moment, with_entries, with_past, holding, left_with, TakesPacket, Misses, PrintsTaken, FailsSo, RelaysPacket, TicksAt, Holds, HoldsNone, Passes, RelaysHeld, Commands, EndsDueCalls, Makes, Plays, Stops, is_under, IsFaulty, course_after}
 use Rattle.replay_laws.specs.Alike.{bare, AlikeLists, Alike, NeverOutOfMemory, TellsReports}
 use Rattle.replay_laws.proofs.Boards.{same_boards}
 use Rattle.replay_laws.proofs.Fitting.{script_same}
@@ -139,11 +139,11 @@ relay_grown config clock l k old p e f new more past now b c same r s prints =
     let h : r.relayed.history ≡ s.relayed.history = told_once config r.relayed.history s.relayed.history
     (r.relayed.recorded ∙ (alike_lists config l k same).cells p.holder.cell r.relayed.number s.relayed.number r.relayed.at_front s.relayed.at_front ∙ sym s.relayed.recorded) r.relayed.fitting s.relayed.fitting in
     let outcome = outcome_once r.outcome s.outcome r.sent s.sent (sym r.printed ∙ prints ∙ s.printed) in
-    let left : Entry = relay_entry p r.relayed.number (max clock (last_moment r.relayed.history)) r.outcome in
-    let right : Entry = relay_entry p s.relayed.number (max clock (last_moment s.relayed.history)) s.outcome in
+    let left : Entry = recorded_relay p r.relayed.number (max clock (cell_last_moment r.relayed.history)) r.outcome in
+    let right : Entry = recorded_relay p s.relayed.number (max clock (cell_last_moment s.relayed.history)) s.outcome in
     one_lane config new more l k left right b c r.relayed.list_is s.relayed.list_is r.relayed.at_front s.relayed.at_front same refl
-    (ap (λ (xs : List CellEntry). max clock (last_moment xs)) h)
-    (ap (λ (o : Outcome). (relay_entry p 0 0 o).event) outcome)
+    (ap (λ (xs : List CellEntry). max clock (cell_last_moment xs)) h)
+    (ap (λ (o : Outcome). (recorded_relay p 0 0 o).event) outcome)
 
 -- Ticks.
 
@@ -366,7 +366,7 @@ module _ (config : Config) (seed : ℕ) (l k : List Entry) (held : List (ℕ × 
       → TellsReports config x.entries → TellsReports config y.entries → p ≡ q → Makes config seed one s p x → Makes config seed other s q y → Leaves x y
   makes_leaves step.Skip p q x y b c fed fed_too tells tells_too prints m n = quiet_leaves x y m.1 n.1
   makes_leaves (step.At moment) p q x y b c fed fed_too tells tells_too prints m n =
-      leaves x y (at_moment moment one) (at_moment moment other) m.1 n.1 (record { lists = same; held = refl; right = right })
+      leaves x y (course_at_moment moment one) (course_at_moment moment other) m.1 n.1 (record { lists = same; held = refl; right = right })
   makes_leaves (step.Key bytes) p q x y b c fed fed_too tells tells_too prints m n = quiet_leaves x y m.1 n.1
   makes_leaves (step.Fail kind count) p q x y b c fed fed_too tells tells_too prints m n = quiet_leaves x y m.1 n.1
   makes_leaves (step.FailSend port count) p q x y b c fed fed_too tells tells_too prints m n = quiet_leaves x y m.1 n.1
@@ -394,7 +394,7 @@ pub record Went (config : Config) (p q : List Printed) (x y : Course) : Type 0 w
   pub both : Both config x y
 
 tells_of : (config : Config) (l : List Entry) → Begins config l → TellsReports config l
-tells_of config l b e told i is = report_is config l b e i told is
+tells_of config l b e log i is = report_is config l b e i log is
 
 went : (config : Config) (seed : ℕ) (r s : Course) (it : Step) (p q : List Printed) (x y : Course) → Both config r s → Makes config seed r it p x → Makes config seed s it q y
     → Begins config x.entries → Begins config y.entries → NeverOutOfMemory x.entries → NeverOutOfMemory y.entries → Went config p q x y
@@ -418,7 +418,7 @@ went config seed r s it p q x y both m n b c fed fed_too =
       };
     }
 
-noted : (config : Config) (s : Step) (x y : Course) → Both config x y → Both config (after s x) (after s y)
+noted : (config : Config) (s : Step) (x y : Course) → Both config x y → Both config (course_after s x) (course_after s y)
 noted config s x y both = record {
   lists = both.lists;
   orderly = both.orderly;
@@ -441,12 +441,12 @@ plays_once config seed [] r s p q x y both a z b c fed fed_too =
 plays_once config seed (it ∷ steps) r s p q x y both a z b c fed fed_too =
     let first = step_gained config seed r it a.1 a.0 both.orderly a.4 in
     let first_too = step_gained config seed s it z.1 z.0 both.orderly_too z.4 in
-    let rest = play_gained config seed steps (after it a.0) a.2 x first.orderly a.5 in
-    let rest_too = play_gained config seed steps (after it z.0) z.2 y first_too.orderly z.5 in
+    let rest = play_gained config seed steps (course_after it a.0) a.2 x first.orderly a.5 in
+    let rest_too = play_gained config seed steps (course_after it z.0) z.2 y first_too.orderly z.5 in
     let step_went = went config seed r s it a.1 z.1 a.0 z.0 both a.4 z.4
     (begins_less config a.0.entries rest.added x.entries rest.is rest.rising b) (begins_less config z.0.entries rest_too.added y.entries rest_too.is rest_too.rising c)
     (fed_before a.0.entries x.entries rest.added rest.is fed) (fed_before z.0.entries y.entries rest_too.added rest_too.is fed_too) in
-    let more = plays_once config seed steps (after it a.0) (after it z.0) a.2 z.2 x y (noted config it a.0 z.0 step_went.both) a.5 z.5 b c fed fed_too in
+    let more = plays_once config seed steps (course_after it a.0) (course_after it z.0) a.2 z.2 x y (noted config it a.0 z.0 step_went.both) a.5 z.5 b c fed fed_too in
     record { prints = a.3 ∙ ap (λ (xs : List Printed). xs ++ a.2) step_went.prints ∙ ap (λ (xs : List Printed). z.1 ++ xs) more.prints ∙ sym z.3; both = more.both }
 
 -- Whole replays.

@@ -6,16 +6,16 @@ use Rattle.ng_reply.specs.declared.code.ErrorCode.TheVariants.{E17}
 use Rattle.port_pool.specs.declared.reports.LegReport.{LegReport}
 use Rattle.port_pool.specs.Boxes.{holder}
 use Rattle.call_cell.specs.Cells.{CellEntry, Read, since_end}
-use Rattle.call_cell.specs.Asked.{reports}
+use Rattle.call_cell.specs.Demands.{reports}
 use Rattle.call_cell.specs.Good.{FittingCell}
 use Rattle.call_board.specs.Acts.{Control, BoardEvent, OutOfMemory, Turn, Tick, Stop, BoardEntry}
 use Rattle.call_board.specs.Pairs.{Once}
 use Rattle.call_board.specs.Replies.{fault_datagram}
 use Rattle.relay_core.specs.Entries.{Entry, Board, Cell, box_of, cell_history, box_history}
-use Rattle.relay_core.specs.Standing.{told_entry}
-use Rattle.relay_core.specs.Turning.{IsAbove}
+use Rattle.relay_core.specs.PlaceHistories.{logged_entry}
+use Rattle.relay_core.specs.Turns.{IsAbove}
 use Rattle.board_turns.specs.Between.{board_of}
-use Rattle.relay_script.specs.Printing.{Printed, Reply, ReplyFault, line_of}
+use Rattle.relay_script.specs.EventLines.{Printed, Reply, ReplyFault, printed_line}
 use Rattle.relay_script.specs.Steps.{Step}
 use Rattle.relay_outside.specs.declared.address.Addr.{Addr}
 use Rattle.relay_outside.specs.declared.lines.WriteCall.{WriteCall}
@@ -24,7 +24,7 @@ use Rattle.replay_devices.specs.declared.script.Ending.{Ending}
 use Rattle.replay_steps.specs.declared.ended.Ended.{Ended}
 use Rattle.replay_steps.specs.declared.ended.Ended.TheVariants as ended
 use Rattle.replay_steps.specs.Steps.{Course, Packet, Stops}
-use Rattle.replay_steps.specs.Written.{DidWrite}
+use Rattle.replay_steps.specs.Output.{DidWrite}
 
 -- a datagram's turn without what is recorded of its body and of crypto lines: where nobody read the one, or chose the others, that is
 -- anything, and decides nothing
@@ -59,15 +59,15 @@ abbrev pub NeverOutOfMemory : List Entry → Type 0
 NeverOutOfMemory l = (e : Entry) (c : Control) → In e l → e.event ≡ Board (Turn c) → c.act ≡ OutOfMemory → ⊥
 
 -- what is told of a cell's call is what the whole history of the cell demands. Of the relays in it the list records the outcomes
-pub record IsReport (config : Config) (l : List Entry) (e : Entry) (told : List LegReport) : Type 0 where
+pub record IsReport (config : Config) (l : List Entry) (e : Entry) (all_reports : List LegReport) : Type 0 where
   pub history : List CellEntry
-  pub recorded : map told_entry history ≡ cell_history l e.place e.number
+  pub recorded : map logged_entry history ≡ cell_history l e.place e.number
   pub fitting : FittingCell config history
-  pub told_is : told ≡ reports config (since_end history)
+  pub told_is : all_reports ≡ reports config (since_end history)
 
 -- each report of the list is one
 abbrev pub TellsReports : Config → List Entry → Type 0
-TellsReports config l = (e : Entry) (told : List LegReport) → In e l → e.event ≡ Cell (Read told) → IsReport config l e told
+TellsReports config l = (e : Entry) (all_reports : List LegReport) → In e l → e.event ≡ Cell (Read all_reports) → IsReport config l e all_reports
 
 -- a packet that is held, but for the number of its take
 abbrev pub but_for_take : ℕ × Packet → ℕ × Packet
@@ -103,7 +103,7 @@ pub record WritesOut (config : Config) (seed : ℕ) (steps : List Step) (how : E
 
 -- the line of this event was written, or its write failed
 abbrev pub HasLine : Printed → List WriteCall → Type 0
-HasLine event writes = (done : Bool) × In (Write (line_of event ++ 10 ∷ []) done) writes
+HasLine event writes = (done : Bool) × In (Write (printed_line event ++ 10 ∷ []) done) writes
 
 -- No reply is E17, want of memory, as far as the text shows, and it shows each: no line is that of a reply with this error, or of one that could
 -- not be sent

@@ -6,14 +6,14 @@ use Rattle.relay_outside.specs.declared.lines.WriteCall.TheVariants.{Write}
 use Rattle.relay_outside.specs.declared.settings.Config.{Config}
 use Rattle.call_board.specs.Acts.{Control, OutOfMemory, Turn}
 use Rattle.relay_core.specs.Entries.{Entry, Board}
-use Rattle.relay_script.specs.Printing.{Printed}
+use Rattle.relay_script.specs.EventLines.{Printed}
 use Rattle.relay_script.specs.Steps.{Step}
 use Rattle.replay_devices.specs.declared.script.Ending.{Ending}
 use Rattle.replay_devices.specs.declared.script.Ending.TheVariants as ending
 use Rattle.replay_steps.specs.declared.ended.Ended.{Ended}
 use Rattle.replay_steps.specs.declared.ended.Ended.TheVariants as ended
 use Rattle.replay_steps.specs.Steps.{Course, at_first, IsFaulty, Plays, Stops}
-use Rattle.replay_steps.specs.Written.{StopsAt}
+use Rattle.replay_steps.specs.Output.{StopsAt}
 use Rattle.replay_laws.specs.Alike.{NeverOutOfMemory}
 
 -- A script of these steps, whose reading ends so, has no fault: no line is outside the grammar, nor are there too many; and each step can be made

@@ -1,15 +1,15 @@
 ghost use Rattle.std.specs.Prelude.{◌≡◌, ℕ, List, ◌++◌, Some};
 ghost use Rattle.relay_outside.specs.declared.settings.Config.{Config};
-ghost use Rattle.relay_script.specs.Printing.{Printed};
+ghost use Rattle.relay_script.specs.EventLines.{Printed};
 ghost use Rattle.relay_script.specs.Steps.{Step};
 ghost use Rattle.replay_steps.specs.Steps.{Course, at_first, Makes, IsFaulty, Plays, Stops};
 ghost use Rattle.relay_outside.specs.declared.lines.LineCall.{LineCall};
 ghost use Rattle.relay_outside.specs.declared.lines.WriteCall.{WriteCall};
 ghost use Rattle.replay_devices.specs.declared.script.Ending.{Ending};
-ghost use Rattle.replay_devices.specs.Scripts.{Reads};
+ghost use Rattle.replay_devices.specs.Scripts.{ReadsScript};
 ghost use Rattle.replay_steps.specs.declared.ended.Ended.{Ended};
 ghost use Rattle.replay_steps.specs.declared.ended.Ended.TheVariants.{Finished, PrintFault};
-ghost use Rattle.replay_steps.specs.Written.{Replays};
+ghost use Rattle.replay_steps.specs.Output.{Replays};
 ghost use Rattle.replay_laws.specs.Alike.{Alike, NeverOutOfMemory, TellsReports, GoesAlike, IsWrittenOut, NoReplyIsE17, WritesOut, SaysTheSame, BreaksOff};
 ghost use Rattle.replay_laws.specs.Faultless.{IsFaultless, EndsFaultless};
 
@@ -74,7 +74,7 @@ pub fn steps_print_alike()
 /// One replay tells it: a script of which one finished, and no turn of that answered that memory ran out, has no fault.
 pub fn faultless_scripts_are_played()
     ensures ends { (config : Config) (seed : ℕ) (steps : List Step) (how : Ending) (end : Ended) (before calls : List LineCall) (old writes : List WriteCall) →
-        Reads steps how calls → IsFaultless config seed steps how →
+        ReadsScript steps how calls → IsFaultless config seed steps how →
         Replays config seed end (Some before) (Some (before ++ calls)) (Some old) (Some (old ++ writes)) →
         EndsFaultless config seed steps how end writes }
     ensures tried { (config : Config) (seed : ℕ) (steps : List Step) (how : Ending) (writes : List WriteCall) →

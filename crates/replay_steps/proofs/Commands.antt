@@ -2,25 +2,25 @@
 use Rattle.std.proofs.Common.{◌≡◌, ◌∙◌, refl, sym, ap, subst, ℕ, Bool, List, [], ◌∷◌, ◌++◌, Option, Some, None, Result, Ok, Err, length, drop}
 use Rattle.std.specs.Prelude.{MatchResult}
 use Rattle.std.proofs.Math.Seq.{drop-append_seam}
-use Rattle.relay_outside.specs.Told.{Gained}
+use Rattle.relay_outside.specs.DeviceLogs.{Gained}
 use Rattle.relay_outside.specs.declared.address.Addr.{Addr}
 use Rattle.relay_outside.specs.declared.keys.KeyCall.{KeyCall}
 use Rattle.relay_outside.specs.declared.ports.PortCall.{PortCall}
 use Rattle.relay_outside.specs.declared.settings.Config.{Config}
 use Rattle.relay_core.specs.Entries.{Entry}
 use Rattle.relay_script.specs.Steps as step
-use Rattle.relay_script.specs.Printing.{event_of}
+use Rattle.relay_script.specs.EventLines.{event_of}
 use Rattle.relay_script.specs.declared.event.Printed as coded
 use Rattle.replay_devices.specs.Steps as model
 use Rattle.replay_devices.specs.Devices.{Happening, fails}
-use Rattle.replay_devices.specs.Watch.{WatchState, StandsFor}
+use Rattle.replay_devices.specs.Watch.{WatchState, WatchStandsFor}
 use Rattle.replay_steps.specs.declared.ended.Untold.{Untold}
-use Rattle.replay_steps.specs.declared.stepping.Stepped.{Stepped}
-use Rattle.replay_steps.specs.declared.stepping.Stepped.TheVariants as stepped
-use Rattle.replay_steps.specs.Holding.{ReceiptList}
-use Rattle.replay_steps.specs.Controlling.{Controlled}
+use Rattle.replay_steps.specs.declared.step.Stepped.{Stepped}
+use Rattle.replay_steps.specs.declared.step.Stepped.TheVariants as stepped
+use Rattle.replay_steps.specs.Receipts.{ReceiptList}
+use Rattle.replay_steps.specs.ControlSteps.{Controlled}
 use Rattle.replay_steps.specs.Steps.{course_of, Controls, Makes, OfStep, replied}
-use Rattle.replay_steps.specs.Watching.{Watches, WatchesTurn, StepsSo}
+use Rattle.replay_steps.specs.WatchNotes.{Watches, WatchesTurn, StepsSo}
 use Rattle.replay_steps.proofs.Courses.{one_event}
 
 -- the calls that a list gained
@@ -35,11 +35,11 @@ gained_calls {C} (Some first) (Some calls) all n P is count (more, list, p) =
 
 module _ (config : Config) (seed : ℕ) (l new : List Entry) (clock : ℕ) (source : Addr) (bytes : List ℕ) (held : ReceiptList) (read_fails reply_fails : Bool) (old mid now : WatchState)
     (ports ports_now : Option (List PortCall)) (keys keys_now : Option (List KeyCall)) (opened drawn : ℕ)
-    (reads : (past : List Happening) → StandsFor config seed past old → read_fails ≡ fails model.Reading past) (sends : (past : List Happening) → StandsFor config seed past old → reply_fails ≡ fails model.Replying past)
+    (reads : (past : List Happening) → WatchStandsFor config seed past old → read_fails ≡ fails model.Reading past) (sends : (past : List Happening) → WatchStandsFor config seed past old → reply_fails ≡ fails model.Replying past)
     (counted : (calls : List PortCall) → ports ≡ Some calls → opened ≡ length calls) (drew : (calls : List KeyCall) → keys ≡ Some calls → drawn ≡ length calls)
     (watched : WatchesTurn config seed ports_now opened keys_now drawn old mid) where
   command : (e : coded.Printed) → Controlled config clock l source bytes read_fails reply_fails ports ports_now keys keys_now (Ok e) new
-      → ((past : List Happening) → StandsFor config seed past mid → StandsFor config seed (replied (event_of e) past) now)
+      → ((past : List Happening) → WatchStandsFor config seed past mid → WatchStandsFor config seed (replied (event_of e) past) now)
       → Watches config seed old now (λ past past_now. Makes config seed (course_of l held clock past) (step.Ng source bytes) (event_of e ∷ []) (course_of new held clock past_now))
   command e controlled answers past s =
       let found = watched.watches past s in
@@ -67,7 +67,7 @@ module _ (config : Config) (seed : ℕ) (l new : List Entry) (clock : ℕ) (sour
 
   pub commanded : (o : Result coded.Printed Untold) (did : Stepped) → MatchResult o (λ (e : coded.Printed). did ≡ stepped.Prints e) (λ (why : Untold). did ≡ stepped.Untold why)
       → Controlled config clock l source bytes read_fails reply_fails ports ports_now keys keys_now o new
-      → ((e : coded.Printed) → o ≡ Ok e → (past : List Happening) → StandsFor config seed past mid → StandsFor config seed (replied (event_of e) past) now)
+      → ((e : coded.Printed) → o ≡ Ok e → (past : List Happening) → WatchStandsFor config seed past mid → WatchStandsFor config seed (replied (event_of e) past) now)
       → StepsSo config seed did old now (λ past past_now. OfStep config seed (course_of l held clock past) (step.Ng source bytes) did (course_of new held clock past_now))
   commanded (Err why) did is controlled answers =
       subst (λ (d : Stepped). StepsSo config seed d old now (λ past past_now. OfStep config seed (course_of l held clock past) (step.Ng source bytes) d (course_of new held clock past_now))) (sym is) tt

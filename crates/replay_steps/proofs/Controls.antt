@@ -3,7 +3,7 @@ use Rattle.std.proofs.Common.{◌≡◌, ◌∙◌, refl, sym, ap, subst, ℕ, B
 use Rattle.std.specs.List.{last_or}
 use Rattle.std.proofs.lemmas.List.Elements.{filter_map-append}
 use Rattle.ng_frame.specs.Frame.{frame}
-use Rattle.relay_outside.specs.Told.{Gained}
+use Rattle.relay_outside.specs.DeviceLogs.{Gained}
 use Rattle.relay_outside.specs.declared.address.Addr.{Addr}
 use Rattle.relay_outside.specs.declared.keys.KeyCall.{KeyCall}
 use Rattle.relay_outside.specs.declared.link.LinkCall.{LinkCall}
@@ -15,28 +15,28 @@ use Rattle.relay_outside.specs.declared.settings.Config.{Config}
 use Rattle.relay_outside.specs.Link.{datagram_of, sent_of}
 use Rattle.relay_outside.proofs.Telling.{gained_none, gained_less}
 use Rattle.call_board.specs.Pairs.{free}
-use Rattle.media_ports.specs.Asked.{OpensAt}
+use Rattle.media_ports.specs.Openings.{OpensAt}
 use Rattle.turn_table.specs.declared.machine.Entry as table
 use Rattle.turn_table.specs.declared.hands.Hand.{Hand}
 use Rattle.turn_table.specs.Hands.{entries}
 use Rattle.call_board.specs.Acts.{BoardEntry}
 use Rattle.relay_core.specs.declared.part.Part.{Part}
-use Rattle.relay_core.specs.Made.{Made, entry_of, list_of}
-use Rattle.relay_core.specs.Turning.{made_by}
+use Rattle.relay_core.specs.Records.{Made, entry_of, list_of}
+use Rattle.relay_core.specs.Turns.{made_by}
 use Rattle.relay_core.proofs.Recording.{turn_list}
 use Rattle.board_turns.specs.Between.{board_of, MakesTurn}
-use Rattle.board_turns.specs.Controls.{Hearing, control_of, entry_at, moment_at}
-use Rattle.ng_server.specs.declared.taking.ControlTurn.{ControlTurn}
-use Rattle.ng_server.specs.declared.taking.ControlTurn.TheVariants as turn
-use Rattle.board_turns.specs.Giving.{draws_of}
-use Rattle.ng_server.specs.Taking.{is_answered, is_too_long, turn_after, Follows, Exchanged, DidReply, DidFollow, DidTurn, GaveFor, Turned}
+use Rattle.board_turns.specs.Controls.{RequestRecord, control_of, entry_at, moment_at}
+use Rattle.ng_server.specs.declared.control_turn.ControlTurn.{ControlTurn}
+use Rattle.ng_server.specs.declared.control_turn.ControlTurn.TheVariants as turn
+use Rattle.board_turns.specs.DeviceAnswers.{draws_of}
+use Rattle.ng_server.specs.ControlTurns.{is_answered, is_too_long, turn_after, FollowsTake, Exchanged, DidReply, DidFollow, DidTurn, GaveFor, Turned}
 use Rattle.relay_script.specs.declared.event.Printed as coded
-use Rattle.relay_script.specs.Printing as event
-use Rattle.relay_script.specs.Printing.{Printed, event_of}
+use Rattle.relay_script.specs.EventLines as event
+use Rattle.relay_script.specs.EventLines.{Printed, event_of}
 use Rattle.replay_devices.proofs.Lists.{last_or-append}
 use Rattle.replay_steps.specs.declared.ended.Untold.{Untold}
 use Rattle.replay_steps.specs.Steps.{TurnsBoard, filled, Replying, Answers, IsIdle, Controls}
-use Rattle.replay_steps.specs.Controlling.{IsReply, TellsTaken, IsOfTurn, TellsTurn, TellsEvent, Controlled}
+use Rattle.replay_steps.specs.ControlSteps.{IsReply, TellsTaken, IsOfTurn, TellsTurn, TellsEvent, Controlled}
 
 -- The last call of a kind in a longer list.
 
@@ -52,7 +52,7 @@ same_ok r x y p q = let k = sym p ∙ q in cc
 
 module _ (config : Config) (now : ℕ) (source : Addr) (bytes : List ℕ) where
   -- no frame
-  silent : (h : List BoardEntry) (from : Addr) (datagram : List ℕ) (made : Option Hearing) (calls sends : List LinkCall)
+  silent : (h : List BoardEntry) (from : Addr) (datagram : List ℕ) (made : Option RequestRecord) (calls sends : List LinkCall)
       → TellsTaken (Some (calls ++ call.Take 16385 (given.Datagram from datagram) ∷ sends)) source bytes
       → (f : Option (List ℕ × List ℕ)) → frame datagram ≡ f → DidReply config h now from f (is_too_long datagram) turn.Silent made sends → frame (filled bytes) ≡ None
   silent h from datagram made calls sends tells None is did =
@@ -68,14 +68,14 @@ module _ (config : Config) (now : ℕ) (source : Addr) (bytes : List ℕ) where
       not_silent false p = absurd (let k : turn.Silent ≡ turn.ReplyFault = p in cc)
 
   -- a datagram that got no answer
-  silent_taken : (h : List BoardEntry) (calls sends : List LinkCall) (made : Option Hearing) (gave : LinkGiven)
+  silent_taken : (h : List BoardEntry) (calls sends : List LinkCall) (made : Option RequestRecord) (gave : LinkGiven)
       → TellsTaken (Some (calls ++ call.Take 16385 gave ∷ sends)) source bytes → DidFollow config h now gave turn.Silent made sends → frame (filled bytes) ≡ None
   silent_taken h calls sends made (given.Datagram from datagram) tells did = silent h from datagram made calls sends tells (frame datagram) refl did
   silent_taken h calls sends made given.Nothing tells did = absurd (let k : turn.Silent ≡ turn.Nothing = did.0 in cc)
   silent_taken h calls sends made given.End tells did = absurd (let k : turn.Silent ≡ turn.End = did.0 in cc)
   silent_taken h calls sends made given.Failed tells did = absurd (let k : turn.Silent ≡ turn.ReadFault = did.0 in cc)
 
-  silent_told : (h : List BoardEntry) (before after : Option (List LinkCall)) (made : Option Hearing) → TellsTaken after source bytes
+  silent_told : (h : List BoardEntry) (before after : Option (List LinkCall)) (made : Option RequestRecord) → TellsTaken after source bytes
       → Gained before after (DidTurn config h now turn.Silent made) → frame (filled bytes) ≡ None
   silent_told h before None made tells gained = absurd (let k : None ≡ Some (source, filled bytes) = tells in cc)
   silent_told h None (Some calls) made tells gained = absurd gained
@@ -94,13 +94,13 @@ module _ (config : Config) {M I O T : Type 0} {g : _} where
   }
 
   -- a turn without a reply left the hand as it was
-  unanswered : (old new : Hand M (Part I O) Made T g) (now : ℕ) (answer : ControlTurn) (made : Option Hearing) → is_answered answer ≡ false → Follows config old new now answer made
+  unanswered : (old new : Hand M (Part I O) Made T g) (now : ℕ) (answer : ControlTurn) (made : Option RequestRecord) → is_answered answer ≡ false → FollowsTake config old new now answer made
       → made_by new ≡ made_by old
   unanswered old new now answer None unsent follows = ap (λ (h : Hand M (Part I O) Made T g). made_by h) follows.1
   unanswered old new now answer (Some x) unsent follows = absurd (let k : false ≡ true = sym unsent ∙ follows.0 in cc)
 
-  module _ (now : ℕ) (source : Addr) (bytes : List ℕ) (reply_fails : Bool) (e : Printed) (old new : Hand M (Part I O) Made T g) (answer : ControlTurn) (x : Hearing) (opened : List PortCall)
-      (drawn : List KeyCall) (opens : OpensAt config (free config (board_of (made_by old))) x.given.opens opened) (draws : drawn ≡ draws_of x.given) (follows : Follows config old new now answer (Some x)) where
+  module _ (now : ℕ) (source : Addr) (bytes : List ℕ) (reply_fails : Bool) (e : Printed) (old new : Hand M (Part I O) Made T g) (answer : ControlTurn) (x : RequestRecord) (opened : List PortCall)
+      (drawn : List KeyCall) (opens : OpensAt config (free config (board_of (made_by old))) x.given.opens opened) (draws : drawn ≡ draws_of x.given) (follows : FollowsTake config old new now answer (Some x)) where
     reply : List ℕ
     reply = (control_of config (board_of (made_by old)) (moment_at (board_of (made_by old)) now) x).reply
 
@@ -115,11 +115,11 @@ module _ (config : Config) {M I O T : Type 0} {g : _} where
       replying : (done : Bool) → answer ≡ turn_after done
           → IsOfTurn answer reply_fails (Some (calls ++ call.Take 16385 (given.Datagram from datagram) ∷ call.Send from reply done ∷ [])) e → Replying reply_fails source reply e
       replying true is of =
-          let told = subst (λ (a : ControlTurn). IsOfTurn a reply_fails (Some (calls ++ call.Take 16385 (given.Datagram from datagram) ∷ call.Send from reply true ∷ [])) e) is of in
-          subst (λ (b : Bool). Replying b source reply e) (sym told.0) (of_reply told.1)
+          let shown = subst (λ (a : ControlTurn). IsOfTurn a reply_fails (Some (calls ++ call.Take 16385 (given.Datagram from datagram) ∷ call.Send from reply true ∷ [])) e) is of in
+          subst (λ (b : Bool). Replying b source reply e) (sym shown.0) (of_reply shown.1)
       replying false is of =
-          let told = subst (λ (a : ControlTurn). IsOfTurn a reply_fails (Some (calls ++ call.Take 16385 (given.Datagram from datagram) ∷ call.Send from reply false ∷ [])) e) is of in
-          subst (λ (b : Bool). Replying b source reply e) (sym told.0) told.1
+          let shown = subst (λ (a : ControlTurn). IsOfTurn a reply_fails (Some (calls ++ call.Take 16385 (given.Datagram from datagram) ∷ call.Send from reply false ∷ [])) e) is of in
+          subst (λ (b : Bool). Replying b source reply e) (sym shown.0) shown.1
 
     exchanged : (from : Addr) (datagram : List ℕ) (calls sends : List LinkCall) (parts : List ℕ × List ℕ)
         → TellsTaken (Some (calls ++ call.Take 16385 (given.Datagram from datagram) ∷ sends)) source bytes
@@ -184,7 +184,7 @@ module _ (config : Config) {M I O T : Type 0} {g : _} where
         Gained opened opened_now (λ opens. Gained drew drew_now (λ draws. Controls config now (made_by old) source bytes read_fails reply_fails opens draws e (made_by new)))
 
     -- nothing was called, and nothing was done
-    idle : (read_fails : Bool) (answer : ControlTurn) (made : Option Hearing) → is_answered answer ≡ false → Follows config old new now answer made
+    idle : (read_fails : Bool) (answer : ControlTurn) (made : Option RequestRecord) → is_answered answer ≡ false → FollowsTake config old new now answer made
         → GaveFor config (board_of (made_by old)) made ports ports_now keys keys_now opened opened_now drew drew_now
         → (IsIdle [] [] (made_by old) (made_by new) → Controls config now (made_by old) source bytes read_fails reply_fails [] [] e (made_by new)) → Made_so read_fails
     idle read_fails answer None unsent follows gave so =
@@ -194,7 +194,7 @@ module _ (config : Config) {M I O T : Type 0} {g : _} where
         (sym gave.1) (gained_none drew _ (so (refl, refl, unanswered old new now answer None unsent follows)))))
     idle read_fails answer (Some x) unsent follows gave so = absurd (let k : false ≡ true = sym unsent ∙ follows.0 in cc)
 
-    answers : (answer : ControlTurn) (made : Option Hearing) (before after : Option (List LinkCall)) → is_answered answer ≡ true → Follows config old new now answer made
+    answers : (answer : ControlTurn) (made : Option RequestRecord) (before after : Option (List LinkCall)) → is_answered answer ≡ true → FollowsTake config old new now answer made
         → GaveFor config (board_of (made_by old)) made ports ports_now keys keys_now opened opened_now drew drew_now → Gained before after (DidTurn config (board_of (made_by old)) now answer made)
         → TellsTaken after source bytes → IsOfTurn answer reply_fails after e → Made_so false
     answers answer None before after sent follows gave gained tells of = absurd (let k : false ≡ true = sym follows.0 ∙ sent in cc)
@@ -203,7 +203,7 @@ module _ (config : Config) {M I O T : Type 0} {g : _} where
         (λ opens opens_are. gained_less drew drew_now (λ draws. draws ≡ draws_of x.given) _
         (λ draws draws_are. inr (taken_told now source bytes reply_fails e old new answer x opens draws opens_are draws_are follows sent before after tells of gained)) gave.draws) gave.opens
 
-    controls_line : (read_fails : Bool) (answer : ControlTurn) (before after : Option (List LinkCall)) (made : Option Hearing) → Follows config old new now answer made
+    controls_line : (read_fails : Bool) (answer : ControlTurn) (before after : Option (List LinkCall)) (made : Option RequestRecord) → FollowsTake config old new now answer made
         → GaveFor config (board_of (made_by old)) made ports ports_now keys keys_now opened opened_now drew drew_now → Gained before after (DidTurn config (board_of (made_by old)) now answer made)
         → TellsTurn answer read_fails reply_fails after source bytes e → Made_so read_fails
     controls_line read_fails turn.ReadFault before after made follows gave gained tells =

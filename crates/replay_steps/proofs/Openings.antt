@@ -21,7 +21,7 @@ use Rattle.relay_core.proofs.Boxes.{below_front}
 use Rattle.relay_core.proofs.Holders.{held_is_box}
 use Rattle.relay_core.proofs.Shut.{box_now, none_if}
 use Rattle.board_turns.specs.Between.{board_of}
-use Rattle.board_turns.specs.Ending.{leg_pairs}
+use Rattle.board_turns.specs.CallEnds.{leg_pairs}
 use Rattle.ng_server.specs.Servers.{OpensJust}
 use Rattle.replay_steps.specs.Arrivals.{IsShutUnless}
 
@@ -30,13 +30,13 @@ leg_in leg [] i = elim i [ ]
 leg_in leg (x ∷ legs) (here q) = here (ap (λ (l : Holder). l.pair) q)
 leg_in leg (x ∷ legs) (there i) = there (leg_in leg legs i)
 
-pub shut_unless : (config : Config) (l : List Entry) → Orderly config l → (told : List PortCall) (pair : ℕ) (half : Half) (port : ℕ) → OpensJust config (board_of l) (Some told)
-    → pair < pair_count config → half_port config pair half ≡ port → IsShutUnless config l pair (IsOpen told (port_at config.interface port))
-shut_unless config l o told pair half port opens in_range port_is not_open n above =
+pub shut_unless : (config : Config) (l : List Entry) → Orderly config l → (log : List PortCall) (pair : ℕ) (half : Half) (port : ℕ) → OpensJust config (board_of l) (Some log)
+    → pair < pair_count config → half_port config pair half ≡ port → IsShutUnless config l pair (IsOpen log (port_at config.interface port))
+shut_unless config l o log pair half port opens in_range port_is not_open n above =
     box_now config l o (box_of config pair) (front l 0) n (λ e i at. below_front l e 0 i at) above
     ∙ none_if _ (λ leg h.
     let s = held_is_box config l o (front l 0) pair leg h in
-    not_open (subst (λ (p : ℕ). IsOpen told (port_at config.interface p)) port_is
+    not_open (subst (λ (p : ℕ). IsOpen log (port_at config.interface p)) port_is
     ((opens pair half in_range).1 (subst (λ (q : ℕ). has (leg_pairs (held (board_of l))) q ≡ true) s.0 (it_has leg.pair (leg_pairs (held (board_of l))) (leg_in leg (held (board_of l)) s.1))))))
 
 -- after one more call

@@ -9,13 +9,13 @@ use Rattle.call_cell.specs.declared.outcome.Lost.TheVariants as lost
 use Rattle.call_cell.specs.declared.outcome.Outcome.{Outcome}
 use Rattle.call_cell.specs.declared.outcome.Outcome.TheVariants as outcomes
 use Rattle.call_cell.specs.Cells.{CellEntry, Receipt, Sending, since_end}
-use Rattle.call_cell.specs.Standing.{sent_ok}
+use Rattle.call_cell.specs.LegHistories.{sent_ok}
 use Rattle.call_cell.proofs.Sends.{sent, send_failed, refused_sends_none, lost_sends_none}
 use Rattle.media_lane.specs.Steps.{deed_after}
 use Rattle.replay_devices.specs.Devices.{Happening, Sent, send_fails}
-use Rattle.replay_devices.specs.Watch.{WatchState, StandsFor, Notes}
+use Rattle.replay_devices.specs.Watch.{WatchState, WatchStandsFor, Notes}
 use Rattle.replay_steps.specs.Steps.{SendsAsked}
-use Rattle.replay_steps.specs.Watching.{Watches, send_of}
+use Rattle.replay_steps.specs.WatchNotes.{Watches, send_in}
 
 module _ (config : Config) (h : List CellEntry) (p : Receipt) where
   -- a relay with this outcome made no send
@@ -34,7 +34,7 @@ module _ (config : Config) (h : List CellEntry) (p : Receipt) where
       → outcomes.Lost cause ≡ (deed_after config h p (outcomes.Lost cause)).outcome → IsUnsent (outcomes.Lost cause)
   other_cause cause other ok is = record { none = lost_sends_none config (since_end h) p (sent_ok (outcomes.Lost cause)) cause other (sym is); ok = ok }
 
-  pub tells_send : (o : Outcome) → o ≡ (deed_after config h p o).outcome → MatchOption (send_of o) (IsUnsent o) (λ x. IsSentBy o x.0 x.1)
+  pub tells_send : (o : Outcome) → o ≡ (deed_after config h p o).outcome → MatchOption (send_in o) (IsUnsent o) (λ x. IsSentBy o x.0 x.1)
   tells_send (outcomes.Sent port to len) is =
       let s = sent config (since_end h) p true port to len (sym is) in
       record { sending = s.sending; is_sending = s.is_sending; port_is = sym s.port_is; ok = refl }
@@ -51,16 +51,16 @@ module _ (config : Config) (h : List CellEntry) (p : Receipt) where
   -- so where none is told, none has to be noted
   pub unsent : (seed : ℕ) (w : WatchState) (o : Outcome) → IsUnsent o → Watches config seed w w (SendsAsked config o (deed_after config h p o).sending)
   unsent seed w o none past s =
-      subst (λ (x : Option Sending). (now : List Happening) × SendsAsked config o x past now × StandsFor config seed now w) (sym none.none) (past, (none.ok, refl), s)
+      subst (λ (x : Option Sending). (now : List Happening) × SendsAsked config o x past now × WatchStandsFor config seed now w) (sym none.none) (past, (none.ok, refl), s)
 
   -- and one that is told is noted, and failed just where it had to
   pub sent_watched : (seed : ℕ) (old new : WatchState) (o : Outcome) (port : ℕ) (done failing : Bool) → IsSentBy o port done
-      → ((pair : ℕ) (half : Half) → half_port config pair half ≡ port → (past : List Happening) → StandsFor config seed past old → failing ≡ send_fails config past pair half)
+      → ((pair : ℕ) (half : Half) → half_port config pair half ≡ port → (past : List Happening) → WatchStandsFor config seed past old → failing ≡ send_fails config past pair half)
       → ((pair : ℕ) (half : Half) (ok : Bool) → half_port config pair half ≡ port → Notes config seed old new (Sent pair half ok))
       → done ≡ not failing → Watches config seed old new (SendsAsked config o (deed_after config h p o).sending)
   sent_watched seed old new o port done failing by fails notes asked past s =
       let w = by.sending in
-      subst (λ (x : Option Sending). (now : List Happening) × SendsAsked config o x past now × StandsFor config seed now new) (sym by.is_sending) (
+      subst (λ (x : Option Sending). (now : List Happening) × SendsAsked config o x past now × WatchStandsFor config seed now new) (sym by.is_sending) (
         Sent w.pair w.half (sent_ok o) ∷ past,
         (by.ok ∙ asked ∙ ap (λ (b : Bool). not b) (fails w.pair w.half by.port_is past s), refl),
         notes w.pair w.half (sent_ok o) by.port_is past s,

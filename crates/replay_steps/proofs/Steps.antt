@@ -7,8 +7,8 @@ use Rattle.turn_table.specs.declared.hands.Hand.{Hand}
 use Rattle.turn_table.specs.Hands.{IsSameHand, parts}
 use Rattle.call_board.specs.Acts.{BoardEntry}
 use Rattle.relay_core.specs.declared.part.Part.{Part}
-use Rattle.relay_core.specs.Made.{Made}
-use Rattle.relay_core.specs.Turning.{made_by}
+use Rattle.relay_core.specs.Records.{Made}
+use Rattle.relay_core.specs.Turns.{made_by}
 use Rattle.board_turns.specs.Between.{board_of, IsBetween}
 use Rattle.media_lane.specs.Steps.{KeepsReceipts}
 use Rattle.ng_server.specs.Servers.{OpensJust, history_of}
@@ -18,12 +18,12 @@ use Rattle.replay_devices.specs.Watch.{WatchState}
 use Rattle.replay_steps.specs.declared.state.Replayer.{Replayer}
 use Rattle.replay_steps.specs.declared.state.ReplayState.{ReplayState}
 use Rattle.replay_steps.specs.declared.ended.Untold.TheVariants as untold
-use Rattle.replay_steps.specs.declared.stepping.Stepped.{Stepped}
-use Rattle.replay_steps.specs.declared.stepping.Stepped.TheVariants as stepped
-use Rattle.replay_steps.specs.Holding.{ReceiptList, AreReceipts}
+use Rattle.replay_steps.specs.declared.step.Stepped.{Stepped}
+use Rattle.replay_steps.specs.declared.step.Stepped.TheVariants as stepped
+use Rattle.replay_steps.specs.Receipts.{ReceiptList, AreReceipts}
 use Rattle.replay_steps.specs.Steps.{Course, course_of, calls_devices, OfStep}
-use Rattle.replay_steps.specs.Watching.{StepsSo}
-use Rattle.replay_steps.specs.Ready.{IsReady, course_at}
+use Rattle.replay_steps.specs.WatchNotes.{StepsSo}
+use Rattle.replay_steps.specs.Ready.{IsReplayReady, course_at}
 use Rattle.replay_steps.specs.Moves.{MakesStep}
 use Rattle.replay_steps.proofs.Holdings.{receipts_kept}
 use Rattle.replay_steps.proofs.Watchings.{steps_unwatched, steps_less}
@@ -34,14 +34,14 @@ pub moved_between : {M I O T : Type 0} {g : _} (config same : Config) (turns lik
 moved_between {M} {I} {O} {T} config same turns like hand p q between =
     subst (λ (t : Turns M (Part I O) Made T). IsBetween same t hand) q (subst (λ (c : Config). IsBetween c turns hand) p between)
 
-module _ {R : Type 0} (replayer : Replayer R) (before after : ReplayState) (ready : IsReady replayer before) where
+module _ {R : Type 0} (replayer : Replayer R) (before after : ReplayState) (ready : IsReplayReady replayer before) where
   -- where only what it says nothing of has changed
-  pub ready_still : after.hand ≡ before.hand → after.devices.ports.told ≡ before.devices.ports.told → after.receipts ≡ before.receipts → IsReady replayer after
-  ready_still hand_is told held = record {
+  pub ready_still : after.hand ≡ before.hand → after.devices.ports.log ≡ before.devices.ports.log → after.receipts ≡ before.receipts → IsReplayReady replayer after
+  ready_still hand_is log held = record {
     config_is = ready.config_is;
     between = subst (λ h. IsBetween replayer.server.config replayer.server.turns h) (sym hand_is) ready.between;
-    opens = subst (λ (t : Option (List PortCall)). OpensJust replayer.server.config (history_of after.hand) t) (sym told)
-        (subst (λ h. OpensJust replayer.server.config (history_of h) before.devices.ports.told) (sym hand_is) ready.opens);
+    opens = subst (λ (t : Option (List PortCall)). OpensJust replayer.server.config (history_of after.hand) t) (sym log)
+        (subst (λ h. OpensJust replayer.server.config (history_of h) before.devices.ports.log) (sym hand_is) ready.opens);
     receipts = subst (λ (list : ReceiptList). AreReceipts replayer.server.config (made_by after.hand) list.list) (sym held)
         (subst (λ h. AreReceipts replayer.server.config (made_by h) before.receipts.list) (sym hand_is) ready.receipts);
     room = subst (λ (list : ReceiptList). list.room ≡ 64) (sym held) ready.room;
@@ -50,8 +50,8 @@ module _ {R : Type 0} (replayer : Replayer R) (before after : ReplayState) (read
 
   -- after a turn of the board, which keeps the receipts
   pub ready_after : IsSameHand before.hand after.hand → IsBetween replayer.server.config replayer.server.turns after.hand
-      → OpensJust replayer.server.config (history_of after.hand) after.devices.ports.told → KeepsReceipts replayer.server.config (made_by before.hand) (made_by after.hand)
-      → after.receipts ≡ before.receipts → IsReady replayer after
+      → OpensJust replayer.server.config (history_of after.hand) after.devices.ports.log → KeepsReceipts replayer.server.config (made_by before.hand) (made_by after.hand)
+      → after.receipts ≡ before.receipts → IsReplayReady replayer after
   ready_after same between opens keeps held = record {
     config_is = ready.config_is;
     between = between;
@@ -64,22 +64,22 @@ module _ {R : Type 0} (replayer : Replayer R) (before after : ReplayState) (read
 
   -- after a take or a relay, which changes nothing of the board
   pub ready_again : IsSameHand before.hand after.hand → IsBetween replayer.server.config replayer.server.turns after.hand → board_of (made_by after.hand) ≡ board_of (made_by before.hand)
-      → after.devices.ports.told ≡ before.devices.ports.told → after.receipts ≡ before.receipts → AreReceipts replayer.server.config (made_by after.hand) before.receipts.list
-      → IsReady replayer after
-  ready_again same between board told held receipts = record {
+      → after.devices.ports.log ≡ before.devices.ports.log → after.receipts ≡ before.receipts → AreReceipts replayer.server.config (made_by after.hand) before.receipts.list
+      → IsReplayReady replayer after
+  ready_again same between board log held receipts = record {
     config_is = ready.config_is;
     between = between;
-    opens = subst (λ (t : Option (List PortCall)). OpensJust replayer.server.config (history_of after.hand) t) (sym told)
-        (subst (λ (h : List BoardEntry). OpensJust replayer.server.config h before.devices.ports.told) (sym board) ready.opens);
+    opens = subst (λ (t : Option (List PortCall)). OpensJust replayer.server.config (history_of after.hand) t) (sym log)
+        (subst (λ (h : List BoardEntry). OpensJust replayer.server.config h before.devices.ports.log) (sym board) ready.opens);
     receipts = subst (λ (list : ReceiptList). AreReceipts replayer.server.config (made_by after.hand) list.list) (sym held) receipts;
     room = subst (λ (list : ReceiptList). list.room ≡ 64) (sym held) ready.room;
     all = same.2 ∙ ready.all;
   }
 
 -- where other receipts are held
-pub ready_holding : {R : Type 0} (replayer : Replayer R) (state : ReplayState) (held : ReceiptList) → IsReady replayer state
+pub ready_holding : {R : Type 0} (replayer : Replayer R) (state : ReplayState) (held : ReceiptList) → IsReplayReady replayer state
     → AreReceipts replayer.server.config (made_by state.hand) held.list → held.room ≡ state.receipts.room
-    → IsReady replayer (record { hand = state.hand; desk = state.desk; devices = state.devices; watch = state.watch; receipts = held; clock = state.clock })
+    → IsReplayReady replayer (record { hand = state.hand; desk = state.desk; devices = state.devices; watch = state.watch; receipts = held; clock = state.clock })
 ready_holding replayer state held ready receipts room = record {
   config_is = ready.config_is;
   between = ready.between;
@@ -90,7 +90,7 @@ ready_holding replayer state held ready receipts room = record {
 }
 
 -- a step that leaves all as it was
-pub stays : {R : Type 0} (replayer : Replayer R) (line : Step) (did : Stepped) (state : ReplayState) → IsReady replayer state
+pub stays : {R : Type 0} (replayer : Replayer R) (line : Step) (did : Stepped) (state : ReplayState) → IsReplayReady replayer state
     → (did ≡ stepped.Untold untold.DeviceFault → calls_devices line ≡ true)
     → ((seed : ℕ) (past : List Happening) → OfStep replayer.server.config seed (course_at state past) line did (course_at state past)) → MakesStep replayer line did state state
 stays replayer line did state ready differs here = record {

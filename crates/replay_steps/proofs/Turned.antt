@@ -13,16 +13,16 @@ use Rattle.call_board.specs.Acts.{BoardEntry}
 use Rattle.relay_core.specs.declared.part.Part.{Part}
 use Rattle.relay_core.specs.Entries.{Event, Cell, Entry, is_nested, board_at}
 use Rattle.relay_core.specs.Legal.{Orderly}
-use Rattle.relay_core.specs.Made.{Made, entry_of, list_of}
-use Rattle.relay_core.specs.Turning.{IsTurn, IsReceiving, with_turn, made_by}
+use Rattle.relay_core.specs.Records.{Made, entry_of, list_of}
+use Rattle.relay_core.specs.Turns.{IsTurn, IsReceiving, with_turn, made_by}
 use Rattle.relay_core.proofs.Recording.{turn_list}
 use Rattle.relay_core.proofs.Turns.{turn_elsewhere}
-use Rattle.relay_core.specs.Joining.{TakesOwnPairs}
+use Rattle.relay_core.specs.Joins.{TakesOwnPairs}
 use Rattle.media_lane.specs.Receipts.{IsReceiptOf}
 use Rattle.board_turns.specs.Between.{board_of, IsBetween, MakesTurn}
-use Rattle.board_turns.specs.Controls.{Hearing, entry_at, moment_at}
-use Rattle.ng_server.specs.declared.taking.ControlTurn.{ControlTurn}
-use Rattle.ng_server.specs.Taking.{Follows}
+use Rattle.board_turns.specs.Controls.{RequestRecord, entry_at, moment_at}
+use Rattle.ng_server.specs.declared.control_turn.ControlTurn.{ControlTurn}
+use Rattle.ng_server.specs.ControlTurns.{FollowsTake}
 use Rattle.media_lane.specs.Steps.{KeepsReceipts}
 use Rattle.media_lane.proofs.Receipts.{Spends, receipt_stays}
 
@@ -58,8 +58,8 @@ module _ {M I O T : Type 0} {g : _} where
       subst (λ (k : List Entry). KeepsReceipts config (made_by old) k) (sym list)
       (turn_keeps config (made_by old) (list_of makes.rows) (entry_of makes.row) b.orderly makes.turn b.receiving)
 
-  pub follows_keeps : (config : Config) (turns : Turns M (Part I O) Made T) (old new : Hand M (Part I O) Made T g) (now : ℕ) (answer : ControlTurn) (made : Option Hearing)
-      → IsBetween config turns old → Follows config old new now answer made → KeepsReceipts config (made_by old) (made_by new)
+  pub follows_keeps : (config : Config) (turns : Turns M (Part I O) Made T) (old new : Hand M (Part I O) Made T g) (now : ℕ) (answer : ControlTurn) (made : Option RequestRecord)
+      → IsBetween config turns old → FollowsTake config old new now answer made → KeepsReceipts config (made_by old) (made_by new)
   follows_keeps config turns old new now answer None b follows =
       subst (λ h. KeepsReceipts config (made_by old) (made_by h)) (sym follows.1) (λ r of. of)
   follows_keeps config turns old new now answer (Some x) b follows =

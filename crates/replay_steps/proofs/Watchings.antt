@@ -9,13 +9,13 @@ use Rattle.relay_outside.specs.declared.ports.PortCall.{PortCall}
 use Rattle.relay_outside.specs.declared.ports.PortCall.TheVariants.{Open, Close}
 use Rattle.relay_outside.specs.declared.settings.Config.{Config}
 use Rattle.replay_devices.specs.Devices.{Happening}
-use Rattle.replay_devices.specs.Watch.{WatchState, StandsFor}
+use Rattle.replay_devices.specs.Watch.{WatchState, WatchStandsFor}
 use Rattle.replay_steps.specs.declared.ended.Untold.{Untold}
-use Rattle.replay_steps.specs.declared.stepping.Stepped.{Stepped}
-use Rattle.replay_steps.specs.declared.stepping.Stepped.TheVariants as stepped
+use Rattle.replay_steps.specs.declared.step.Stepped.{Stepped}
+use Rattle.replay_steps.specs.declared.step.Stepped.TheVariants as stepped
 use Rattle.relay_script.specs.Steps.{Step}
 use Rattle.replay_steps.specs.Steps.{Course, OpensAsked, DrawsAsked, OfStep}
-use Rattle.replay_steps.specs.Watching.{Watches, StepsSo}
+use Rattle.replay_steps.specs.WatchNotes.{Watches, StepsSo}
 
 opens_more : (config : Config) (xs : List PortCall) (x : PortCall) (a b c : List Happening) → OpensAsked config xs a b → OpensAsked config (x ∷ []) b c → OpensAsked config (xs ++ x ∷ []) a c
 opens_more config [] x a b c same last = subst (λ (k : List Happening). OpensAsked config (x ∷ []) k c) same last
@@ -38,8 +38,8 @@ draws_watched config seed xs x first second third before last past s =
     let b = before past s in let l = last b.0 b.2 in (l.0, draws_more seed xs x past b.0 l.0 b.1 l.1, l.2)
 
 -- a step of which it is told what it did
-pub stepped_so : (config : Config) (seed : ℕ) (did : Stepped) (old new : WatchState) (P : List Happening → List Happening → Type 0) → StepsSo config seed did old new P → (past : List Happening) → StandsFor config seed past old
-    → ((why : Untold) × (did ≡ stepped.Untold why)) ⊎ ((now : List Happening) × P past now × StandsFor config seed now new)
+pub stepped_so : (config : Config) (seed : ℕ) (did : Stepped) (old new : WatchState) (P : List Happening → List Happening → Type 0) → StepsSo config seed did old new P → (past : List Happening) → WatchStandsFor config seed past old
+    → ((why : Untold) × (did ≡ stepped.Untold why)) ⊎ ((now : List Happening) × P past now × WatchStandsFor config seed now new)
 stepped_so config seed stepped.Quiet old new P so past s = inr (so past s)
 stepped_so config seed (stepped.Prints e) old new P so past s = inr (so past s)
 stepped_so config seed stepped.Faulty old new P so past s = inr (so past s)
@@ -53,7 +53,7 @@ steps_less config seed stepped.Faulty old new P Q less so = λ past s. let f = s
 steps_less config seed (stepped.Untold why) old new P Q less so = tt
 
 -- a step that notes nothing
-pub steps_unwatched : (config : Config) (seed : ℕ) (did : Stepped) (w : WatchState) (P : List Happening → List Happening → Type 0) → ((past : List Happening) → StandsFor config seed past w → P past past) → StepsSo config seed did w w P
+pub steps_unwatched : (config : Config) (seed : ℕ) (did : Stepped) (w : WatchState) (P : List Happening → List Happening → Type 0) → ((past : List Happening) → WatchStandsFor config seed past w → P past past) → StepsSo config seed did w w P
 steps_unwatched config seed stepped.Quiet w P here = λ past s. (past, here past s, s)
 steps_unwatched config seed (stepped.Prints e) w P here = λ past s. (past, here past s, s)
 steps_unwatched config seed stepped.Faulty w P here = λ past s. (past, here past s, s)
@@ -76,7 +76,7 @@ found_end config port ip None has is = absurd (let k : false ≡ true = is in cc
 found_end config port ip (Some e) has is = (e, has)
 
 module _ (config : Config) (seed : ℕ) (r : List Happening → Course) (s : Step) (did : Stepped) (new : List Happening → Course) (old now : WatchState)
-    (so : StepsSo config seed did old now (λ past past_now. OfStep config seed (r past) s did (new past_now))) (past : List Happening) (stands : StandsFor config seed past old) where
+    (so : StepsSo config seed did old now (λ past past_now. OfStep config seed (r past) s did (new past_now))) (past : List Happening) (stands : WatchStandsFor config seed past old) where
   -- what a step did, whether or not that is told
   pub some_step : (past_now : List Happening) × OfStep config seed (r past) s did (new past_now)
   some_step = elim (stepped_so config seed did old now (λ past past_now. OfStep config seed (r past) s did (new past_now)) so past stands) [
@@ -85,7 +85,7 @@ module _ (config : Config) (seed : ℕ) (r : List Happening → Course) (s : Ste
   ]
 
   -- what one did of which that is told
-  pub one_step : ((why : Untold) → did ≡ stepped.Untold why → ⊥) → (past_now : List Happening) × OfStep config seed (r past) s did (new past_now) × StandsFor config seed past_now now
+  pub one_step : ((why : Untold) → did ≡ stepped.Untold why → ⊥) → (past_now : List Happening) × OfStep config seed (r past) s did (new past_now) × WatchStandsFor config seed past_now now
   one_step fed = elim (stepped_so config seed did old now (λ past past_now. OfStep config seed (r past) s did (new past_now)) so past stands) [
     | inl untold ↦ absurd (fed untold.0 untold.1)
     | inr found ↦ found

@@ -1,65 +1,65 @@
 -- What is written where a write fails, and by several steps.
 use Rattle.std.proofs.Common.{◌≡◌, ◌∙◌, refl, sym, ap, subst, ℕ, ◌+◌, List, [], ◌∷◌, ◌++◌, true, Option, Some, None, inl, inr, length, map}
 use Rattle.std.proofs.lemmas.List.{map-append, append-nil}
-use Rattle.relay_outside.specs.Told.{Gains, Gained}
+use Rattle.relay_outside.specs.DeviceLogs.{Gains, Gained}
 use Rattle.relay_outside.specs.declared.lines.WriteCall.{WriteCall}
 use Rattle.relay_outside.specs.declared.settings.Config.{Config}
 use Rattle.relay_outside.proofs.Telling.{gained_none, gained_one, gained_both}
 use Rattle.relay_core.specs.Entries.{Entry}
-use Rattle.relay_script.specs.Printing.{Printed, ScriptFault, event_of}
-use Rattle.replay_devices.specs.declared.writing.WriteFault.{WriteFault}
-use Rattle.replay_devices.specs.declared.writing.WriteFault.TheVariants as fault
+use Rattle.relay_script.specs.EventLines.{Printed, ScriptFault, event_of}
+use Rattle.replay_devices.specs.declared.event_writer.WriteFault.{WriteFault}
+use Rattle.replay_devices.specs.declared.event_writer.WriteFault.TheVariants as fault
 use Rattle.relay_outside.specs.declared.lines.LineCall.{LineCall}
 use Rattle.relay_script.specs.Steps.{Step}
 use Rattle.replay_devices.specs.declared.script.Ending.{Ending}
 use Rattle.replay_devices.specs.declared.script.Ending.TheVariants as ending
-use Rattle.replay_devices.specs.Scripts.{Reads}
+use Rattle.replay_devices.specs.Scripts.{ReadsScript}
 use Rattle.replay_steps.specs.declared.ended.Ended.{Ended}
 use Rattle.replay_steps.specs.declared.ended.Ended.TheVariants as ended
 use Rattle.replay_steps.specs.declared.ended.Untold.{Untold}
 use Rattle.replay_steps.specs.declared.ended.Untold.TheVariants as untold
-use Rattle.replay_steps.specs.declared.stepping.Stepped.{Stepped}
-use Rattle.replay_steps.specs.declared.stepping.Stepped.TheVariants as stepped
-use Rattle.replay_steps.specs.Steps.{Course, at_first, after, calls_devices, Makes, IsFaulty, OfStep, Plays, Stops}
-use Rattle.replay_steps.specs.Written.{Wrote, written, unwritten, EndsFor, ended_by, DidTell, DidPrint, DidStep, Played, Demands, FailsAt, PlayedSome, DidSteps, DidEnd, DidFinish, PlayedAnd, DidWrite, DidPlay, DidReplay, Replays}
+use Rattle.replay_steps.specs.declared.step.Stepped.{Stepped}
+use Rattle.replay_steps.specs.declared.step.Stepped.TheVariants as stepped
+use Rattle.replay_steps.specs.Steps.{Course, at_first, course_after, calls_devices, Makes, IsFaulty, OfStep, Plays, Stops}
+use Rattle.replay_steps.specs.Output.{Wrote, written, unwritten, EndsUnwritten, ended_untold, DidTell, DidPrint, DidStep, Played, Demands, FailsAt, PlayedSome, DidSteps, DidEnd, DidFinish, PlayedAnd, DidWrite, DidPlay, DidReplay, Replays}
 use Rattle.replay_steps.proofs.Courses.{plays_more}
 
 -- Writes of which something holds.
 
 -- none
-pub wrote_none : (told : Option (List WriteCall)) (P : List WriteCall → Type 0) → P [] → Wrote told told P
-wrote_none told P here = record { writes = []; holds = here; told = gained_none told (λ more. more ≡ []) refl }
+pub wrote_none : (log : Option (List WriteCall)) (P : List WriteCall → Type 0) → P [] → Wrote log log P
+wrote_none log P here = record { writes = []; holds = here; log = gained_none log (λ more. more ≡ []) refl }
 
 -- one
 pub wrote_one : (old new : Option (List WriteCall)) (call : WriteCall) (P : List WriteCall → Type 0) → Gains old new call → P (call ∷ []) → Wrote old new P
-wrote_one old new call P gains here = record { writes = call ∷ []; holds = here; told = gained_one old new call (λ more. more ≡ call ∷ []) gains refl }
+wrote_one old new call P gains here = record { writes = call ∷ []; holds = here; log = gained_one old new call (λ more. more ≡ call ∷ []) gains refl }
 
 -- some, and then more
 pub wrote_both : (first second third : Option (List WriteCall)) (P Q R : List WriteCall → Type 0) → ((xs ys : List WriteCall) → P xs → Q ys → R (xs ++ ys))
     → Wrote first second P → Wrote second third Q → Wrote first third R
-wrote_both first second third P Q R join before after = record {
-  writes = before.writes ++ after.writes;
-  holds = join before.writes after.writes before.holds after.holds;
-  told = gained_both first second third (λ more. more ≡ before.writes) (λ more. more ≡ after.writes) (λ more. more ≡ before.writes ++ after.writes)
-      (λ xs ys p q. ap (λ (zs : List WriteCall). zs ++ ys) p ∙ ap (λ (zs : List WriteCall). before.writes ++ zs) q) before.told after.told;
+wrote_both first second third P Q R join before course_after = record {
+  writes = before.writes ++ course_after.writes;
+  holds = join before.writes course_after.writes before.holds course_after.holds;
+  log = gained_both first second third (λ more. more ≡ before.writes) (λ more. more ≡ course_after.writes) (λ more. more ≡ before.writes ++ course_after.writes)
+      (λ xs ys p q. ap (λ (zs : List WriteCall). zs ++ ys) p ∙ ap (λ (zs : List WriteCall). before.writes ++ zs) q) before.log course_after.log;
 }
 
 -- what holds of them, said in another way
 pub wrote_less : (old new : Option (List WriteCall)) (P Q : List WriteCall → Type 0) → ((xs : List WriteCall) → P xs → Q xs) → Wrote old new P → Wrote old new Q
-wrote_less old new P Q less wrote = record { writes = wrote.writes; holds = less wrote.writes wrote.holds; told = wrote.told }
+wrote_less old new P Q less wrote = record { writes = wrote.writes; holds = less wrote.writes wrote.holds; log = wrote.log }
 
 -- One line.
 
-module _ {S : Type 0} (told : S → Option (List WriteCall)) (event : Printed) (old new : S) (Told : Ended → List WriteCall → Type 0) where
+module _ {S : Type 0} (log : S → Option (List WriteCall)) (event : Printed) (old new : S) (Told : Ended → List WriteCall → Type 0) where
   -- a line that was not written ends the replay
-  pub not_written : (why : WriteFault) (end : Ended) → EndsFor why end → (why ≡ fault.OutOfMemory → new ≡ old)
-      → (why ≡ fault.Failed → Gains (told old) (told new) (unwritten event)) → Told ended.OutOfMemory [] → Told ended.PrintFault (unwritten event ∷ []) → Wrote (told old) (told new) (Told end)
+  pub not_written : (why : WriteFault) (end : Ended) → EndsUnwritten why end → (why ≡ fault.OutOfMemory → new ≡ old)
+      → (why ≡ fault.Failed → Gains (log old) (log new) (unwritten event)) → Told ended.OutOfMemory [] → Told ended.PrintFault (unwritten event ∷ []) → Wrote (log old) (log new) (Told end)
   not_written fault.OutOfMemory end is same failed memory fault =
-      subst (λ (e : Ended). Wrote (told old) (told new) (Told e)) (sym is)
-      (subst (λ (s : S). Wrote (told old) (told s) (Told ended.OutOfMemory)) (sym (same refl)) (wrote_none (told old) (Told ended.OutOfMemory) memory))
+      subst (λ (e : Ended). Wrote (log old) (log new) (Told e)) (sym is)
+      (subst (λ (s : S). Wrote (log old) (log s) (Told ended.OutOfMemory)) (sym (same refl)) (wrote_none (log old) (Told ended.OutOfMemory) memory))
   not_written fault.Failed end is same failed memory fault =
-      subst (λ (e : Ended). Wrote (told old) (told new) (Told e)) (sym is)
-      (wrote_one (told old) (told new) (unwritten event) (Told ended.PrintFault) (failed refl) fault)
+      subst (λ (e : Ended). Wrote (log old) (log new) (Told e)) (sym is)
+      (wrote_one (log old) (log new) (unwritten event) (Told ended.PrintFault) (failed refl) fault)
 
 -- Several steps.
 
@@ -85,7 +85,7 @@ last_failed xs ys prints event p q = ap (λ (zs : List WriteCall). zs ++ ys) p �
 module _ (config : Config) (seed : ℕ) (before : List Step) (r : Course) (s : Step) (new : Course) (line : ℕ) where
   -- a step, after which the replay goes on
   pub went_on : (did : Stepped) → OfStep config seed r s did new → (xs ys : List WriteCall) → PlayedTo config seed before r xs → DidStep did line None ys
-      → PlayedTo config seed (before ++ s ∷ []) (after s new) (xs ++ ys)
+      → PlayedTo config seed (before ++ s ∷ []) (course_after s new) (xs ++ ys)
   went_on stepped.Quiet makes xs ys x y = record {
     prints = x.prints ++ [];
     plays = plays_more config seed before at_first x.prints r s [] new x.plays makes;
@@ -97,7 +97,7 @@ module _ (config : Config) (seed : ℕ) (before : List Step) (r : Course) (s : S
     writes_are = both_written xs ys x.prints (event_of e ∷ []) x.writes_are y;
   }
   went_on stepped.Faulty makes xs ys x y = absurd y
-  went_on (stepped.Untold why) makes xs ys x y = absurd (let k : None ≡ Some (ended_by why) = y.0 in cc)
+  went_on (stepped.Untold why) makes xs ys x y = absurd (let k : None ≡ Some (ended_untold why) = y.0 in cc)
 
   -- a step by which the replay ends
   module _ (steps behind : List Step) (steps_are : steps ≡ before ++ s ∷ behind) (l : List Entry) (line_is : line ≡ length before + 1) (entries_are : new.entries ≡ l) where
@@ -158,7 +158,7 @@ module _ (config : Config) (seed : ℕ) (before : List Step) (r : Course) (s : S
     told_faulty ended.DeviceFault xs ys x faulty same y = absurd y
 
     untold_there : (why : Untold) → (stepped.Untold why ≡ stepped.Untold untold.DeviceFault → calls_devices s ≡ true) → (xs ys : List WriteCall) → PlayedTo config seed before r xs → ys ≡ []
-        → DidSteps config seed steps l (Some (ended_by why)) (xs ++ ys)
+        → DidSteps config seed steps l (Some (ended_untold why)) (xs ++ ys)
     untold_there untold.OutOfMemory differs xs ys x none = ended_there xs ys x none
     untold_there untold.DeviceFault differs xs ys x none = record {
       before = before;
@@ -265,9 +265,9 @@ module _ (config : Config) (seed : ℕ) (steps : List Step) (l : List Entry) whe
 
 -- what was read with it
 pub replays : (config : Config) (seed : ℕ) (steps : List Step) (how : Ending) (end : Ended) (read read_now : Option (List LineCall)) (wrote wrote_now : Option (List WriteCall))
-    → Gained read read_now (Reads steps how) → Wrote wrote wrote_now (DidPlay config seed steps how end) → Replays config seed end read read_now wrote wrote_now
+    → Gained read read_now (ReadsScript steps how) → Wrote wrote wrote_now (DidPlay config seed steps how end) → Replays config seed end read read_now wrote wrote_now
 replays config seed steps how end read read_now wrote wrote_now reads w = by_end end
-    (record { steps = steps; how = how; writes = w.writes; did = w.holds; reads_are = reads; writes_are = w.told })
+    (record { steps = steps; how = how; writes = w.writes; did = w.holds; reads_are = reads; writes_are = w.log })
   where
     by_end : (e : Ended) → DidReplay config seed e read read_now wrote wrote_now → Replays config seed e read read_now wrote wrote_now
     by_end ended.Finished did = did

@@ -8,26 +8,26 @@ use Rattle.port_pool.specs.Ports.{pair_count, half_port}
 use Rattle.call_cell.specs.Cells.{Receipt}
 use Rattle.port_pool.specs.Boxes.{holder}
 use Rattle.relay_core.specs.Entries.{Entry, box_of, box_history}
-use Rattle.relay_core.specs.Turning.{IsAbove}
-use Rattle.media_lane.specs.Steps.{IsIn, AreApart}
-use Rattle.replay_steps.specs.declared.arriving.Arrived.{Arrived}
-use Rattle.replay_steps.specs.declared.arriving.Arrived.TheVariants as arrived
-use Rattle.replay_steps.specs.Holding.{taken_by}
+use Rattle.relay_core.specs.Turns.{IsAbove}
+use Rattle.media_lane.specs.Steps.{IsIn, AreOfTwoTakes}
+use Rattle.replay_steps.specs.declared.line_packet.Arrived.{Arrived}
+use Rattle.replay_steps.specs.declared.line_packet.Arrived.TheVariants as arrived
+use Rattle.replay_steps.specs.Receipts.{taken_with_pair}
 
 -- an end of a pair: the pair, and the half
 abbrev pub End : Type 0
 End = ℕ × Half
 
 -- an address of version 4: all pairs are of that family
-abbrev pub IsV4 : Ip → Type 0
-IsV4 (ip.V4 bytes) = Unit {0}
-IsV4 (ip.V6 bytes) = ⊥
+abbrev pub IsIpv4 : Ip → Type 0
+IsIpv4 (ip.V4 bytes) = Unit {0}
+IsIpv4 (ip.V6 bytes) = ⊥
 
 -- The end has this port, in the family of this address
 pub record IsEndAt (config : Config) (port : ℕ) (source : Ip) (e : End) : Type 0 where
   pub in_range : e.0 < pair_count config
   pub port_is : half_port config e.0 e.1 ≡ port
-  pub family : IsV4 source
+  pub family : IsIpv4 source
 
 -- no pair of the range has the port in that family
 abbrev pub IsNoEnd : Config → (port : ℕ) → Ip → Type 0
@@ -42,6 +42,6 @@ abbrev pub IsShutUnless : Config → List Entry → (pair : ℕ) → Type 0 → 
 IsShutUnless config l pair P = (P → ⊥) → (n : ℕ) → IsAbove l (box_of config pair) n → holder (box_history l (box_of config pair) n) ≡ None
 
 -- a packet that was taken is a receipt of the list after it, of another take than all receipts before
-abbrev pub IsGood : Config → List Entry → Arrived → List Entry → Type 0
-IsGood config l (arrived.Packet r) new = IsIn config new (taken_by r) × ((s : ℕ × Receipt) → IsIn config l s → AreApart (taken_by r) s)
-IsGood config l _ new = Unit {0}
+abbrev pub IsGoodArrival : Config → List Entry → Arrived → List Entry → Type 0
+IsGoodArrival config l (arrived.Packet r) new = IsIn config new (taken_with_pair r) × ((s : ℕ × Receipt) → IsIn config l s → AreOfTwoTakes (taken_with_pair r) s)
+IsGoodArrival config l _ new = Unit {0}

@@ -1,8 +1,8 @@
-pub mod Holding
+pub mod Receipts
 pub mod Arrivals
 pub mod Steps
-pub mod Watching
+pub mod WatchNotes
 pub mod Ready
 pub mod Moves
-pub mod Controlling
-pub mod Written
+pub mod ControlSteps
+pub mod Output

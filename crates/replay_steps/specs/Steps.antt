@@ -14,39 +14,39 @@ use Rattle.port_pool.specs.Boxes.{Taken, FitsTaken, holder}
 use Rattle.call_board.specs.Acts.{Call, BoardEntry}
 use Rattle.call_board.specs.Calls.{live}
 use Rattle.call_board.specs.Pairs.{free}
-use Rattle.call_board.specs.Views.{last_moment}
+use Rattle.call_board.specs.Views.{board_last_moment}
 use Rattle.call_cell.specs.declared.outcome.Outcome.{Outcome}
 use Rattle.call_cell.specs.Cells as cells
 use Rattle.call_cell.specs.Cells.{Sending}
-use Rattle.call_cell.specs.Standing.{sent_ok}
+use Rattle.call_cell.specs.LegHistories.{sent_ok}
 use Rattle.relay_core.specs.Entries.{Entry, board_entry, box_of, box_history}
 use Rattle.relay_core.specs.Legal.{Legal}
 use Rattle.relay_core.specs.Safe.{Safe}
-use Rattle.relay_core.specs.Made.{told}
-use Rattle.relay_core.specs.Turning.{IsAbove, IsTurn, with_turn}
+use Rattle.relay_core.specs.Records.{as_logged}
+use Rattle.relay_core.specs.Turns.{IsAbove, IsTurn, with_turn}
 use Rattle.board_turns.specs.Between.{board_of}
-use Rattle.board_turns.specs.Stopping.{stop_entry}
-use Rattle.board_turns.specs.Ticking.{IsDueBy, tick_entry}
-use Rattle.board_turns.specs.Controls.{Hearing, control_of, entry_at, moment_at}
-use Rattle.board_turns.specs.Giving.{draws_of}
-use Rattle.ng_server.specs.Taking.{is_too_long}
-use Rattle.media_ports.specs.Asked.{OpensAt}
+use Rattle.board_turns.specs.Stops.{stop_entry}
+use Rattle.board_turns.specs.Ticks.{IsDueBy, tick_entry}
+use Rattle.board_turns.specs.Controls.{RequestRecord, control_of, entry_at, moment_at}
+use Rattle.board_turns.specs.DeviceAnswers.{draws_of}
+use Rattle.ng_server.specs.ControlTurns.{is_too_long}
+use Rattle.media_ports.specs.Openings.{OpensAt}
 use Rattle.media_lane.specs.Steps.{take_entry, deed_after, RelaysBy}
 use Rattle.relay_script.specs.Steps as step
 use Rattle.relay_script.specs.Steps.{Step}
-use Rattle.relay_script.specs.Printing as event
-use Rattle.relay_script.specs.Printing.{Printed, event_of}
+use Rattle.relay_script.specs.EventLines as event
+use Rattle.relay_script.specs.EventLines.{Printed, event_of}
 use Rattle.replay_devices.specs.Steps as model
 use Rattle.replay_devices.specs.Devices.{Happening, Made, Opened, Drew, Replied, fails, send_answers, after_send, next_key}
 use Rattle.replay_devices.specs.Due.{stream_from}
 use Rattle.replay_devices.specs.Watch.{step_of}
 use Rattle.replay_steps.specs.Arrivals.{End, IsEndAt, IsNoEnd}
-use Rattle.replay_steps.specs.Holding.{Numbered, ReceiptList, taken_by}
+use Rattle.replay_steps.specs.Receipts.{NumberedReceipt, ReceiptList, taken_with_pair}
 use Rattle.replay_steps.specs.declared.ended.Untold.TheVariants as untold
-use Rattle.replay_steps.specs.declared.arriving.Arrived.{Arrived}
-use Rattle.replay_steps.specs.declared.arriving.Arrived.TheVariants as arrived
-use Rattle.replay_steps.specs.declared.stepping.Stepped.{Stepped}
-use Rattle.replay_steps.specs.declared.stepping.Stepped.TheVariants as stepped
+use Rattle.replay_steps.specs.declared.line_packet.Arrived.{Arrived}
+use Rattle.replay_steps.specs.declared.line_packet.Arrived.TheVariants as arrived
+use Rattle.replay_steps.specs.declared.step.Stepped.{Stepped}
+use Rattle.replay_steps.specs.declared.step.Stepped.TheVariants as stepped
 
 -- a packet, and the pair whose box it was taken from
 abbrev pub Packet : Type 0
@@ -66,8 +66,8 @@ pub record Course : Type 0 where
 abbrev pub at_first : Course
 at_first = record { entries = []; held = []; received = 0; clock = 0; past = [] }
 
-abbrev pub at_moment : ℕ → Course → Course
-at_moment moment r = record { entries = r.entries; held = r.held; received = r.received; clock = moment; past = r.past }
+abbrev pub course_at_moment : ℕ → Course → Course
+course_at_moment moment r = record { entries = r.entries; held = r.held; received = r.received; clock = moment; past = r.past }
 
 abbrev pub with_entries : List Entry → Course → Course
 with_entries l r = record { entries = l; held = r.held; received = r.received; clock = r.clock; past = r.past }
@@ -84,16 +84,16 @@ abbrev pub left_with : List (ℕ × Packet) → List Entry → Course → Course
 left_with held l r = record { entries = l; held = held; received = r.received; clock = r.clock; past = r.past }
 
 -- a receipt that is held, as its packet
-abbrev pub packet_under : Numbered → ℕ × Packet
-packet_under h = (h.0, taken_by h.1)
+abbrev pub packet_under : NumberedReceipt → ℕ × Packet
+packet_under h = (h.0, taken_with_pair h.1)
 
 -- where a replay is with this list, these receipts and this clock, and with what happened
 abbrev pub course_of : List Entry → ReceiptList → (clock : ℕ) → List Happening → Course
 course_of l receipts clock past = record { entries = l; held = map packet_under receipts.list; received = receipts.received; clock = clock; past = past }
 
 -- the step of a line was made
-abbrev pub after : Step → Course → Course
-after s r = with_past (Made (step_of s) ∷ r.past) r
+abbrev pub course_after : Step → Course → Course
+course_after s r = with_past (Made (step_of s) ∷ r.past) r
 
 -- One turn of the board, with this entry.
 pub record TurnsBoard (config : Config) (l : List Entry) (e : BoardEntry) (new : List Entry) : Type 0 where
@@ -110,7 +110,7 @@ abbrev pub filled : List ℕ → List ℕ
 filled bytes = take 16385 bytes
 
 -- what is recorded is the cookie and the body of a datagram from that source
-pub record IsHeard (x : Hearing) (source : Addr) (bytes : List ℕ) : Type 0 where
+pub record IsRecordFrom (x : RequestRecord) (source : Addr) (bytes : List ℕ) : Type 0 where
   pub source_is : x.source ≡ source
   pub framed : frame bytes ≡ Some (x.cookie, x.body)
   pub length_is : x.too_long ≡ is_too_long bytes
@@ -124,8 +124,8 @@ Replying false source reply e = e ≡ event.Reply source reply
 -- moment for what is recorded. The port maker's openings in the turn are those that the entry tells, with their results: of the ports of the
 -- pairs that were free before it, from the front, pair by pair, that for RTP first. The draws of the key source are those that the entry tells
 pub record Answers (config : Config) (clock : ℕ) (l : List Entry) (source : Addr) (bytes : List ℕ) (failing : Bool) (opened : List PortCall) (drawn : List KeyCall) (e : Printed) (new : List Entry) : Type 0 where
-  pub heard : Hearing
-  pub is_heard : IsHeard heard source bytes
+  pub heard : RequestRecord
+  pub is_heard : IsRecordFrom heard source bytes
   pub turns : TurnsBoard config l (entry_at config (board_of l) (moment_at (board_of l) clock) heard) new
   pub opens : OpensAt config (free config (board_of l)) heard.given.opens opened
   pub draws : drawn ≡ draws_of heard.given
@@ -193,7 +193,7 @@ FailsSo (box.TooLong source bytes) failing = failing ≡ false
 FailsSo box.Fault failing = failing ≡ true
 
 -- one take was made at the end of the port, and gave no packet: Closed exactly where the box has no holder
-pub record TakesNone (config : Config) (l : List Entry) (port : ℕ) (source : Addr) (bytes : List ℕ) (failing : Bool) (e : Printed) (new : List Entry) : Type 0 where
+pub record TakesNoPacket (config : Config) (l : List Entry) (port : ℕ) (source : Addr) (bytes : List ℕ) (failing : Bool) (e : Printed) (new : List Entry) : Type 0 where
   pub end : End
   pub at : IsEndAt config port source.ip end
   pub number : ℕ
@@ -207,7 +207,7 @@ pub record TakesNone (config : Config) (l : List Entry) (port : ℕ) (source : A
 -- no packet was taken: no end has the port, or the one take at it gave none
 abbrev pub Misses : Config → List Entry → (port : ℕ) → Addr → (bytes : List ℕ) → (failing : Bool) → Printed → List Entry → Type 0
 Misses config l port source bytes failing e new =
-    (IsNoEnd config port source.ip × (e ≡ event.Nothing) × (new ≡ l)) ⊎ TakesNone config l port source bytes failing e new
+    (IsNoEnd config port source.ip × (e ≡ event.Nothing) × (new ≡ l)) ⊎ TakesNoPacket config l port source bytes failing e new
 
 -- the one send of a relay, if it made one, failed just where the lines ask for it
 abbrev pub SendsAsked : Config → Outcome → Option Sending → (old new : List Happening) → Type 0
@@ -244,7 +244,7 @@ pub record TakesOther (config : Config) (l : List Entry) (port : ℕ) (source : 
 
 -- the same of what an arrival came to, whose take has to fail or not. Without memory nothing is said
 abbrev pub Arrives : Config → List Entry → (port : ℕ) → Addr → List ℕ → (failing : Bool) → Arrived → List Entry → Type 0
-Arrives config l port source bytes failing (arrived.Packet r) new = (failing ≡ false) × TakesPacket config l port source bytes (taken_by r) new
+Arrives config l port source bytes failing (arrived.Packet r) new = (failing ≡ false) × TakesPacket config l port source bytes (taken_with_pair r) new
 Arrives config l port source bytes failing (arrived.Printed e) new = Misses config l port source bytes failing (event_of e) new
 Arrives config l port source bytes failing (arrived.Untold untold.OutOfMemory) new = Unit {0}
 Arrives config l port source bytes failing (arrived.Untold untold.DeviceFault) new = TakesOther config l port source bytes failing new
@@ -256,7 +256,7 @@ Arrives config l port source bytes failing (arrived.Untold untold.DeviceFault) n
 pub record TicksAt (config : Config) (clock : ℕ) (l : List Entry) (e : Printed) (new : List Entry) : Type 0 where
   pub calls : List Call
   pub turns : TurnsBoard config l (tick_entry (board_of l) clock calls) new
-  pub due : (c : Call) → In c (live (board_of l)) → IsDueBy config l c.cell (max clock (last_moment (board_of l))) (has (map (λ (d : Call). d.number) calls) c.number)
+  pub due : (c : Call) → In c (live (board_of l)) → IsDueBy config l c.cell (max clock (board_last_moment (board_of l))) (has (map (λ (d : Call). d.number) calls) c.number)
   pub printed : e ≡ event.Ended (length calls)
 
 -- Steps.
@@ -329,7 +329,7 @@ pub record EndsDueCalls (config : Config) (r : Course) (e : Printed) (new : Cour
 -- not noted yet
 abbrev pub Makes : Config → (seed : ℕ) → Course → Step → List Printed → Course → Type 0
 Makes config seed r step.Skip prints new = IsQuiet r prints new
-Makes config seed r (step.At moment) prints new = (prints ≡ []) × (new ≡ at_moment moment r)
+Makes config seed r (step.At moment) prints new = (prints ≡ []) × (new ≡ course_at_moment moment r)
 Makes config seed r (step.Key bytes) prints new = IsQuiet r prints new
 Makes config seed r (step.Fail kind count) prints new = IsQuiet r prints new
 Makes config seed r (step.FailSend port count) prints new = IsQuiet r prints new
@@ -370,12 +370,12 @@ OfStep config seed r s (stepped.Untold why) new = Unit {0}
 abbrev pub Plays : Config → (seed : ℕ) → List Step → Course → List Printed → Course → Type 0
 Plays config seed [] r prints new = (prints ≡ []) × (new ≡ r)
 Plays config seed (s ∷ steps) r prints new =
-    (between : Course) × (first rest : List Printed) × (prints ≡ first ++ rest) × Makes config seed r s first between × Plays config seed steps (after s between) rest new
+    (between : Course) × (first rest : List Printed) × (prints ≡ first ++ rest) × Makes config seed r s first between × Plays config seed steps (course_after s between) rest new
 
 -- A stop after these entries: one more turn of the board, which ends all calls. The entries and those of the stop are what a table
 -- records of a list that is legal, and so safe
 pub record Stops (config : Config) (l : List Entry) : Type 0 where
   pub all : List Entry
-  pub stopped : TurnsBoard config l (stop_entry (board_of l)) (map told all)
+  pub stopped : TurnsBoard config l (stop_entry (board_of l)) (map as_logged all)
   pub legal : Legal config all
   pub safe : Safe config all

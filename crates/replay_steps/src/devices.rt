@@ -23,7 +23,7 @@ impl<'a> Devices<'a> {
         timetable: &'a Timetable<'a>,
         seed: u64,
     ) -> Result<Devices<'a>, OutOfMemory>
-        ensures { IfOk result (λ devices. devices.ports.told ≡ Some []) }
+        ensures { IfOk result (λ devices. devices.ports.log ≡ Some []) }
     {
         let link = ReplayLink::new(alloc, steps)?;
         let ports = ReplayPorts::new(alloc, timetable)?;
@@ -33,7 +33,7 @@ impl<'a> Devices<'a> {
 
     /// The line of this index, from 0, is made next.
     pub(crate) fn begin(&mut self, index: usize)
-        ensures ports { self.new.ports.told ≡ self.old.ports.told }
+        ensures ports { self.new.ports.log ≡ self.old.ports.log }
     {
         self.link.begin(index);
         self.ports.begin(index);
@@ -42,14 +42,14 @@ impl<'a> Devices<'a> {
 
     /// Whether all of them still tell their lists.
     pub(crate) fn tell(&self) -> bool
-        ensures { IsTrue result → IsSome self.now.link.told × IsSome self.now.ports.told × IsSome self.now.keys.told }
+        ensures { IsTrue result → IsSome self.now.link.log × IsSome self.now.ports.log × IsSome self.now.keys.log }
     {
         self.link.tells() && self.ports.tells() && self.keys.tells()
     }
 
     /// Why one of them didn't do as the script says: it tells nothing any more, for want of memory, or it did otherwise.
     pub(crate) fn cause(&self) -> Untold
-        ensures { result ≡ Untold.DeviceFault → IsSome self.now.link.told × IsSome self.now.ports.told × IsSome self.now.keys.told }
+        ensures { result ≡ Untold.DeviceFault → IsSome self.now.link.log × IsSome self.now.ports.log × IsSome self.now.keys.log }
     {
         if self.tell() {
             Untold::DeviceFault

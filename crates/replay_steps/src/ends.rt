@@ -1,13 +1,13 @@
 //! Which end of a pair has a port.
 ghost use Rattle.std.specs.Prelude.{◌≡◌, ◌<◌, ◌+◌, ◌*◌, MatchBool};
-ghost use Rattle.replay_steps.specs.Arrivals.{HasEnd, IsV4};
+ghost use Rattle.replay_steps.specs.Arrivals.{HasEnd, IsIpv4};
 
 use relay_outside::{Config, Ip};
 use rtp_packet::Half;
 
 /// Whether an address is one of version 4.
 fn is_v4(ip: Ip) -> bool
-    ensures { MatchBool result (IsV4 ip) (IsV4 ip → ⊥) }
+    ensures { MatchBool result (IsIpv4 ip) (IsIpv4 ip → ⊥) }
 {
     match ip {
         Ip::V4(_) => true,

@@ -1,6 +1,6 @@
 //! What a replay is made with, and what it carries from step to step.
 use crate::devices::Devices;
-use crate::held::Receipts;
+use crate::receipts::Receipts;
 use ng_server::{Desk, Server};
 use relay_core::Relay;
 use relay_outside::Config;

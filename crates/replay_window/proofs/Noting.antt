@@ -9,12 +9,12 @@ use Rattle.std.proofs.lemmas.Bool.{cases_eq, cases_lt}
 use Rattle.std.proofs.lemmas.Nat.Bits.{bit_at_or, bit_at-pow_same, bit_at-pow_other, bit_at-zero, bit_at-lt}
 use Rattle.replay_window.specs.declared.answers.Fresh.{Fresh}
 use Rattle.replay_window.specs.declared.answers.Fresh.TheVariants.{Yes, TooOld, Used}
-use Rattle.replay_window.specs.Indices.{greatest, is_too_old, is_noted, fresh}
+use Rattle.replay_window.specs.Indices.{greatest_index, is_too_old, is_noted, fresh}
 use Rattle.replay_window.specs.Windows.{BitsTell}
 
 -- the greatest index, or 0 where there is none
 abbrev pub top_of : List ℕ → ℕ
-top_of noted = unwrap_or (greatest noted) 0
+top_of noted = unwrap_or (greatest_index noted) 0
 
 -- no noted index is above the greatest
 noted_below : (noted : List ℕ) (index : ℕ) → is_noted noted index ≡ true → index ≤ top_of noted
@@ -73,7 +73,7 @@ tell_one index k within below = elim (cases_lt 0 k) [
 ]
 
 -- a list without a greatest index is empty
-pub tell_first : (noted : List ℕ) (index : ℕ) → greatest noted ≡ None → BitsTell 1 (index ∷ noted)
+pub tell_first : (noted : List ℕ) (index : ℕ) → greatest_index noted ≡ None → BitsTell 1 (index ∷ noted)
 tell_first [] index none = tell_one index
 tell_first (first ∷ noted) index none = cc
 
@@ -124,7 +124,7 @@ tell_below noted index behind bits marked below tell set others k within under =
 
 -- ---- which indices are fresh
 
-pub fresh_first : (noted : List ℕ) (index : ℕ) → greatest noted ≡ None → Yes ≡ fresh noted index
+pub fresh_first : (noted : List ℕ) (index : ℕ) → greatest_index noted ≡ None → Yes ≡ fresh noted index
 unfolding fresh
 fresh_first [] index none = refl
 fresh_first (first ∷ noted) index none = absurd (cc)
@@ -132,7 +132,7 @@ fresh_first (first ∷ noted) index none = absurd (cc)
 pub fresh_above : (noted : List ℕ) (index : ℕ) → top_of noted < index → Yes ≡ fresh noted index
 unfolding fresh
 fresh_above noted index above =
-    sym (by_tests (is_too_old noted index) (is_noted noted index) (not_behind (greatest noted) index above) (unnoted_above noted index above))
+    sym (by_tests (is_too_old noted index) (is_noted noted index) (not_behind (greatest_index noted) index above) (unnoted_above noted index above))
   where
     not_behind : (top : Option ℕ) (index : ℕ) → unwrap_or top 0 < index → option_map_or (λ t. nat_le (index + 128) t) top false ≡ false
     not_behind None index is = refl
@@ -144,7 +144,7 @@ fresh_above noted index above =
 -- an index that is fresh is less than 128 behind the greatest
 pub fresh_near : (noted : List ℕ) (index : ℕ) → fresh noted index ≡ Yes → top_of noted < index + 128
 unfolding fresh
-fresh_near noted index is = near (greatest noted) index (cases (is_too_old noted index) (is_noted noted index) is)
+fresh_near noted index is = near (greatest_index noted) index (cases (is_too_old noted index) (is_noted noted index) is)
   where
     cases : (old known : Bool) → ◌≡◌ {A = Fresh} (if old then TooOld else if known then Used else Yes) Yes → old ≡ false
     cases true known is = cc

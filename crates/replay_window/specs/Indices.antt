@@ -9,9 +9,9 @@ use Rattle.replay_window.specs.declared.answers.Fresh.{Fresh}
 use Rattle.replay_window.specs.declared.answers.Fresh.TheVariants.{Yes, TooOld, Used}
 
 -- the greatest of the noted indices, where there is one
-abbrev pub greatest : List ℕ → Option ℕ
-greatest [] = None
-greatest (index ∷ noted) = Some (max index (unwrap_or (greatest noted) 0))
+abbrev pub greatest_index : List ℕ → Option ℕ
+greatest_index [] = None
+greatest_index (index ∷ noted) = Some (max index (unwrap_or (greatest_index noted) 0))
 
 -- the distance of two numbers
 abbrev pub distance : ℕ → ℕ → ℕ
@@ -44,11 +44,11 @@ as_index lifted =
 
 -- the index that a sequence number most likely stands for
 unfoldable pub near : List ℕ → ℕ → Near
-near noted seq = option_map_or (λ top. as_index (nearest_lifted top seq)) (greatest noted) (At seq)
+near noted seq = option_map_or (λ top. as_index (nearest_lifted top seq)) (greatest_index noted) (At seq)
 
 -- an index that lies 128 or more behind the greatest
 abbrev pub is_too_old : List ℕ → ℕ → Bool
-is_too_old noted index = option_map_or (λ top. nat_le (index + 128) top) (greatest noted) false
+is_too_old noted index = option_map_or (λ top. nat_le (index + 128) top) (greatest_index noted) false
 
 abbrev pub is_noted : List ℕ → ℕ → Bool
 is_noted noted index = list_any (λ other. other == index) noted

@@ -29,11 +29,11 @@ impl Window {
     ghost use Rattle.std.specs.Prelude.{ℕ, List, [], ◌∷◌};
     ghost use Rattle.replay_window.specs.declared.answers.Fresh.TheVariants.{Yes};
     ghost use Rattle.replay_window.specs.Indices.{near, fresh};
-    ghost use Rattle.replay_window.specs.Windows.{StandsFor, IsIndex};
+    ghost use Rattle.replay_window.specs.Windows.{WindowStandsFor, IsIndex};
 
     /// A window in which nothing was noted.
     pub fn new() -> Window
-        ensures { StandsFor result [] }
+        ensures { WindowStandsFor result [] }
     {
         Window {
             greatest: None,
@@ -45,7 +45,7 @@ impl Window {
     /// cycle, and `seq` itself where nothing was noted.
     #[tactic(auto, unfolding(crate::specs::Indices::near))]
     pub fn near(&self, seq: u16) -> Near
-        ensures nearest { (noted : List ℕ) → StandsFor self.now noted → result ≡ near noted seq }
+        ensures nearest { (noted : List ℕ) → WindowStandsFor self.now noted → result ≡ near noted seq }
         ensures index { IsIndex result }
     {
         let seq = u64::from(seq);
@@ -59,7 +59,7 @@ impl Window {
     #[tactic(auto, unfolding(crate::specs::Indices::fresh))]
     pub fn fresh(&self, index: u64) -> Fresh
         requires { index < 2 ^ 48 }
-        ensures { (noted : List ℕ) → StandsFor self.now noted → result ≡ fresh noted index }
+        ensures { (noted : List ℕ) → WindowStandsFor self.now noted → result ≡ fresh noted index }
     {
         let Some(greatest) = self.greatest else {
             return Fresh::Yes;
@@ -81,7 +81,7 @@ impl Window {
     /// An index that is older than the window is not marked, which is safe.
     pub fn note(&mut self, index: u64)
         requires { index < 2 ^ 48 }
-        ensures { (noted : List ℕ) → StandsFor self.old noted → fresh noted index ≡ Yes → StandsFor self.new (index ∷ noted) }
+        ensures { (noted : List ℕ) → WindowStandsFor self.old noted → fresh noted index ≡ Yes → WindowStandsFor self.new (index ∷ noted) }
     {
         match self.greatest {
             None => {

@@ -1,6 +1,6 @@
 ghost use Rattle.std.specs.Prelude.{◌≡◌, map};
 ghost use Rattle.rand_chacha.specs.ChaCha.{key_of};
-ghost use Rattle.relay_outside.specs.Told.{Rose};
+ghost use Rattle.relay_outside.specs.DeviceLogs.{Rose};
 ghost use Rattle.command_line.specs.Words.{settings, replay_settings, load_settings};
 ghost use Rattle.relay_app.specs.Run.{StatusByWords};
 

@@ -19,11 +19,11 @@ pub(crate) enum Ending {
 impl Ending {
     ghost use Rattle.std.specs.Prelude.{◌≡◌};
     ghost use Rattle.std.specs.Process.{exit_status};
-    ghost use Rattle.rtpengine.specs.Endings.{ending_number, status_of};
+    ghost use Rattle.rtpengine.specs.Endings.{ending_number, ending_status};
 
     /// The ending of a run with these words, which ended with this status, and whose control link met this.
     pub(crate) fn of_run(words: &[&str], status: Status, fault: Option<LinkFault>) -> Ending
-        ensures { status_of result ≡ status }
+        ensures { ending_status result ≡ status }
     {
         match words.first() {
             Some(&"replay") => Ending::Replayed(status),

@@ -4,10 +4,10 @@
 #![tactic(auto)]
 
 ghost use Rattle.std.specs.Prelude.{◌≡◌, ◌⊎◌, IfOk, Some, map};
-ghost use Rattle.command_line.specs.Values.{media};
+ghost use Rattle.command_line.specs.Values.{media_settings};
 ghost use Rattle.command_line.specs.Words.{settings, replay_settings, load_settings};
 ghost use Rattle.relay_app.specs.Run.{StatusByWords};
-ghost use Rattle.rtpengine.specs.Endings.{status_of};
+ghost use Rattle.rtpengine.specs.Endings.{ending_status};
 
 mod devices;
 mod endings;
@@ -52,7 +52,7 @@ fn texts_of(alloc: Global, words: &Vec<String>) -> Result<Vec<&str>, AllocError>
 
 /// What the words say of media; without words of `serve`, or out of memory, no threads and no pairs: then no socket is opened.
 fn media_of<'a>(alloc: Global, words: &'a [&'a str]) -> Media
-    ensures { (media (settings (map (λ word. word.now) words.entry.now)) ≡ Some result) ⊎ (result ≡ record { threads = 0; pairs = 0; first_port = 0 }) }
+    ensures { (media_settings (settings (map (λ word. word.now) words.entry.now)) ≡ Some result) ⊎ (result ≡ record { threads = 0; pairs = 0; first_port = 0 }) }
 {
     match read_media(alloc, words) {
         Some(media) => media,
@@ -70,7 +70,7 @@ fn run_with<R, B>(rt: &R, alloc: Global, words: &[&str], seed: [u8; 32], input: 
 where
     R: Threads + Wait + Sync + Net + Clock + Print + Eprint,
     B: BufRead + Drop,
-    ensures { StatusByWords (settings (map (λ word. word.now) words.now)) (replay_settings (map (λ word. word.now) words.now)) (load_settings (map (λ word. word.now) words.now)) (status_of result) }
+    ensures { StatusByWords (settings (map (λ word. word.now) words.now)) (replay_settings (map (λ word. word.now) words.now)) (load_settings (map (λ word. word.now) words.now)) (ending_status result) }
 {
     let media = media_of(alloc, words);
     let share = LaneShare::of_pairs(media.threads, media.pairs);
@@ -86,7 +86,7 @@ where
 fn start<R>(rt: &R, alloc: Global, words: &Vec<String>) -> Ending
 where
     R: Threads + Wait + Sync + Net + Clock + RandomSource + Input + Print + Eprint,
-    ensures { StatusByWords (settings (map (λ word. word.bytes.items) words.now.items)) (replay_settings (map (λ word. word.bytes.items) words.now.items)) (load_settings (map (λ word. word.bytes.items) words.now.items)) (status_of result) }
+    ensures { StatusByWords (settings (map (λ word. word.bytes.items) words.now.items)) (replay_settings (map (λ word. word.bytes.items) words.now.items)) (load_settings (map (λ word. word.bytes.items) words.now.items)) (ending_status result) }
 {
     let Ok(texts) = texts_of(alloc, words) else {
         return Ending::NoMemory;

@@ -8,15 +8,15 @@ use Rattle.relay_outside.specs.declared.lines.WriteCall.TheVariants.{Write}
 use Rattle.relay_outside.specs.declared.link.LinkCall.{LinkCall}
 use Rattle.relay_outside.specs.declared.link.LinkCall.TheVariants as call
 use Rattle.relay_outside.specs.declared.link.LinkGiven.TheVariants as given
-use Rattle.relay_outside.specs.Told.{Gained}
+use Rattle.relay_outside.specs.DeviceLogs.{Gained}
 use Rattle.command_line.specs.declared.settings.Settings.{Settings}
 use Rattle.media_lane.specs.Visits.{Row}
 use Rattle.relay_runs.specs.declared.status.Status.{Status}
 use Rattle.relay_runs.specs.declared.status.Status.TheVariants as status
-use Rattle.relay_runs.specs.Rounds.{Round, AreRounds}
+use Rattle.relay_runs.specs.Rounds.{ControlRound, AreControlRounds}
 use Rattle.relay_runs.specs.Run.{Serves, DidRun}
-use Rattle.relay_runs.specs.Served.{Outside, AreExchanges, AreCalls, HasEnded, counts_in, last_take, totals_line}
-use Rattle.run_laws.specs.Causes.{ReachesEnd, IsCausedBy, HasFailed}
+use Rattle.relay_runs.specs.ServeRuns.{Outside, AreExchanges, AreCalls, HasEnded, counts_in, last_take, totals_line}
+use Rattle.run_laws.specs.Causes.{ReachesEnd, IsCausedBy, WritesFailed}
 use Rattle.run_laws.proofs.Ends.{last, not_bind, not_failed, in_none, not_among, in_rounds}
 
 -- what a device that tells its calls gained
@@ -34,8 +34,8 @@ same e f = ap f e
 abbrev bound : Settings → List LinkCall
 bound settings = call.Bind settings.listen true ∷ []
 
-not_ended : (settings : Settings) (threads : ℕ) (range : Option (ℕ × ℕ)) (rounds : List Round) (rows : List Row) (more ends calls : List LinkCall)
-    → AreRounds settings.config threads range rounds rows → AreExchanges settings.config rounds more → calls ≡ bound settings ++ more ++ ends → (ReachesEnd ends → ⊥) → ReachesEnd calls → ⊥
+not_ended : (settings : Settings) (threads : ℕ) (range : Option (ℕ × ℕ)) (rounds : List ControlRound) (rows : List Row) (more ends calls : List LinkCall)
+    → AreControlRounds settings.config threads range rounds rows → AreExchanges settings.config rounds more → calls ≡ bound settings ++ more ++ ends → (ReachesEnd ends → ⊥) → ReachesEnd calls → ⊥
 not_ended settings threads range rounds rows more ends calls are made is none i =
     elim (in_append (bound settings ++ more) ends (subst (λ (l : List LinkCall). ReachesEnd l) is i)) [
       | inl front ↦ elim (in_append (bound settings) more front) [
@@ -45,8 +45,8 @@ not_ended settings threads range rounds rows more ends calls are made is none i 
       | inr back ↦ none back
     ]
 
-by_status : (settings : Settings) (threads : ℕ) (range : Option (ℕ × ℕ)) (rounds : List Round) (rows : List Row) (calls : List LinkCall) (turns : ℕ) (ended : Status)
-    → AreRounds settings.config threads range rounds rows → HasEnded ended settings.turns turns → turns ≡ (counts_in rounds).turns
+by_status : (settings : Settings) (threads : ℕ) (range : Option (ℕ × ℕ)) (rounds : List ControlRound) (rows : List Row) (calls : List LinkCall) (turns : ℕ) (ended : Status)
+    → AreControlRounds settings.config threads range rounds rows → HasEnded ended settings.turns turns → turns ≡ (counts_in rounds).turns
     → AreCalls settings.config (bound settings) rounds ended calls → IsCausedBy settings calls ended
 by_status settings threads range rounds rows calls turns status.Ok are has counts c =
     subst (λ (l : List LinkCall). ReachesEnd l) (sym c.calls_are) (in_right (bound settings ++ c.more) (last ∷ []) (here refl))
@@ -68,7 +68,7 @@ ran : (settings : Settings) (range : Option (ℕ × ℕ)) (gate : ℕ → Type 0
     → outside.link ≡ Some before → outside.link_now ≡ Some (before ++ calls) → DidRun settings range gate outside wrote wrote_now answer → IsCausedBy settings calls answer
 ran settings range gate outside wrote wrote_now answer before calls was is r =
     let c : AreCalls settings.config (bound settings) r.did.rounds r.ended calls =
-    gained (λ (l : List LinkCall). AreCalls settings.config (bound settings) r.did.rounds r.ended l) outside.link outside.link_now before calls was is r.did.told.link in
+    gained (λ (l : List LinkCall). AreCalls settings.config (bound settings) r.did.rounds r.ended l) outside.link outside.link_now before calls was is r.did.log.link in
     elim r.answer_is [
       | inl e ↦
           subst (λ (s : Status). IsCausedBy settings calls s) (sym e)
@@ -117,7 +117,7 @@ not_control : status.PrintFault ≡ status.ControlFault → ⊥
 not_control e = cc
 
 pub unwritten : (settings : Settings) (range : Option (ℕ × ℕ)) (gate : ℕ → Type 0) (outside : Outside) (before writes : List WriteCall)
-    → Serves (Some settings) range gate outside (Some before) (Some (before ++ writes)) status.PrintFault → HasFailed writes
+    → Serves (Some settings) range gate outside (Some before) (Some (before ++ writes)) status.PrintFault → WritesFailed writes
 unwritten settings range gate outside before writes (inl none) = absurd (not_memory none.2)
 unwritten settings range gate outside before writes (inr (inl unbound)) = absurd (not_control unbound.2)
 unwritten settings range gate outside before writes (inr (inr r)) =

@@ -4,7 +4,7 @@ use Rattle.std.specs.Prelude.{◌&&◌, ◌||◌, nat_le, is_some}
 use Rattle.std.specs.List.{list_any}
 use Rattle.relay_outside.specs.declared.settings.Config.{Config}
 use Rattle.ng_bencode.specs.Spells.{spelling}
-use Rattle.ng_command.specs.Said.{Said, Ping, Offer, Answer, Delete, Query, Listing}
+use Rattle.ng_command.specs.Meanings.{Said, Ping, Offer, Answer, Delete, Query, Listing}
 use Rattle.ng_reply.specs.declared.code.ErrorCode.{ErrorCode}
 use Rattle.ng_reply.specs.declared.code.ErrorCode.TheVariants.{E17}
 use Rattle.offer_answer.specs.Rounds.{Round, OfferAsk, AnswerAsk}
@@ -12,12 +12,12 @@ use Rattle.offer_answer.specs.Plan as plan
 use Rattle.call_board.specs.Acts as act
 use Rattle.call_board.specs.Acts.{Call, Act, Given, Control, BoardEntry}
 use Rattle.call_board.specs.Answers.{Answering, leased_pairs, offer_ask, offer_leased, offer_unless, offer_to, answer_ask, answer_unless, answer_to, query_of, answering_command, answering_asked, answering, Answered, spelled, answering_unless}
-use Rattle.call_board.specs.Asked.{Reads, asked}
+use Rattle.call_board.specs.Requests.{ReadsBody, asked}
 use Rattle.call_board.specs.Calls.{live, find_call, new_call, rounds}
 use Rattle.call_board.specs.Fits.{is_repeat, is_read}
 use Rattle.call_board.specs.Pairs.{free_in, is_short}
 use Rattle.call_board.specs.Replies.{Fault, reply_datagram}
-use Rattle.board_turns.specs.Controls.{Hearing, unanswered, with_answer}
+use Rattle.board_turns.specs.Controls.{RequestRecord, unanswered, with_answer}
 use Rattle.load_maker.specs.Datagrams.{body_of}
 use Rattle.run_laws.proofs.Bodies.{EndsNothing, AsksNoEnd, asks_no_end}
 
@@ -87,8 +87,8 @@ unless_ends (act.Queried of) never = tt
 unless_ends act.Told never = tt
 
 -- What the datagram does that is recorded so, where its body is one of a load
-module _ (config : Config) (h : List BoardEntry) (x : Hearing) (number : ℕ) (body_is : x.body ≡ spelling (body_of number)) (short : x.too_long ≡ false → length x.body < 2 ^ 64) where
-  by_memory : (memory : Bool) (bytes : List ℕ) (of : Call) → x.given.out_of_memory ≡ memory → (x.too_long ≡ false → x.given.out_of_memory ≡ false → Reads x.body x.pairs)
+module _ (config : Config) (h : List BoardEntry) (x : RequestRecord) (number : ℕ) (body_is : x.body ≡ spelling (body_of number)) (short : x.too_long ≡ false → length x.body < 2 ^ 64) where
+  by_memory : (memory : Bool) (bytes : List ℕ) (of : Call) → x.given.out_of_memory ≡ memory → (x.too_long ≡ false → x.given.out_of_memory ≡ false → ReadsBody x.body x.pairs)
       → (cond {A = Answered} memory (record { bytes = bytes; act = act.OutOfMemory }) (spelled config x.cookie x.body (answering config h (unanswered x)))).act ≡ act.Deleted of → ⊥
   by_memory true bytes of is reads e = cc
   by_memory false bytes of is reads e =
@@ -96,13 +96,13 @@ module _ (config : Config) (h : List BoardEntry) (x : Hearing) (number : ℕ) (b
       by_asked config h (unanswered x) (asked config x.too_long x.pairs) (asks_no_end config number x.body x.too_long x.pairs body_is short (λ fits. reads fits is)) in
       subst (λ (a : Act). EndsNone a) e none
 
-  by_kept : (kept : Option (List ℕ)) (of : Call) → (is_read (with_answer x (answering_unless config h (unanswered x) kept)) ≡ true → Reads x.body x.pairs)
+  by_kept : (kept : Option (List ℕ)) (of : Call) → (is_read (with_answer x (answering_unless config h (unanswered x) kept)) ≡ true → ReadsBody x.body x.pairs)
       → (answering_unless config h (unanswered x) kept).act ≡ act.Deleted of → ⊥
   by_kept (Some bytes) of reads e = cc
   by_kept None of reads e =
       by_memory x.given.out_of_memory (reply_datagram config x.cookie x.body (Fault E17)) of refl
       (λ fits some. reads (was_read (answering_unless config h (unanswered x) None).act of x.too_long x.given.out_of_memory (is_some x.given.report) e fits some)) e
 
-  pub acts_none : (kept : Option (List ℕ)) → (is_read (with_answer x (answering_unless config h (unanswered x) kept)) ≡ true → Reads x.body x.pairs)
+  pub acts_none : (kept : Option (List ℕ)) → (is_read (with_answer x (answering_unless config h (unanswered x) kept)) ≡ true → ReadsBody x.body x.pairs)
       → EndsNone (answering_unless config h (unanswered x) kept).act
   acts_none kept reads = unless_ends (answering_unless config h (unanswered x) kept).act (λ of e. by_kept kept of reads e)

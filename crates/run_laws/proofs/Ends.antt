@@ -11,14 +11,14 @@ use Rattle.relay_outside.specs.declared.settings.Config.{Config}
 use Rattle.ng_frame.specs.Frame.{frame}
 use Rattle.call_board.specs.Acts.{BoardEntry}
 use Rattle.media_lane.specs.Visits.{Row}
-use Rattle.board_turns.specs.Controls.{Hearing, control_of, moment_at}
-use Rattle.ng_server.specs.Taking.{is_too_long, DidReply, DidFollow}
-use Rattle.ng_server.specs.declared.taking.ControlTurn.{ControlTurn}
-use Rattle.ng_server.specs.declared.taking.ControlTurn.TheVariants as turn
+use Rattle.board_turns.specs.Controls.{RequestRecord, control_of, moment_at}
+use Rattle.ng_server.specs.ControlTurns.{is_too_long, DidReply, DidFollow}
+use Rattle.ng_server.specs.declared.control_turn.ControlTurn.{ControlTurn}
+use Rattle.ng_server.specs.declared.control_turn.ControlTurn.TheVariants as turn
 use Rattle.relay_runs.specs.declared.status.Status.{Status}
 use Rattle.relay_runs.specs.declared.status.Status.TheVariants as status
-use Rattle.relay_runs.specs.Rounds.{Round, status_after, history_after, AreRounds}
-use Rattle.relay_runs.specs.Served.{AreExchanges}
+use Rattle.relay_runs.specs.Rounds.{ControlRound, status_after, history_after, AreControlRounds}
+use Rattle.relay_runs.specs.ServeRuns.{AreExchanges}
 use Rattle.run_laws.specs.Causes.{ReachesEnd}
 
 -- the take that found the end
@@ -50,7 +50,7 @@ not_among x calls other rest (there i) = rest i
 goes_on : (answer : ControlTurn) (other : ControlTurn) (status : Status) → status_after answer ≡ None → answer ≡ other → status_after other ≡ Some status → ⊥
 goes_on answer other status goes is ends = let e : None ≡ Some status = sym goes ∙ ap status_after is ∙ ends in cc
 
-in_reply : (config : Config) (h : List BoardEntry) (now : ℕ) (from : Addr) (parts : Option (List ℕ × List ℕ)) (too_long : Bool) (answer : ControlTurn) (made : Option Hearing) (sends : List LinkCall)
+in_reply : (config : Config) (h : List BoardEntry) (now : ℕ) (from : Addr) (parts : Option (List ℕ × List ℕ)) (too_long : Bool) (answer : ControlTurn) (made : Option RequestRecord) (sends : List LinkCall)
     → DidReply config h now from parts too_long answer made sends → ReachesEnd sends → ⊥
 in_reply config h now from None too_long answer made sends did i = in_none sends did.2 i
 in_reply config h now from (Some parts) too_long answer None sends did i = did
@@ -58,7 +58,7 @@ in_reply config h now from (Some parts) too_long answer (Some x) sends did i =
     not_among (call.Send from (control_of config h (moment_at h now) x).reply did.done) [] (not_send from (control_of config h (moment_at h now) x).reply did.done) in_nothing
     (subst (λ (l : List LinkCall). ReachesEnd l) did.sends_are i)
 
-in_turn : (config : Config) (h : List BoardEntry) (now : ℕ) (gave : LinkGiven) (answer : ControlTurn) (made : Option Hearing) (sends : List LinkCall) → status_after answer ≡ None
+in_turn : (config : Config) (h : List BoardEntry) (now : ℕ) (gave : LinkGiven) (answer : ControlTurn) (made : Option RequestRecord) (sends : List LinkCall) → status_after answer ≡ None
     → DidFollow config h now gave answer made sends → ReachesEnd (call.Take 16385 gave ∷ sends) → ⊥
 in_turn config h now (given.Datagram from datagram) answer made sends goes did i =
     not_among (call.Take 16385 (given.Datagram from datagram)) sends (not_datagram from datagram)
@@ -68,7 +68,7 @@ in_turn config h now given.End answer made sends goes did i = goes_on answer tur
 in_turn config h now given.Failed answer made sends goes did i = goes_on answer turn.ReadFault status.ControlFault goes did.0 refl
 
 -- not among the calls of the rounds
-pub in_rounds : (config : Config) (threads : ℕ) (range : Option (ℕ × ℕ)) (rounds : List Round) (rows : List Row) (calls : List LinkCall) → AreRounds config threads range rounds rows
+pub in_rounds : (config : Config) (threads : ℕ) (range : Option (ℕ × ℕ)) (rounds : List ControlRound) (rows : List Row) (calls : List LinkCall) → AreControlRounds config threads range rounds rows
     → AreExchanges config rounds calls → ReachesEnd calls → ⊥
 in_rounds config threads range [] rows calls are made i = in_none calls made i
 in_rounds config threads range (r ∷ rounds) rows calls are made i =

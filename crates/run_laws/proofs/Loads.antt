@@ -17,7 +17,7 @@ use Rattle.turn_table.specs.Histories as table_lists
 use Rattle.histories.specs.Words.{In, here, there}
 use Rattle.histories.proofs.Lists.{in_left, in_right, in_append, mapped, maps, picks}
 use Rattle.ng_bencode.specs.Spells.{spelling}
-use Rattle.ng_command.specs.Said.{Said, Ping, Offer, Answer, Delete, Query, Listing}
+use Rattle.ng_command.specs.Meanings.{Said, Ping, Offer, Answer, Delete, Query, Listing}
 use Rattle.ng_frame.specs.Frame.{frame}
 use Rattle.ng_frame.proofs.Framed.{frame_real}
 use Rattle.ng_reply.specs.declared.code.ErrorCode.{ErrorCode}
@@ -27,32 +27,32 @@ use Rattle.call_cell.specs.Cells.{Prepare, Commit, Read, End}
 use Rattle.call_board.specs.Acts as act
 use Rattle.call_board.specs.Acts.{Call, Act, Control, Turn, BoardEntry}
 use Rattle.call_board.specs.Answers.{answering_unless}
-use Rattle.call_board.specs.Asked.{asked}
+use Rattle.call_board.specs.Requests.{asked}
 use Rattle.call_board.specs.Calls.{find_call}
 use Rattle.call_board.specs.Fits.{FitsBoard}
-use Rattle.call_board.specs.Kept.{kept}
+use Rattle.call_board.specs.KeptReplies.{kept_reply}
 use Rattle.call_board.specs.Pairs.{closed_of}
 use Rattle.relay_core.specs.Entries.{Event, Cell, Box, Entry, is_nested, board_at, board_history}
-use Rattle.relay_core.specs.Made.{entry_of, list_of, told, told_event}
-use Rattle.relay_core.specs.Scripts.{Owed, owed_by, opening, closing, in_cell, closings, reading, reading_out_of_memory, script_of_act, script}
-use Rattle.relay_core.specs.Turning.{IsOfLane}
+use Rattle.relay_core.specs.Records.{entry_of, list_of, as_logged, logged_event}
+use Rattle.relay_core.specs.Scripts.{Owed, owed_by, open_owed, closing, in_cell, closings, reading, reading_out_of_memory, script_of_act, script}
+use Rattle.relay_core.specs.Turns.{IsOfLane}
 use Rattle.relay_core.proofs.Own.{in_rows}
-use Rattle.load_maker.specs.Datagrams.{body_of, controller, datagram_at, first_datagrams}
-use Rattle.load_maker.specs.Links.{TellsLoad}
+use Rattle.load_maker.specs.Datagrams.{body_of, controller, datagram_with, first_datagrams}
+use Rattle.load_maker.specs.Links.{LogsLoad}
 use Rattle.media_lane.specs.declared.answers.Totals.{Totals}
-use Rattle.media_lane.specs.Looping.{visits_of}
+use Rattle.media_lane.specs.SweepLoops.{visits_of}
 use Rattle.media_lane.specs.Visits.{Row, Visit, all_rows}
 use Rattle.media_lane.proofs.Sweeps.{rows_in}
-use Rattle.board_turns.specs.Controls.{Hearing, unanswered, control_of, moment_at, entry_at}
-use Rattle.board_turns.specs.Ticking.{tick_entry}
-use Rattle.ng_server.specs.Taking.{is_too_long, DidReply, DidFollow, DidTurn}
-use Rattle.ng_server.specs.declared.taking.ControlTurn.{ControlTurn}
+use Rattle.board_turns.specs.Controls.{RequestRecord, unanswered, control_of, moment_at, entry_at}
+use Rattle.board_turns.specs.Ticks.{tick_entry}
+use Rattle.ng_server.specs.ControlTurns.{is_too_long, DidReply, DidFollow, DidTurn}
+use Rattle.ng_server.specs.declared.control_turn.ControlTurn.{ControlTurn}
 use Rattle.command_line.specs.declared.settings.LoadSettings.{LoadSettings}
 use Rattle.relay_runs.specs.declared.status.Status.TheVariants as status
 use Rattle.relay_runs.specs.Loads.{RunsLoad}
-use Rattle.relay_runs.specs.Rounds.{Round, with_heard, tick_of, history_after, entry_due, moments, counted_from, is_second_later, is_tick_due, IsBoardTurn, MakesEntry, SweepsAlone, AreRounds, IsLane, all_of}
-use Rattle.relay_runs.specs.Served.{AreExchanges, AreCalls, last_take}
-use Rattle.run_laws.specs.Loaded.{HasEndsBy, AreBeforeEnds}
+use Rattle.relay_runs.specs.Rounds.{ControlRound, with_request, tick_of, history_after, entry_due, moments, counted_from, is_second_later, is_tick_due, IsBoardTurn, MakesEntry, SweepsAlone, AreControlRounds, IsLane, all_of}
+use Rattle.relay_runs.specs.ServeRuns.{AreExchanges, AreCalls, last_take}
+use Rattle.run_laws.specs.LoadEnds.{HasEndsBy, AreBeforeEnds}
 use Rattle.run_laws.proofs.Bodies.{framed_body}
 use Rattle.run_laws.proofs.Causes.{gained}
 use Rattle.run_laws.proofs.Deletes.{EndsNone, acts_none}
@@ -81,10 +81,10 @@ module _ (config : Config) (h : List BoardEntry) (e : BoardEntry) where
   in_spent c (Ok (Listing limit)) w i q = elim i [ ]
   in_spent c (Err code) w i q = elim i [ ]
 
-  in_offer : (o : act.Offer) (w : Owed) → In w (map (opening config) o.legs) ⊎ In w (in_cell o.of (Prepare o.of.number o.legs o.keys o.dropped) ∷ closings config h e o.of)
+  in_offer : (o : act.Offer) (w : Owed) → In w (map (open_owed config) o.legs) ⊎ In w (in_cell o.of (Prepare o.of.number o.legs o.keys o.dropped) ∷ closings config h e o.of)
       → w.event ≡ Cell End → ⊥
   in_offer o w (inl i) q =
-      let m = mapped (opening config) o.legs i in
+      let m = mapped (open_owed config) o.legs i in
       let k = ap (λ (v : Owed). v.event) m.makes ∙ q in
       cc
   in_offer o w (inr (here p)) q =
@@ -98,7 +98,7 @@ module _ (config : Config) (h : List BoardEntry) (e : BoardEntry) where
   in_act c (act.Failed code) w none i q = elim i [ ]
   in_act c (act.Undone code leases draws) w none i q = elim i [ ]
   in_act c (act.Offered o) w none i q =
-      in_offer o w (in_append (map (opening config) o.legs) (in_cell o.of (Prepare o.of.number o.legs o.keys o.dropped) ∷ closings config h e o.of) i) q
+      in_offer o w (in_append (map (open_owed config) o.legs) (in_cell o.of (Prepare o.of.number o.legs o.keys o.dropped) ∷ closings config h e o.of) i) q
   in_act c (act.Answered a) w none (here p) q = (let k : Cell (Commit a.signal) ≡ Cell End = sym (ap (λ (v : Owed). v.event) p) ∙ q in cc)
   in_act c (act.Answered a) w none (there j) q = in_closings a.of w j q
   in_act c (act.Deleted of) w none i q = none
@@ -108,20 +108,20 @@ module _ (config : Config) (h : List BoardEntry) (e : BoardEntry) where
 -- What the link of a load gave.
 
 -- what is recorded is a datagram of a load
-record IsOfLoad (x : Hearing) : Type 0 where
+record IsOfLoad (x : RequestRecord) : Type 0 where
   number : ℕ
   body_is : x.body ≡ spelling (body_of number)
   short : x.too_long ≡ false → length x.body < 2 ^ 64
 
 abbrev IsGenerated : List ℕ → Type 0
-IsGenerated bytes = (number : ℕ) × (bytes ≡ datagram_at number)
+IsGenerated bytes = (number : ℕ) × (bytes ≡ datagram_with number)
 
 -- each datagram that these calls took is one of a load
 abbrev TakesGenerated : List LinkCall → Type 0
 TakesGenerated calls = (room : ℕ) (from : Addr) (bytes : List ℕ) → In (call.Take room (given.Datagram from bytes)) calls → IsGenerated bytes
 
 first_case : (count : ℕ) (from : Addr) (bytes : List ℕ) (before : List (Addr × List ℕ)) → (In {A = Addr × List ℕ} (from, bytes) before → IsGenerated bytes)
-    → In {A = Addr × List ℕ} (from, bytes) before ⊎ In {A = Addr × List ℕ} (from, bytes) ((controller, datagram_at count) ∷ []) → IsGenerated bytes
+    → In {A = Addr × List ℕ} (from, bytes) before ⊎ In {A = Addr × List ℕ} (from, bytes) ((controller, datagram_with count) ∷ []) → IsGenerated bytes
 first_case count from bytes before rest (inl i) = rest i
 first_case count from bytes before rest (inr (here e)) = (count, ap (λ (pair : Addr × List ℕ). pair.1) e)
 first_case count from bytes before rest (inr (there i)) = elim i [ ]
@@ -130,9 +130,9 @@ in_first : (count : ℕ) (from : Addr) (bytes : List ℕ) → In {A = Addr × Li
 unfolding first_datagrams
 in_first zero from bytes i = elim i [ ]
 in_first (suc count) from bytes i =
-    first_case count from bytes (first_datagrams count) (λ j. in_first count from bytes j) (in_append (first_datagrams count) ((controller, datagram_at count) ∷ []) i)
+    first_case count from bytes (first_datagrams count) (λ j. in_first count from bytes j) (in_append (first_datagrams count) ((controller, datagram_with count) ∷ []) i)
 
-tells_generated : (count : ℕ) (well : Bool) (calls : List LinkCall) → TellsLoad count well calls → TakesGenerated calls
+tells_generated : (count : ℕ) (well : Bool) (calls : List LinkCall) → LogsLoad count well calls → TakesGenerated calls
 tells_generated count well calls tells room from bytes i =
     in_first count from bytes
     (subst (λ (l : List (Addr × List ℕ)). In {A = Addr × List ℕ} (from, bytes) l) tells.taken (picks datagram_of calls i refl))
@@ -146,7 +146,7 @@ small_body cookie body datagram is fits =
     low_of : (n : ℕ) → nat_lt 16384 n ≡ false → n ≤ 16384
     low_of n e = grind (arith, nat_tests)
 
-module _ (config : Config) (h : List BoardEntry) (now : ℕ) (answer : ControlTurn) (x : Hearing) (sends : List LinkCall) where
+module _ (config : Config) (h : List BoardEntry) (now : ℕ) (answer : ControlTurn) (x : RequestRecord) (sends : List LinkCall) where
   in_reply : (from : Addr) (datagram : List ℕ) → IsGenerated datagram → (parts : Option (List ℕ × List ℕ)) → frame datagram ≡ parts
       → DidReply config h now from parts (is_too_long datagram) answer (Some x) sends → IsOfLoad x
   in_reply from datagram is None framed did = absurd (let k : Some x ≡ None = did.1 in cc)
@@ -165,7 +165,7 @@ module _ (config : Config) (h : List BoardEntry) (now : ℕ) (answer : ControlTu
   in_take given.End is did = absurd (let k : Some x ≡ None = did.1 in cc)
   in_take given.Failed is did = absurd (let k : Some x ≡ None = did.1 in cc)
 
-heard_of_load : (config : Config) (h : List BoardEntry) (now : ℕ) (answer : ControlTurn) (x : Hearing) (calls : List LinkCall) → DidTurn config h now answer (Some x) calls
+heard_of_load : (config : Config) (h : List BoardEntry) (now : ℕ) (answer : ControlTurn) (x : RequestRecord) (calls : List LinkCall) → DidTurn config h now answer (Some x) calls
     → TakesGenerated calls → IsOfLoad x
 heard_of_load config h now answer x calls did takes = in_take config h now answer x did.sends did.gave is_generated did.followed
   where
@@ -202,7 +202,7 @@ visits_none : (config : Config) (visits : List Visit) (rows : List Row) → rows
 visits_none config visits rows are f i q =
     let found = in_rows rows i in
     lane_no_end found.row.event.event
-    (rows_in config visits found.row (subst (λ (xs : List Row). table_lists.In found.row xs) are found.is_in))
+    (rows_in config visits found.row (subst (λ (xs : List Row). table_lists.IsMemberOf found.row xs) are found.is_in))
     (ap (λ (y : Entry). y.event) found.is ∙ q)
 
 sweep_none : (config : Config) (threads : ℕ) (range : Option (ℕ × ℕ)) (rows : List Row) → SweepsAlone config threads range rows → HasNoEnd rows
@@ -238,7 +238,7 @@ same_some : {A : Type 0} (x y : A) → Some x ≡ Some y → x ≡ y
 same_some x y e = cc
 
 -- the turn of a datagram of a load
-heard_none : (config : Config) (before : List Row) (h : List BoardEntry) (now : ℕ) (x : Hearing) (rows : List Row) → IsOfLoad x
+heard_none : (config : Config) (before : List Row) (h : List BoardEntry) (now : ℕ) (x : RequestRecord) (rows : List Row) → IsOfLoad x
     → IsBoardTurn config before (entry_at config h (moment_at h now) x) rows → HasNoEnd rows
 heard_none config before h now x rows of_load t f i q = by_part (turn_parts config before (entry_at config h (moment_at h now) x) rows t f i)
   where
@@ -252,7 +252,7 @@ heard_none config before h now x rows of_load t f i q = by_part (turn_parts conf
         let owes : In (owed_by f) (script config earlier e) =
         subst (λ (y : BoardEntry). In (owed_by f) (script config earlier y)) same
         (subst (λ (ws : List Owed). In (owed_by f) ws) t.turn.owes (maps owed_by (list_of t.nested) j)) in
-        let reply : Option (List ℕ) = kept h x.source x.cookie (moment_at h now) in
+        let reply : Option (List ℕ) = kept_reply h x.source x.cookie (moment_at h now) in
         in_act config earlier e (control_of config h (moment_at h now) x) (answering_unless config h (unanswered x) reply).act (owed_by f)
         (acts_none config h x of_load.number of_load.body_is of_load.short reply fits.reads) owes q
 
@@ -280,26 +280,26 @@ zero_if n e = grind (arith, nat_tests)
 abbrev AtZero : List ℕ → Type 0
 AtZero times = list_all (λ (moment : ℕ). moment == 0) times ≡ true
 
-zero_parts : (rounds : List Round) (r : Round) → AtZero (moments (r ∷ rounds)) → AtZero (moments rounds) × (r.handed ≡ 0)
+zero_parts : (rounds : List ControlRound) (r : ControlRound) → AtZero (moments (r ∷ rounds)) → AtZero (moments rounds) × (r.handed ≡ 0)
 zero_parts rounds r zeros =
     let both = front_of _ _ (sym (list_all-append (λ (moment : ℕ). moment == 0) (moments rounds) (r.handed ∷ [])) ∙ zeros) in
     (both.0, zero_if r.handed both.1)
 
 module _ (config : Config) (threads : ℕ) (range : Option (ℕ × ℕ)) where
-  tick_none : (rounds : List Round) (r : Round) (h : List BoardEntry) (before rows : List Row) → r.handed ≡ 0 → is_some r.ticked ≡ is_tick_due rounds r.handed
+  tick_none : (rounds : List ControlRound) (r : ControlRound) (h : List BoardEntry) (before rows : List Row) → r.handed ≡ 0 → is_some r.ticked ≡ is_tick_due rounds r.handed
       → MakesEntry config before (tick_of h r) rows → HasNoEnd rows
   tick_none rounds r h before rows at due makes =
       let never : r.ticked ≡ None =
       unticked r.ticked (due ∙ ap (λ (now : ℕ). is_second_later (counted_from rounds) now) at ∙ never_later (counted_from rounds)) in
       nothing_none rows (subst (λ (e : Option BoardEntry). MakesEntry config before e rows) (ap (λ (o : Option (List Call)). option_map (tick_entry h r.handed) o) never) makes)
 
-  turn_none : (h : List BoardEntry) (now : ℕ) (answer : ControlTurn) (heard : Option Hearing) (calls : List LinkCall) (before rows : List Row)
+  turn_none : (h : List BoardEntry) (now : ℕ) (answer : ControlTurn) (heard : Option RequestRecord) (calls : List LinkCall) (before rows : List Row)
       → DidTurn config h now answer heard calls → TakesGenerated calls → MakesEntry config before (entry_due config h now heard) rows → HasNoEnd rows
   turn_none h now answer None calls before rows did takes none = nothing_none rows none
   turn_none h now answer (Some x) calls before rows did takes makes =
       heard_none config before h now x rows (heard_of_load config h now answer x calls did takes) makes
 
-  rounds_none : (rounds : List Round) (rows : List Row) (calls : List LinkCall) → AreRounds config threads range rounds rows → AreExchanges config rounds calls
+  rounds_none : (rounds : List ControlRound) (rows : List Row) (calls : List LinkCall) → AreControlRounds config threads range rounds rows → AreExchanges config rounds calls
       → TakesGenerated calls → AtZero (moments rounds) → HasNoEnd rows
   rounds_none [] rows calls none made takes zeros = nothing_none rows none
   rounds_none (r ∷ rounds) rows calls are made takes zeros =
@@ -318,7 +318,7 @@ module _ (config : Config) (threads : ℕ) (range : Option (ℕ × ℕ)) where
       (none_both (before ++ turn) sweep
       (none_both before turn (rounds_none rounds before made.0 are.8 made.3 earlier at.0) (turn_none h r.handed r.answer r.heard made.1 before turn made.4 now are.9))
       (sweep_none config threads range sweep are.10))
-      (tick_none rounds r (with_heard config h r) ((before ++ turn) ++ sweep) tick at.1 are.7 are.11))
+      (tick_none rounds r (with_request config h r) ((before ++ turn) ++ sweep) tick at.1 are.7 are.11))
 
 -- The whole load.
 
@@ -335,8 +335,8 @@ zero_front times front back is zeros =
     first_of true b e = refl
     first_of false b e = (let k : false ≡ true = e in cc)
 
-module _ (config : Config) (threads : ℕ) (range : Option (ℕ × ℕ)) (rounds : List Round) (main beside stop : List Row) (e : BoardEntry) (calls : List LinkCall)
-    (are : AreRounds config threads range rounds main) (made : AreExchanges config rounds calls) (takes : TakesGenerated calls) (zeros : AtZero (moments rounds))
+module _ (config : Config) (threads : ℕ) (range : Option (ℕ × ℕ)) (rounds : List ControlRound) (main beside stop : List Row) (e : BoardEntry) (calls : List LinkCall)
+    (are : AreControlRounds config threads range rounds main) (made : AreExchanges config rounds calls) (takes : TakesGenerated calls) (zeros : AtZero (moments rounds))
     (lanes : HasNoEnd beside) (t : IsBoardTurn config (main ++ beside) e stop) where
   by_turn : (f : Entry) → In f (list_of t.nested) ⊎ (f ≡ entry_of t.last) → f.event ≡ Cell End → f.board ≡ t.last.number
   by_turn f (inl i) q = t.turn.of_board f i
@@ -346,12 +346,12 @@ module _ (config : Config) (threads : ℕ) (range : Option (ℕ × ℕ)) (rounds
   by_part f (inl i) q = absurd (none_both main beside (rounds_none config threads range rounds main calls are made takes zeros) lanes f i q)
   by_part f (inr i) q = by_turn f (turn_parts config (main ++ beside) e stop t f i) q
 
-  ends_of_stop : (l : List Entry) → map told l ≡ list_of ((main ++ beside) ++ stop) → HasEndsBy l t.last.number
+  ends_of_stop : (l : List Entry) → map as_logged l ≡ list_of ((main ++ beside) ++ stop) → HasEndsBy l t.last.number
   ends_of_stop l is f i q =
-      by_part (told f)
+      by_part (as_logged f)
       (in_append (list_of (main ++ beside)) (list_of stop)
-      (subst (λ (xs : List Entry). In (told f) xs) (is ∙ map-append entry_of (main ++ beside) stop) (maps told l i)))
-      (ap (λ (v : Event). told_event v) q)
+      (subst (λ (xs : List Entry). In (as_logged f) xs) (is ∙ map-append entry_of (main ++ beside) stop) (maps as_logged l i)))
+      (ap (λ (v : Event). logged_event v) q)
 
 module _ (settings : LoadSettings) (gate : ℕ → Type 0) (totals : Totals) (runs : RunsLoad settings gate totals) where
   pub ends_of_load : HasEndsBy runs.did.whole.list runs.did.whole.is_stop.last.number
@@ -360,9 +360,9 @@ module _ (settings : LoadSettings) (gate : ℕ → Type 0) (totals : Totals) (ru
       let config = settings.config in
       let rounds = runs.did.rounds in
       let link : AreCalls config [] rounds status.Ok runs.calls =
-      gained (λ (l : List LinkCall). AreCalls config [] rounds status.Ok l) runs.outside.link runs.outside.link_now [] runs.calls runs.link.0 runs.link.1 runs.did.told.link in
+      gained (λ (l : List LinkCall). AreCalls config [] rounds status.Ok l) runs.outside.link runs.outside.link_now [] runs.calls runs.link.0 runs.link.1 runs.did.log.link in
       let timer : runs.moments ≡ moments rounds ++ runs.did.last =
-      gained (λ (l : List ℕ). l ≡ moments rounds ++ runs.did.last) runs.outside.timer runs.outside.timer_now [] runs.moments runs.timer.0 runs.timer.1 runs.did.told.timer in
+      gained (λ (l : List ℕ). l ≡ moments rounds ++ runs.did.last) runs.outside.timer runs.outside.timer_now [] runs.moments runs.timer.0 runs.timer.1 runs.did.log.timer in
       ends_of_stop config settings.lanes (Some (0, 0)) rounds whole.in_rounds (all_of whole.beside) whole.stop _ link.more whole.are_rounds link.exchanges
       (takes_front runs.calls link.more (last_take status.Ok) link.calls_are (tells_generated (2 * settings.calls) true runs.calls runs.heard))
       (zero_front runs.moments (moments rounds) runs.did.last timer runs.at_zero)

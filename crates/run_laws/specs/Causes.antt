@@ -9,7 +9,7 @@ use Rattle.relay_outside.specs.declared.link.LinkGiven.TheVariants as given
 use Rattle.command_line.specs.declared.settings.Settings.{Settings}
 use Rattle.relay_runs.specs.declared.status.Status.{Status}
 use Rattle.relay_runs.specs.declared.status.Status.TheVariants as status
-use Rattle.relay_runs.specs.Served.{is_turn}
+use Rattle.relay_runs.specs.ServeRuns.{is_turn}
 
 -- one of the takes found the end of the link
 abbrev pub ReachesEnd : List LinkCall → Type 0
@@ -20,8 +20,8 @@ abbrev pub HasReadFault : List LinkCall → Type 0
 HasReadFault calls = In (call.Take 16385 given.Failed) calls
 
 -- one of the writes failed
-abbrev pub HasFailed : List WriteCall → Type 0
-HasFailed writes = (text : List ℕ) × In (Write text false) writes
+abbrev pub WritesFailed : List WriteCall → Type 0
+WritesFailed writes = (text : List ℕ) × In (Write text false) writes
 
 -- The calls of the link in a run that ended so: with Ok a take found its end; with ControlFault the bind failed, and nothing else was called, or a
 -- take failed; with TurnsSpent as many takes as the words allow gave a datagram or nothing; with PrintFault it was bound; with OutOfMemory it was not

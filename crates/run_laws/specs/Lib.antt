@@ -1,3 +1,3 @@
 pub mod Causes
-pub mod Answered
-pub mod Loaded
+pub mod Answers
+pub mod LoadEnds

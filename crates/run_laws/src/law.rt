@@ -1,22 +1,22 @@
 ghost use Rattle.std.specs.Prelude.{◌≡◌, ◌⊎◌, ℕ, Option, Some, None, List, ◌∷◌, ◌++◌};
 ghost use Rattle.relay_outside.specs.declared.lines.WriteCall.{WriteCall};
 ghost use Rattle.relay_outside.specs.declared.link.LinkCall.{LinkCall};
-ghost use Rattle.relay_outside.specs.Told.{Rose};
-ghost use Rattle.call_board.specs.Kept.{kept};
-ghost use Rattle.board_turns.specs.Controls.{Hearing};
-ghost use Rattle.board_laws.specs.Answered.{IsAnswered};
+ghost use Rattle.relay_outside.specs.DeviceLogs.{Rose};
+ghost use Rattle.call_board.specs.KeptReplies.{kept_reply};
+ghost use Rattle.board_turns.specs.Controls.{RequestRecord};
+ghost use Rattle.board_laws.specs.Answers.{IsAnswered};
 ghost use Rattle.command_line.specs.declared.settings.LoadSettings.{LoadSettings};
 ghost use Rattle.command_line.specs.declared.settings.Settings.{Settings};
 ghost use Rattle.media_lane.specs.declared.answers.Totals.{Totals};
 ghost use Rattle.relay_runs.specs.declared.status.Status.{Status};
 ghost use Rattle.relay_runs.specs.declared.status.Status.TheVariants as status;
 ghost use Rattle.relay_runs.specs.Loads.{RunsLoad};
-ghost use Rattle.relay_runs.specs.Rounds.{Round, history_after};
+ghost use Rattle.relay_runs.specs.Rounds.{ControlRound, history_after};
 ghost use Rattle.relay_runs.specs.Run.{Serves, DidRun};
-ghost use Rattle.relay_runs.specs.Served.{Outside};
-ghost use Rattle.run_laws.specs.Answered.{moment_in, turn_in};
-ghost use Rattle.run_laws.specs.Causes.{ReachesEnd, IsCausedBy, HasFailed};
-ghost use Rattle.run_laws.specs.Loaded.{HasEndsBy, AreBeforeEnds};
+ghost use Rattle.relay_runs.specs.ServeRuns.{Outside};
+ghost use Rattle.run_laws.specs.Answers.{moment_in, turn_in};
+ghost use Rattle.run_laws.specs.Causes.{ReachesEnd, IsCausedBy, WritesFailed};
+ghost use Rattle.run_laws.specs.LoadEnds.{HasEndsBy, AreBeforeEnds};
 
 use relay_outside::Gate;
 
@@ -34,7 +34,7 @@ pub fn serve_ends_with_its_link<G: Gate>()
         (before calls : List LinkCall) → Serves (Some settings) range (G.passed gate) outside wrote wrote_now answer → outside.link ≡ Some before →
         outside.link_now ≡ Some (before ++ calls) → IsCausedBy settings calls answer }
     ensures unwritten { (settings : Settings) (range : Option (ℕ × ℕ)) (gate : G) (outside : Outside) (before writes : List WriteCall) →
-        Serves (Some settings) range (G.passed gate) outside (Some before) (Some (before ++ writes)) status.PrintFault → HasFailed writes }
+        Serves (Some settings) range (G.passed gate) outside (Some before) (Some (before ++ writes)) status.PrintFault → WritesFailed writes }
 {}
 
 /// Theorem (no run-time code): in a run of `serve` in which neither the port maker's count of faults rose nor the key source's, each datagram with a frame,
@@ -44,9 +44,9 @@ pub fn serve_ends_with_its_link<G: Gate>()
 /// The datagram is that of a round, and the history is that of the rounds before it. Where the link tells, its reply was sent to its source (`Serves`).
 pub fn datagrams_of_a_run_are_answered<G: Gate>()
     ensures { (settings : Settings) (range : Option (ℕ × ℕ)) (gate : G) (outside : Outside) (wrote wrote_now : Option (List WriteCall)) (answer : Status)
-        (run : DidRun settings range (G.passed gate) outside wrote wrote_now answer) (later earlier : List Round) (r : Round) (x : Hearing) →
+        (run : DidRun settings range (G.passed gate) outside wrote wrote_now answer) (later earlier : List ControlRound) (r : ControlRound) (x : RequestRecord) →
         run.did.rounds ≡ later ++ r ∷ earlier → r.heard ≡ Some x →
-        kept (history_after settings.config earlier) x.source x.cookie (moment_in settings.config earlier r) ≡ None →
+        kept_reply (history_after settings.config earlier) x.source x.cookie (moment_in settings.config earlier r) ≡ None →
         (Rose outside.port_faults outside.port_faults_now → ⊥) → (Rose outside.key_faults outside.key_faults_now → ⊥) →
         IsAnswered settings.config (history_after settings.config earlier) (turn_in settings.config earlier r x) }
 {}

@@ -1,8 +1,8 @@
 //! Laws of runs: how a run of `serve` ends is said by what its control link gave, and by whether its line of totals was written; and each of its
 //! datagrams is answered, where no port and no key fails; and in a run of `load` each relay stands at its cell before every End there.
 //!
-//! Module `law` states it. `specs/Causes.antt` says for each status what the calls of the link were, `specs/Answered.antt` which turn a datagram of a
-//! run is, and `specs/Loaded.antt` how relays and Ends stand. There is nothing to run here, and nothing stands on this crate.
+//! Module `law` states it. `specs/Causes.antt` says for each status what the calls of the link were, `specs/Answers.antt` which turn a datagram of a
+//! run is, and `specs/LoadEnds.antt` how relays and Ends stand. There is nothing to run here, and nothing stands on this crate.
 #![tactic(auto)]
 
 mod law;

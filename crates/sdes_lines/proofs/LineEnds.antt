@@ -7,7 +7,7 @@ use Rattle.std.specs.Char.{is_ascii_digit}
 use Rattle.std.proofs.lemmas.Str.Parse.{digit_from_value}
 use Rattle.std.specs.Str.Parse.{AllDigits}
 use Rattle.sdes_lines.specs.CryptoLine.{IsLineEnd}
-use Rattle.sdes_lines.specs.Reading.{IsNumberThenSpaces}
+use Rattle.sdes_lines.specs.LineParts.{IsNumberThenSpaces}
 use Rattle.sdes_lines.proofs.Digits.{front_digits, prefix-append}
 
 -- spaces alone, as a repeated space

@@ -9,7 +9,7 @@ use Rattle.std.proofs.lemmas.Bool.{cases_eq}
 use Rattle.std.proofs.lemmas.List.{take_at, drop_at}
 use Rattle.std.proofs.lemmas.Str.Parse.{digits_value_short}
 use Rattle.sdes_lines.specs.CryptoLine.{IsTag}
-use Rattle.sdes_lines.specs.Reading.{IsTagNumeral}
+use Rattle.sdes_lines.specs.LineParts.{IsTagNumeral}
 use Rattle.sdes_lines.proofs.Digits.{own, prefix-append}
 
 -- the decimal form of zero is one digit

@@ -1,2 +1,2 @@
 pub mod CryptoLine
-pub mod Reading
+pub mod LineParts

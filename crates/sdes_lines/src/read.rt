@@ -7,7 +7,7 @@ ghost use Rattle.base64.specs.Engines.{standard};
 ghost use Rattle.base64.specs.GeneralPurpose.{encode_of};
 ghost use Rattle.sdes_lines.specs.declared.crypto_line.Suite.{Suite};
 ghost use Rattle.sdes_lines.specs.CryptoLine.{IsUsable, IsTag, IsKey, IsLineEnd, suite_name};
-ghost use Rattle.sdes_lines.specs.Reading.{IsNumberThenSpaces, IsTagNumeral};
+ghost use Rattle.sdes_lines.specs.LineParts.{IsNumberThenSpaces, IsTagNumeral};
 
 use crate::crypto_line::{CryptoLine, Suite};
 use base64::engine::general_purpose::STANDARD;

@@ -5,8 +5,8 @@ use Rattle.std.proofs.lemmas.List.Sums.{count_by-le-length, sum_by_more, sum_by-
 use Rattle.std.specs.List.{slice_get, slice_index_or}
 use Rattle.sdp_text.specs.Lines.{size_of}
 use Rattle.sdp_text.specs.Roles.{is_media}
-use Rattle.sdp_edit.specs.Places.{place_of}
-use Rattle.sdp_edit.specs.Editing.{edited_from, edited_line}
+use Rattle.sdp_edit.specs.Places.{line_place}
+use Rattle.sdp_edit.specs.EditedText.{edited_from, edited_line}
 use Rattle.sdp_edit.specs.declared.edits.Edit.{Edit}
 use Rattle.sdp_edit.specs.declared.place.Place.{Place}
 use Rattle.sdp_edit.specs.declared.step.Step.{Step}
@@ -37,8 +37,8 @@ rest_more edit lines i line e =
     ap (edited_from edit (behind lines i)) next ∙ ap (λ b. edited_line edit (behind lines i) line (drop (i + 1) lines) ++ edited_from edit b (drop (i + 1) lines)) (sym (behind_more lines i line e))
 
 -- there are no more sections than lines
-pub few_sections : (place : Place) (lines : List (List ℕ)) (i : ℕ) → place ≡ place_of (behind lines i) → place.section ≤ i
-unfolding place_of
+pub few_sections : (place : Place) (lines : List (List ℕ)) (i : ℕ) → place ≡ line_place (behind lines i) → place.section ≤ i
+unfolding line_place
 few_sections place lines i is =
     let count = count_by-le-length is_media (behind lines i) in
     let size : length (behind lines i) ≡ min i (length lines) = length-reverse (take i lines) ∙ length-take i lines in
@@ -65,20 +65,20 @@ get-value (y ∷ ys) (suc i) x d e = get-value ys i x d e
 
 -- what one step does
 pub record IsStepped (edit : Edit) (lines : List (List ℕ)) (i : ℕ) (step : Step) : Type 0 where
-  pub here : step.here ≡ place_of (behind lines (i + 1))
+  pub here : step.here ≡ line_place (behind lines (i + 1))
   pub rest : rest_of edit lines i ≡ step_text step ++ rest_of edit lines (i + 1)
   pub size : length (rest_of edit lines i) ≡ length (step_text step) + length (rest_of edit lines (i + 1))
 
-pub stepped : (edit : Edit) (lines : List (List ℕ)) (i : ℕ) (place : Place) (step : Step) → i < length lines → place ≡ place_of (behind lines i)
-    → ((before : List (List ℕ)) (line : List ℕ) → place ≡ place_of before → slice_get lines i ≡ Some line → step_text step ≡ edited_line edit before line (drop (i + 1) lines))
-    → ((before : List (List ℕ)) (line : List ℕ) → place ≡ place_of before → slice_get lines i ≡ Some line → step.here ≡ place_of (line ∷ before))
+pub stepped : (edit : Edit) (lines : List (List ℕ)) (i : ℕ) (place : Place) (step : Step) → i < length lines → place ≡ line_place (behind lines i)
+    → ((before : List (List ℕ)) (line : List ℕ) → place ≡ line_place before → slice_get lines i ≡ Some line → step_text step ≡ edited_line edit before line (drop (i + 1) lines))
+    → ((before : List (List ℕ)) (line : List ℕ) → place ≡ line_place before → slice_get lines i ≡ Some line → step.here ≡ line_place (line ∷ before))
     → IsStepped edit lines i step
 stepped edit lines i place step inside is text here =
     let line : List ℕ = slice_index_or lines i [] in
     let found : slice_get lines i ≡ Some line = get-inside lines i [] inside in
     let rest : rest_of edit lines i ≡ step_text step ++ rest_of edit lines (i + 1) =
     rest_more edit lines i line found ∙ ap (λ t. t ++ rest_of edit lines (i + 1)) (sym (text (behind lines i) line is found)) in record {
-      here = here (behind lines i) line is found ∙ ap place_of (sym (behind_more lines i line found));
+      here = here (behind lines i) line is found ∙ ap line_place (sym (behind_more lines i line found));
       rest = rest;
       size = ap length rest ∙ length-append (step_text step) (rest_of edit lines (i + 1));
     }

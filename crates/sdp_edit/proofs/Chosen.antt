@@ -3,7 +3,7 @@ use Rattle.std.proofs.Common.{◌≡◌, ℕ, zero, suc, ◌-◌, ◌<◌, ◌�
 use Rattle.sdes_lines.specs.declared.crypto_line.CryptoLine.{CryptoLine}
 use Rattle.sdp_text.specs.Roles.{is_media}
 use Rattle.sdp_edit.specs.Places.{up_to_media}
-use Rattle.sdp_edit.specs.Choosing.{section_lines, IsFirstOf, IsKeyOf, IsLineOf}
+use Rattle.sdp_edit.specs.ChosenLines.{section_lines, IsFirstOf, IsChosenKey, IsLineOf}
 
 -- the section's lines begin after this `m=` line
 pub section_here : (line : List ℕ) (more : List (List ℕ)) (left : ℕ) → is_media line ≡ true → left ≡ 0
@@ -30,7 +30,7 @@ pub first_here : (P : CryptoLine → Type 0) (line : List ℕ) (more : List (Lis
     → IsFirstOf P (up_to_media (line ∷ more)) (Some key)
 first_here P line more key media is = rw media (inl (is, refl))
 
-pub first_later : (P : CryptoLine → Type 0) (line : List ℕ) (more : List (List ℕ)) (r : Option CryptoLine) → is_media line ≡ false → IsKeyOf P line None
+pub first_later : (P : CryptoLine → Type 0) (line : List ℕ) (more : List (List ℕ)) (r : Option CryptoLine) → is_media line ≡ false → IsChosenKey P line None
     → IsFirstOf P (up_to_media more) r → IsFirstOf P (up_to_media (line ∷ more)) r
 first_later P line more r media none first = rw media (inr (none, first))
 
@@ -44,16 +44,16 @@ pub only_here : (P : CryptoLine → Type 0) (line : List ℕ) (more : List (List
     → IsLineOf P line key → ((other : CryptoLine) → IsLineOf P line other → other ≡ key) → IsFirstOf P (up_to_media (line ∷ more)) r → r ≡ Some key
 only_here P line more key r media is one first = go r (subst (λ (b : Bool). IsFirstOf P (if b then [] else line ∷ up_to_media more) r) media first)
   where
-    go : (r : Option CryptoLine) → (IsKeyOf P line r × IsSome r) ⊎ (IsKeyOf P line None × IsFirstOf P (up_to_media more) r) → r ≡ Some key
+    go : (r : Option CryptoLine) → (IsChosenKey P line r × IsSome r) ⊎ (IsChosenKey P line None × IsFirstOf P (up_to_media more) r) → r ≡ Some key
     go None (inl here) = cc (here.1)
     go (Some other) (inl here) = ap Some (one other here.0)
     go r (inr there) = absurd (there.0 key is)
 
-pub only_later : (P : CryptoLine → Type 0) (line : List ℕ) (more : List (List ℕ)) (r : Option CryptoLine) → is_media line ≡ false → IsKeyOf P line None
+pub only_later : (P : CryptoLine → Type 0) (line : List ℕ) (more : List (List ℕ)) (r : Option CryptoLine) → is_media line ≡ false → IsChosenKey P line None
     → IsFirstOf P (up_to_media (line ∷ more)) r → IsFirstOf P (up_to_media more) r
 only_later P line more r media none first = go r (subst (λ (b : Bool). IsFirstOf P (if b then [] else line ∷ up_to_media more) r) media first)
   where
-    go : (r : Option CryptoLine) → (IsKeyOf P line r × IsSome r) ⊎ (IsKeyOf P line None × IsFirstOf P (up_to_media more) r) → IsFirstOf P (up_to_media more) r
+    go : (r : Option CryptoLine) → (IsChosenKey P line r × IsSome r) ⊎ (IsChosenKey P line None × IsFirstOf P (up_to_media more) r) → IsFirstOf P (up_to_media more) r
     go None (inl here) = cc (here.1)
     go (Some other) (inl here) = absurd (none other here.0)
     go r (inr there) = there.1

@@ -6,7 +6,7 @@ use Rattle.std.proofs.lemmas.Bool.{cond_both}
 use Rattle.std.specs.List.{slice_index_or, slice_get}
 use Rattle.sdes_lines.specs.declared.crypto_line.CryptoLine.{CryptoLine}
 use Rattle.sdp_edit.specs.declared.edits.SectionEdit.{SectionEdit}
-use Rattle.sdp_edit.specs.Editing.{key_lines, KeysHaveTags, SectionHasTags, HaveTags}
+use Rattle.sdp_edit.specs.EditedText.{key_lines, KeysHaveTags, SectionHasTags, HaveTags}
 use Rattle.sdp_edit.specs.Images.{edit_at}
 
 key_lines-cons : (key : Option CryptoLine) (more : List (Option CryptoLine)) → key_lines (key ∷ more) ≡ key_lines (key ∷ []) ++ key_lines more

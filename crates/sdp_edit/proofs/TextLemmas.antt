@@ -10,7 +10,7 @@ use Rattle.sdp_text.specs.Roles.{is_media, is_origin}
 use Rattle.sdp_text.specs.Hosts.{text_of}
 use Rattle.sdp_text.specs.declared.host.Host.{Host}
 use Rattle.sdp_edit.specs.declared.edits.SectionEdit.{SectionEdit}
-use Rattle.sdp_edit.specs.Texts.{with_end, family_of, proto_text, media_fields, media_text, origin_fields, origin_text, IsOriginTail}
+use Rattle.sdp_edit.specs.Texts.{with_end, family_of, proto_text, edited_media_fields, media_text, origin_fields, origin_text, IsOriginTail}
 
 pub length-with_end : (text : List ℕ) → length (with_end text) ≡ length text + 2
 unfolding with_end
@@ -44,20 +44,20 @@ origin_prefix line origin = (starts_is Decides-eqb line (codes "o=") (is_origin 
 
 -- a line with fewer than four fields stays
 pub media_stays : (edit : SectionEdit) (line body : List ℕ) → is_media line ≡ true → body ≡ take (length line - 2) (drop 2 line)
-    → media_fields edit (fields body) ≡ fields body → with_end line ≡ with_end (media_text edit line)
+    → edited_media_fields edit (fields body) ≡ fields body → with_end line ≡ with_end (media_text edit line)
 unfolding media_text
 media_stays edit line body media is same =
     let rest : body ≡ drop 2 line = is ∙ take_rest line 2 in
-    ap with_end (media_prefix line media ∙ ap (λ text. codes "m=" ++ text) (sym (ap (λ t. join_with_byte 32 (media_fields edit (fields t))) (sym rest) ∙ ap (join_with_byte 32) same ∙ joined body ∙ rest)))
+    ap with_end (media_prefix line media ∙ ap (λ text. codes "m=" ++ text) (sym (ap (λ t. join_with_byte 32 (edited_media_fields edit (fields t))) (sym rest) ∙ ap (join_with_byte 32) same ∙ joined body ∙ rest)))
 
-pub media_one : (edit : SectionEdit) (body : List ℕ) → fields body ≡ body ∷ [] → media_fields edit (fields body) ≡ fields body
+pub media_one : (edit : SectionEdit) (body : List ℕ) → fields body ≡ body ∷ [] → edited_media_fields edit (fields body) ≡ fields body
 media_one edit body one = rw one refl
 
-pub media_two : (edit : SectionEdit) (body a rest : List ℕ) → fields body ≡ a ∷ fields rest → fields rest ≡ rest ∷ [] → media_fields edit (fields body) ≡ fields body
+pub media_two : (edit : SectionEdit) (body a rest : List ℕ) → fields body ≡ a ∷ fields rest → fields rest ≡ rest ∷ [] → edited_media_fields edit (fields body) ≡ fields body
 media_two edit body a rest first one = let all : fields body ≡ a ∷ rest ∷ [] = first ∙ ap (λ t. a ∷ t) one in rw all refl
 
 pub media_three : (edit : SectionEdit) (body a r1 b r2 : List ℕ) → fields body ≡ a ∷ fields r1 → fields r1 ≡ b ∷ fields r2 → fields r2 ≡ r2 ∷ []
-    → media_fields edit (fields body) ≡ fields body
+    → edited_media_fields edit (fields body) ≡ fields body
 media_three edit body a r1 b r2 first second one =
     let all : fields body ≡ a ∷ b ∷ r2 ∷ [] = first ∙ ap (λ t. a ∷ t) (second ∙ ap (λ t. b ∷ t) one) in rw all refl
 

@@ -15,11 +15,11 @@ use Rattle.sdp_edit.specs.declared.edits.Edit.{Edit}
 use Rattle.sdp_edit.specs.declared.image.Image.{Image}
 use Rattle.sdp_edit.specs.declared.image.Image.TheVariants.{Dropped, Kept, Connection, Origin}
 use Rattle.sdp_edit.specs.declared.place.Place.{Place}
-use Rattle.sdp_edit.specs.Texts.{with_end, proto_text, media_fields, media_text, connection_text}
-use Rattle.sdp_edit.specs.Places.{place_of, ends_section, begins_with_title, connection_follows}
+use Rattle.sdp_edit.specs.Texts.{with_end, proto_text, edited_media_fields, media_text, connection_text}
+use Rattle.sdp_edit.specs.Places.{line_place, ends_section, begins_with_title, connection_follows}
 use Rattle.sdp_edit.specs.Attributes.{is_removed, is_feedback}
 use Rattle.sdp_edit.specs.Images.{edit_at, media_image, connection_image, origin_image, lacks_feedback, attribute_image, image_of}
-use Rattle.sdp_edit.specs.Editing.{image_text, added_connection, key_lines, added_keys, edited_line, edited_from, edited}
+use Rattle.sdp_edit.specs.EditedText.{image_text, added_connection, key_lines, added_keys, edited_line, edited_from, edited}
 use Rattle.sdp_edit.specs.Widths.{AreLinesWithin, IsSectionWithin, AreSectionsWithin, IsWithin}
 use Rattle.sdp_edit.proofs.TextLemmas.{length-with_end}
 
@@ -119,7 +119,7 @@ media-within : (section wide : SectionEdit) (line : List ℕ) → IsSectionWithi
 unfolding media_text
 media-within section wide line within = go (fields (drop 2 line))
   where
-    go : (texts : List (List ℕ)) → length (codes "m=" ++ join_with_byte 32 (media_fields section texts)) ≤ length (codes "m=" ++ join_with_byte 32 (media_fields wide texts))
+    go : (texts : List (List ℕ)) → length (codes "m=" ++ join_with_byte 32 (edited_media_fields section texts)) ≤ length (codes "m=" ++ join_with_byte 32 (edited_media_fields wide texts))
     go [] = omega arith
     go (a ∷ []) = omega arith
     go (a ∷ b ∷ []) = omega arith
@@ -193,19 +193,19 @@ edited_line-within : (edit wide : Edit) (before : List (List ℕ)) (line : List 
     length (edited_line edit before line more) ≤ length (edited_line wide before line more)
 unfolding edited_line
 edited_line-within edit wide before line more within =
-    let here = place_of (line ∷ before) in
+    let here = line_place (line ∷ before) in
     let s = edit_at edit.sections.list here.section in
     let w = edit_at wide.sections.list here.section in
     let at = at-within edit.sections.list wide.sections.list here.section within.sections_within in
     omega (
       arith,
-      image-within edit wide (place_of before) line within,
+      image-within edit wide (line_place before) line within,
       ap length (same-added s w here.is_head more at),
       keys-within s w more at,
-      length-append (image_text (image_of edit (place_of before) line) line ++ added_connection s here.is_head more) (added_keys s more),
-      length-append (image_text (image_of edit (place_of before) line) line) (added_connection s here.is_head more),
-      length-append (image_text (image_of wide (place_of before) line) line ++ added_connection w here.is_head more) (added_keys w more),
-      length-append (image_text (image_of wide (place_of before) line) line) (added_connection w here.is_head more),
+      length-append (image_text (image_of edit (line_place before) line) line ++ added_connection s here.is_head more) (added_keys s more),
+      length-append (image_text (image_of edit (line_place before) line) line) (added_connection s here.is_head more),
+      length-append (image_text (image_of wide (line_place before) line) line ++ added_connection w here.is_head more) (added_keys w more),
+      length-append (image_text (image_of wide (line_place before) line) line) (added_connection w here.is_head more),
     )
 
 from-within : (edit wide : Edit) (before lines : List (List ℕ)) → IsWithin edit wide → length (edited_from edit before lines) ≤ length (edited_from wide before lines)

@@ -2,7 +2,7 @@ pub mod Attributes
 pub mod Texts
 pub mod Places
 pub mod Images
-pub mod Editing
+pub mod EditedText
 pub mod Steps
-pub mod Choosing
+pub mod ChosenLines
 pub mod Widths

@@ -13,8 +13,8 @@ abbrev pub up_to_media : List (List ℕ) → List (List ℕ)
 up_to_media [] = []
 up_to_media (line ∷ more) = if is_media line then [] else line ∷ up_to_media more
 
-unfoldable pub place_of : List (List ℕ) → Place
-place_of before = record {
+unfoldable pub line_place : List (List ℕ) → Place
+line_place before = record {
   section = count_by is_media before;
   has_connection = list_any is_connection (up_to_media before);
   has_origin = list_any is_origin before;

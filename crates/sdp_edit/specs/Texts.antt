@@ -30,12 +30,12 @@ proto_text Savpf own = codes "RTP/SAVPF"
 proto_text Other own = own
 
 -- the fields of an `m=` line (RFC 8866 section 5.14) with this port, without a number of ports, and this protocol
-abbrev pub media_fields : SectionEdit → List (List ℕ) → List (List ℕ)
-media_fields edit (media ∷ port ∷ proto ∷ format ∷ more) = media ∷ decimal edit.port ∷ proto_text edit.proto proto ∷ format ∷ more
-media_fields edit texts = texts
+abbrev pub edited_media_fields : SectionEdit → List (List ℕ) → List (List ℕ)
+edited_media_fields edit (media ∷ port ∷ proto ∷ format ∷ more) = media ∷ decimal edit.port ∷ proto_text edit.proto proto ∷ format ∷ more
+edited_media_fields edit texts = texts
 
 unfoldable pub media_text : SectionEdit → List ℕ → List ℕ
-media_text edit line = codes "m=" ++ join_with_byte 32 (media_fields edit (fields (drop 2 line)))
+media_text edit line = codes "m=" ++ join_with_byte 32 (edited_media_fields edit (fields (drop 2 line)))
 
 -- the fields of an `o=` line (RFC 8866 section 5.2) with this address
 abbrev pub origin_fields : Host → List (List ℕ) → List (List ℕ)

@@ -42,10 +42,10 @@ pub struct SectionEdits {
 impl Model for SectionEdits {
     ghost use Rattle.std.specs.Prelude.{ℕ, ◌-◌, vec_len};
     ghost use Rattle.std.specs.Vec.{vec_capacity};
-    ghost use Rattle.sdp_text.specs.Room.{Room};
+    ghost use Rattle.sdp_text.specs.Room.{Reserve};
     ghost use Rattle.sdp_edit.specs.declared.edits.SectionEdit.{SectionEdit};
 
-    ghost Value = { Room SectionEdit };
+    ghost Value = { Reserve SectionEdit };
 
     ghost view = { λ edits. record { list = edits.items.items; spare = vec_capacity edits.items - vec_len edits.items } };
 }

@@ -7,24 +7,24 @@
 //! - `attribute`: which attributes are removed
 //! - `image`: what becomes of a line
 //! - `field`, `text`: the texts of rewritten lines
-//! - `rewritten`: the lines that are written
+//! - `out_lines`: the lines that are written
 //! - `step`: one line's part of the edited text
-//! - `editing`: the edited text and its length
-//! - `choosing`: which crypto line of a section is used
+//! - `edited_text`: the edited text and its length
+//! - `chosen_line`: which crypto line of a section is used
 #![tactic(auto)]
 
 mod ahead;
 mod attribute;
-mod choosing;
-mod editing;
+mod chosen_line;
+mod edited_text;
 mod edits;
 mod field;
 mod image;
+mod out_lines;
 mod place;
-mod rewritten;
 mod step;
 mod text;
 
-pub use choosing::{choose, choose_among};
-pub use editing::{edit, edit_into, edit_len};
+pub use chosen_line::{choose, choose_among};
+pub use edited_text::{edit, edit_into, edit_len};
 pub use edits::{Edit, SectionEdit, SectionEdits};

@@ -2,7 +2,7 @@
 
 ghost use Rattle.std.specs.Prelude.{◌≡◌, ◌-◌, ◌<◌, ◌^◌, [], List, ℕ, ◌∷◌};
 ghost use Rattle.sdp_text.specs.Roles.{is_media, is_connection, is_origin};
-ghost use Rattle.sdp_edit.specs.Places.{place_of, is_title};
+ghost use Rattle.sdp_edit.specs.Places.{line_place, is_title};
 
 /// What the lines before a line, or up to it, say of the place where it stands.
 #[derive(Clone, Copy)]
@@ -43,9 +43,9 @@ pub(crate) fn is_title(line: &[u8]) -> bool
 
 impl Place {
     /// The place of the first line.
-    #[tactic(auto, unfolding(crate::specs::Places::place_of))]
+    #[tactic(auto, unfolding(crate::specs::Places::line_place))]
     pub(crate) fn start() -> Place
-        ensures { result ≡ place_of [] }
+        ensures { result ≡ line_place [] }
     {
         Place {
             section: 0,
@@ -58,7 +58,7 @@ impl Place {
     /// The place after a line.
     pub(crate) fn after(self, line: &[u8]) -> Place
         requires { self.section < 2 ^ 64 - 1 }
-        ensures { (before : List (List ℕ)) → self ≡ place_of before → result ≡ place_of (line.now ∷ before) }
+        ensures { (before : List (List ℕ)) → self ≡ line_place before → result ≡ line_place (line.now ∷ before) }
     {
         let has_origin = is_origin(line) | self.has_origin;
         if is_media(line) {

@@ -2,15 +2,15 @@
 
 ghost use Rattle.std.specs.Prelude.{◌≡◌, ℕ, ◌+◌, ◌-◌, ◌≤◌, ◌<◌, ◌^◌, List, [], ◌∷◌, ◌++◌, length, drop, slice_get, Some};
 ghost use Rattle.sdp_edit.specs.Images.{Suits};
-ghost use Rattle.sdp_edit.specs.Places.{place_of};
-ghost use Rattle.sdp_edit.specs.Editing.{image_text, added_connection, key_lines, added_keys, edited_line, KeysHaveTags, SectionHasTags, HaveTags};
+ghost use Rattle.sdp_edit.specs.Places.{line_place};
+ghost use Rattle.sdp_edit.specs.EditedText.{image_text, added_connection, key_lines, added_keys, edited_line, KeysHaveTags, SectionHasTags, HaveTags};
 ghost use Rattle.sdp_edit.specs.Steps.{text_or_none, step_text};
 
 use crate::ahead::{begins_with_title, connection_follows, ends_section};
 use crate::edits::{Edit, SectionEdit};
 use crate::image::{Image, edit_at, image_of};
+use crate::out_lines::OutLine;
 use crate::place::Place;
-use crate::rewritten::OutLine;
 use crate::text::{connection_line, media_line, origin_line};
 use sdes_lines::CryptoLine;
 use sdp_text::{Bytes, Sdp};
@@ -26,7 +26,7 @@ pub(crate) struct Step<'a> {
     pub(crate) here: Place,
 }
 
-#[tactic(auto, unfolding(crate::specs::Editing::image_text))]
+#[tactic(auto, unfolding(crate::specs::EditedText::image_text))]
 fn image_line<'a>(image: &Image, line: &'a [u8]) -> Option<OutLine<'a>>
     requires { Suits image.now line.now }
     ensures text { text_or_none result ≡ image_text image.now line.now }
@@ -42,7 +42,7 @@ fn image_line<'a>(image: &Image, line: &'a [u8]) -> Option<OutLine<'a>>
 }
 
 // The `c=` line of a section that has none, where the lines before `next` are the section's head.
-#[tactic(auto, unfolding(crate::specs::Editing::added_connection))]
+#[tactic(auto, unfolding(crate::specs::EditedText::added_connection))]
 fn added_connection<'a>(
     sdp: &Sdp,
     section: Option<SectionEdit>,
@@ -60,7 +60,7 @@ fn added_connection<'a>(
     }
 }
 
-#[tactic(auto, unfolding(crate::specs::Editing::key_lines))]
+#[tactic(auto, unfolding(crate::specs::EditedText::key_lines))]
 fn key_line<'a>(key: Option<CryptoLine>) -> Option<OutLine<'a>>
     requires { KeysHaveTags (key ∷ []) }
     ensures text { text_or_none result ≡ key_lines (key ∷ []) }
@@ -73,7 +73,7 @@ fn key_line<'a>(key: Option<CryptoLine>) -> Option<OutLine<'a>>
 }
 
 // The crypto lines of a section that ends before the line `next`.
-#[tactic(auto, unfolding(crate::specs::Editing::added_keys))]
+#[tactic(auto, unfolding(crate::specs::EditedText::added_keys))]
 fn added_keys<'a>(
     sdp: &Sdp,
     section: Option<SectionEdit>,
@@ -93,16 +93,16 @@ fn added_keys<'a>(
 }
 
 /// What is written for the line at `index`, which stands at `place`.
-#[tactic(auto, unfolding(crate::specs::Editing::edited_line))]
+#[tactic(auto, unfolding(crate::specs::EditedText::edited_line))]
 pub(crate) fn edited_line<'a>(sdp: &'a Sdp, edit: &Edit, place: Place, index: usize) -> Step<'a>
     requires inside { index < length sdp.now }
     requires few { place.section < 2 ^ 64 - 1 }
     requires small { index < 2 ^ 64 - 1 }
     requires tags { HaveTags edit.now.sections.list }
-    ensures text { (before : List (List ℕ)) (line : List ℕ) → place ≡ place_of before → slice_get sdp.now index ≡ Some line
+    ensures text { (before : List (List ℕ)) (line : List ℕ) → place ≡ line_place before → slice_get sdp.now index ≡ Some line
         → step_text result ≡ edited_line edit.now before line (drop (index + 1) sdp.now) }
-    ensures here { (before : List (List ℕ)) (line : List ℕ) → place ≡ place_of before → slice_get sdp.now index ≡ Some line
-        → result.here ≡ place_of (line ∷ before) }
+    ensures here { (before : List (List ℕ)) (line : List ℕ) → place ≡ line_place before → slice_get sdp.now index ≡ Some line
+        → result.here ≡ line_place (line ∷ before) }
     ensures short { (line : List ℕ) → slice_get sdp.now index ≡ Some line → length (step_text result) ≤ length line + 284 }
 {
     let line = sdp.line(index);

@@ -9,7 +9,7 @@ ghost use Rattle.sdp_text.specs.declared.host.Host.{Host};
 
 use crate::edits::SectionEdit;
 use crate::field::cut;
-use crate::rewritten::{Inserted, OutLine};
+use crate::out_lines::{Inserted, OutLine};
 use itoa::Buffer;
 use sdp_text::{Host, Proto, host_text};
 

@@ -8,7 +8,7 @@ use Rattle.sdp_text.proofs.JoinLemmas.{joined_is, tail_of, longest_within}
 use Rattle.sdp_text.specs.Hosts.{host_of, text_of, all_some, exactly, octet, octet_text, group, group_text, groups, joined_groups, groups_of_bytes, bytes_of_groups, filled_up, eight_groups, eight_groups_around, around_run, longest_run}
 use Rattle.sdp_text.specs.declared.host.Host.{Host}
 use Rattle.sdp_text.specs.declared.host.Host.TheVariants.{V4, V6}
-use Rattle.sdp_laws.specs.Written.{AreZeros, IsAddress, family_of}
+use Rattle.sdp_laws.specs.Addresses.{AreZeros, IsAddress, family_word}
 use Rattle.sdp_laws.proofs.Colons.{found_between, none_in_groups}
 use Rattle.sdp_laws.proofs.Digits.{free, octet_read, octet_free, group_read, group_free, group_some}
 use Rattle.sdp_laws.proofs.Each.{Each, each, each_weaker, all}
@@ -107,6 +107,6 @@ v6_read bytes whole small =
     let read = eight_read gs (groups_count bytes 8 whole) (all (λ g. g < 65536) gs (groups_small bytes small)) in
     ap (option_map (λ x. V6 (bytes_of_groups x))) read ∙ ap (λ b. Some (V6 b)) (bytes_back bytes 8 whole small)
 
-pub address_read : (h : Host) → IsAddress h → host_of (family_of h) (text_of h) ≡ Some h
+pub address_read : (h : Host) → IsAddress h → host_of (family_word h) (text_of h) ≡ Some h
 address_read (V4 bytes) a = v4_read bytes a.count (each (λ b. b < 256) bytes a.each)
 address_read (V6 bytes) a = v6_read bytes a.count (each (λ b. b < 256) bytes a.each)

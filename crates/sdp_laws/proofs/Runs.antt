@@ -3,7 +3,7 @@ use Rattle.std.proofs.Common.{◌≡◌, ℕ, zero, suc, ◌+◌, ◌<◌, ◌�
 use Rattle.std.specs.List.{prefix_len}
 use Rattle.std.proofs.lemmas.Bool.{ltb-true, ltb-false, eq-eqb, eqb-true}
 use Rattle.sdp_text.specs.Hosts.{longest_run}
-use Rattle.sdp_laws.specs.Written.{AreZeros, IsLongestRun}
+use Rattle.sdp_laws.specs.Addresses.{AreZeros, IsLongestRun}
 
 -- how many groups of zero stand in front
 abbrev zeros : List ℕ → ℕ

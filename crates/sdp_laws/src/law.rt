@@ -1,11 +1,11 @@
 ghost use Rattle.std.specs.Prelude.{◌≡◌, ℕ, List, Some};
 ghost use Rattle.sdp_text.specs.Hosts.{host_of, longest_run, text_of};
 ghost use Rattle.sdp_text.specs.declared.host.Host.{Host};
-ghost use Rattle.sdp_laws.specs.Written.{IsAddress, IsLongestRun, family_of};
+ghost use Rattle.sdp_laws.specs.Addresses.{IsAddress, IsLongestRun, family_word};
 
 /// Theorem (no run-time code): the text of an address, behind the word for its family, is read as that address.
 pub fn written_host_is_read()
-    ensures { (h : Host) → IsAddress h → host_of (family_of h) (text_of h) ≡ Some h }
+    ensures { (h : Host) → IsAddress h → host_of (family_word h) (text_of h) ≡ Some h }
 {}
 
 /// Theorem (no run-time code): the run of groups that is written as `::` has groups of zero alone, no run of them is longer, and of those that are

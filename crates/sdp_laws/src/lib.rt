@@ -1,6 +1,6 @@
 //! Laws of addresses as texts: an address that is written is read as itself, and the run that stands as `::` is the longest one.
 //!
-//! Module `law` states them. `specs/Written.antt` says what an address is and what a run of zero groups is. There is nothing to run here, and
+//! Module `law` states them. `specs/Addresses.antt` says what an address is and what a run of zero groups is. There is nothing to run here, and
 //! nothing stands on this crate.
 #![tactic(auto)]
 

@@ -3,8 +3,8 @@ use Rattle.std.proofs.Common.{◌≡◌, ℕ, zero, suc, ◌≤◌, ltb, cond, t
 use Rattle.std.proofs.lemmas.Bool.{true≢false, ltb-false}
 use Rattle.std.proofs.lemmas.List.{length-map}
 use Rattle.std.specs.Option.{option_map}
-use Rattle.sdp_text.specs.Parts.{or_else, parts, is_active, is_unplaced, earlier, line_of, count_fault, address_fault, connection_fault, given_fault, rtcp_fault, part_fault, served_fault, known, connection_host, given_host, rtcp_host, section_of}
-use Rattle.sdp_text.specs.Reading.{IsServed, fault_in, sections_in, sections_fault, unplaced_fault, dtls_fault, number_fault}
+use Rattle.sdp_text.specs.Parts.{first_of_two, media_parts, is_active_line, is_unplaced, earlier, fault_line, count_fault, address_fault, connection_fault, given_fault, rtcp_fault, part_fault, served_fault, known, connection_host, given_host, rtcp_host, section_of}
+use Rattle.sdp_text.specs.Descriptions.{HasItsAddresses, fault_in, sections_in, sections_fault, unplaced_fault, dtls_fault, number_fault}
 use Rattle.sdp_text.specs.LineFaults.{faulty_line}
 use Rattle.sdp_text.specs.declared.host.Host.{Host}
 use Rattle.sdp_text.specs.declared.role.Address.{Address}
@@ -15,14 +15,14 @@ use Rattle.sdp_text.specs.declared.section.Section.{Section}
 use Rattle.sdp_text.specs.declared.fault.SdpFault.{SdpFault}
 use Rattle.sdp_text.specs.declared.fault.SdpFault.TheVariants as faults
 
-or_else_none : {X : Type 0} (a b : Option X) → or_else a b ≡ None → (a ≡ None) × (b ≡ None)
+or_else_none : {X : Type 0} (a b : Option X) → first_of_two a b ≡ None → (a ≡ None) × (b ≡ None)
 or_else_none None b e = (refl, e)
 or_else_none (Some x) b e = absurd (cc)
 
 earlier_none : (a b : Option SdpFault) → earlier a b ≡ None → (a ≡ None) × (b ≡ None)
 earlier_none None b e = (refl, e)
 earlier_none (Some x) None e = absurd (cc)
-earlier_none (Some x) (Some y) e = absurd (elim (ltb (line_of y) (line_of x)) as (λ t. cond t (Some y) (Some x) ≡ None → ⊥) [ true ↦ λ h. cc | false ↦ λ h. cc ] e)
+earlier_none (Some x) (Some y) e = absurd (elim (ltb (fault_line y) (fault_line x)) as (λ t. cond t (Some y) (Some x) ≡ None → ⊥) [ true ↦ λ h. cc | false ↦ λ h. cc ] e)
 
 -- no element passes, where none is found
 find_none : (p : Part → Bool) (x : Part) (xs : List Part) → find p (x ∷ xs) ≡ None → (p x ≡ false) × (find p xs ≡ None)
@@ -53,7 +53,7 @@ record Placed (part : Part) : Type 0 where
   address : IsSome (connection_host part.connection)
   rtcp_address : IsSome (rtcp_host (connection_host part.connection) part.rtcp)
 
-placed : (part : Part) → is_active part.media ≡ true → is_unplaced part ≡ false → part_fault part ≡ None → Placed part
+placed : (part : Part) → is_active_line part.media ≡ true → is_unplaced part ≡ false → part_fault part ≡ None → Placed part
 placed part active unplaced fault =
     let open_unplaced = rw active at unplaced in
     let open_fault = rw active at fault in
@@ -63,19 +63,19 @@ placed part active unplaced fault =
     let host = connection_known part.connection some addresses_none.0 in
     record { address = host; rtcp_address = rtcp_known (connection_host part.connection) part.rtcp host addresses_none.1 }
 
-served_one : (part : Part) → is_unplaced part ≡ false → part_fault part ≡ None → IsServed (section_of part)
+served_one : (part : Part) → is_unplaced part ≡ false → part_fault part ≡ None → HasItsAddresses (section_of part)
 served_one part unplaced fault = record {
   address = λ active. (placed part active unplaced fault).address;
   rtcp_address = λ active. (placed part active unplaced fault).rtcp_address;
 }
 
-served_each : (ps : List Part) → find is_unplaced ps ≡ None → served_fault ps ≡ None → (i : ℕ) (s : Section) → slice_get (map section_of ps) i ≡ Some s → IsServed s
+served_each : (ps : List Part) → find is_unplaced ps ≡ None → served_fault ps ≡ None → (i : ℕ) (s : Section) → slice_get (map section_of ps) i ≡ Some s → HasItsAddresses s
 served_each [] f e i s at = absurd (cc)
 served_each (p ∷ ps) f e zero s at =
     let this = find_none is_unplaced p ps f in
     let fault = earlier_none (part_fault p) (served_fault ps) e in
     let same : section_of p ≡ s = cc in
-    subst IsServed same (served_one p this.0 fault.0)
+    subst HasItsAddresses same (served_one p this.0 fault.0)
 served_each (p ∷ ps) f e (suc i) s at =
     let this = find_none is_unplaced p ps f in
     let fault = earlier_none (part_fault p) (served_fault ps) e in
@@ -88,20 +88,20 @@ few_none : (ps : List Part) → number_fault ps ≡ None → length ps ≤ 8
 few_none ps e = ltb-false 8 (length ps) (elim (ltb 8 (length ps)) as (λ t. cond t (Some (faults.TooManyMedia (length ps))) None ≡ None → t ≡ false) [ true ↦ λ h. absurd (cc) | false ↦ λ h. refl ] e)
 
 record Whole (lines : List (List ℕ)) : Type 0 where
-  placed : find is_unplaced (parts lines) ≡ None
-  few : length (parts lines) ≤ 8
-  served : served_fault (parts lines) ≡ None
+  placed : find is_unplaced (media_parts lines) ≡ None
+  few : length (media_parts lines) ≤ 8
+  served : served_fault (media_parts lines) ≡ None
 
 whole : (lines : List (List ℕ)) → fault_in lines ≡ None → Whole lines
 whole lines e =
-    let all = or_else_none (option_map faults.Line (faulty_line lines)) (sections_fault (parts lines)) e in
-    let first = or_else_none (unplaced_fault (parts lines)) (or_else (dtls_fault (parts lines)) (or_else (number_fault (parts lines)) (served_fault (parts lines)))) all.1 in
-    let second = or_else_none (dtls_fault (parts lines)) (or_else (number_fault (parts lines)) (served_fault (parts lines))) first.1 in
-    let third = or_else_none (number_fault (parts lines)) (served_fault (parts lines)) second.1 in
-    record { placed = unplaced_none (parts lines) first.0; few = few_none (parts lines) third.0; served = third.1 }
+    let all = or_else_none (option_map faults.Line (faulty_line lines)) (sections_fault (media_parts lines)) e in
+    let first = or_else_none (unplaced_fault (media_parts lines)) (first_of_two (dtls_fault (media_parts lines)) (first_of_two (number_fault (media_parts lines)) (served_fault (media_parts lines)))) all.1 in
+    let second = or_else_none (dtls_fault (media_parts lines)) (first_of_two (number_fault (media_parts lines)) (served_fault (media_parts lines))) first.1 in
+    let third = or_else_none (number_fault (media_parts lines)) (served_fault (media_parts lines)) second.1 in
+    record { placed = unplaced_none (media_parts lines) first.0; few = few_none (media_parts lines) third.0; served = third.1 }
 
-pub sections_served : (lines : List (List ℕ)) → fault_in lines ≡ None → (i : ℕ) (s : Section) → slice_get (sections_in lines) i ≡ Some s → IsServed s
-sections_served lines e i s at = let w = whole lines e in served_each (parts lines) w.placed w.served i s at
+pub sections_served : (lines : List (List ℕ)) → fault_in lines ≡ None → (i : ℕ) (s : Section) → slice_get (sections_in lines) i ≡ Some s → HasItsAddresses s
+sections_served lines e i s at = let w = whole lines e in served_each (media_parts lines) w.placed w.served i s at
 
 pub sections_few : (lines : List (List ℕ)) → fault_in lines ≡ None → length (sections_in lines) ≤ 8
 sections_few lines e = let w = whole lines e in simp length-map w.few

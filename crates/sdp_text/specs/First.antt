@@ -2,7 +2,7 @@
 use Rattle.std.specs.Prelude.{◌≡◌, ◌<◌, ◌≤◌, ◌-◌, ℕ, List, true, false, Some, map, slice_get, Contains}
 use Rattle.std.specs.Option.{IfSome}
 use Rattle.sdp_text.specs.Hosts.{is_v6}
-use Rattle.sdp_text.specs.Parts.{is_active, line_of}
+use Rattle.sdp_text.specs.Parts.{is_active_line, fault_line}
 use Rattle.sdp_text.specs.Roles.{role}
 use Rattle.sdp_text.specs.declared.fault.SdpFault.{SdpFault}
 use Rattle.sdp_text.specs.declared.fault.SdpFault.TheVariants as faults
@@ -15,15 +15,15 @@ use Rattle.sdp_text.specs.declared.role.Role.{Role}
 use Rattle.sdp_text.specs.declared.role.Role.TheVariants.{Media, Connection, Rtcp}
 
 -- the line with this number, from 1, says this
-pub record Says (lines : List (List ℕ)) (number : ℕ) (what : Role) : Type 0 where
+pub record LineSays (lines : List (List ℕ)) (number : ℕ) (what : Role) : Type 0 where
   pub numbered : 0 < number
   pub says : slice_get (map role lines) (number - 1) ≡ Some what
 
 -- the lines that a section keeps are lines of the description that say so: its `m=` line, the `c=` line in effect and its `a=rtcp` line
 pub record IsOfLines (lines : List (List ℕ)) (part : Part) : Type 0 where
-  pub media : Says lines part.line (Media part.media)
-  pub connection : IfSome part.connection (λ c. Says lines c.0 (Connection c.1))
-  pub rtcp : IfSome part.rtcp (λ r. Says lines r.0 (Rtcp r.1))
+  pub media : LineSays lines part.line (Media part.media)
+  pub connection : IfSome part.connection (λ c. LineSays lines c.0 (Connection c.1))
+  pub rtcp : IfSome part.rtcp (λ r. LineSays lines r.0 (Rtcp r.1))
 
 -- the line with this number has an address that is in effect for a section: its `c=` line, or its `a=rtcp` line
 pub data Names (part : Part) (number : ℕ) (address : Address) : Type 0 where
@@ -39,19 +39,19 @@ pub data IsAtFault (part : Part) (fault : SdpFault) : Type 0 where
 pub record HasFault (sections : List Part) (fault : SdpFault) : Type 0 where
   pub part : Part
   pub among : Contains sections part
-  pub active : is_active part.media ≡ true
+  pub active : is_active_line part.media ≡ true
   pub at_fault : IsAtFault part fault
 
 -- the fault with the lowest line
 pub record IsFirstFault (sections : List Part) (fault : SdpFault) : Type 0 where
   pub there : HasFault sections fault
-  pub lowest : (other : SdpFault) → HasFault sections other → line_of fault ≤ line_of other
+  pub lowest : (other : SdpFault) → HasFault sections other → fault_line fault ≤ fault_line other
 
 -- one of the sections is active, and the line with this number has an IPv6 address that is in effect for it
 pub record HasV6 (sections : List Part) (number : ℕ) : Type 0 where
   pub part : Part
   pub among : Contains sections part
-  pub active : is_active part.media ≡ true
+  pub active : is_active_line part.media ≡ true
   pub host : Host
   pub v6 : is_v6 host ≡ true
   pub names : Names part number (Known host)

@@ -5,6 +5,6 @@ pub mod Hosts
 pub mod Roles
 pub mod LineFaults
 pub mod Parts
-pub mod Reading
+pub mod Descriptions
 pub mod Limits
 pub mod First

@@ -3,7 +3,7 @@ use Rattle.std.specs.Prelude.{ℕ, ◌+◌, List, [], ◌∷◌, length, drop, B
 use Rattle.std.specs.List.{list_any}
 use Rattle.std.specs.Str.{bytes_eq}
 use Rattle.sdp_text.specs.Pieces.{fields, are_filled}
-use Rattle.sdp_text.specs.Roles.{is_origin, is_connection, is_media, is_rtcp, media, connection, rtcp}
+use Rattle.sdp_text.specs.Roles.{is_origin, is_connection, is_media, is_rtcp_attribute, media, connection, rtcp}
 
 -- a lower-case letter, `=` and a rest (RFC 8866 section 5)
 abbrev pub is_typed : List ℕ → Bool
@@ -32,7 +32,7 @@ abbrev pub is_media_faulty : List ℕ → Bool
 is_media_faulty line = is_media line && is_none (media (drop 2 line))
 
 abbrev pub is_rtcp_faulty : List ℕ → Bool
-is_rtcp_faulty line = is_rtcp line && is_none (rtcp (drop 7 line))
+is_rtcp_faulty line = is_rtcp_attribute line && is_none (rtcp (drop 7 line))
 
 -- whether the line with this number, from 1, is faulty
 abbrev pub is_faulty : ℕ → List ℕ → Bool

@@ -33,14 +33,14 @@ first_rtcp number (Rtcp line ∷ more) = Some (number, line)
 first_rtcp number (Plain ∷ more) = first_rtcp (number + 1) more
 
 -- the first of two that is there
-abbrev pub or_else : {X : Type 0} → Option X → Option X → Option X
-or_else None second = second
-or_else (Some x) second = Some x
+abbrev pub first_of_two : {X : Type 0} → Option X → Option X → Option X
+first_of_two None second = second
+first_of_two (Some x) second = Some x
 
 -- each section, with the `c=` line in effect: its own first one, else the session's
 abbrev pub parts_from : Option (ℕ × Address) → ℕ → List Role → List Part
 parts_from session number [] = []
-parts_from session number (Media line ∷ more) = record { line = number; media = line; connection = or_else (first_connection (number + 1) more) session; rtcp = first_rtcp (number + 1) more } ∷ parts_from session (number + 1) more
+parts_from session number (Media line ∷ more) = record { line = number; media = line; connection = first_of_two (first_connection (number + 1) more) session; rtcp = first_rtcp (number + 1) more } ∷ parts_from session (number + 1) more
 parts_from session number (Connection address ∷ more) = parts_from session (number + 1) more
 parts_from session number (Rtcp line ∷ more) = parts_from session (number + 1) more
 parts_from session number (Plain ∷ more) = parts_from session (number + 1) more
@@ -48,41 +48,41 @@ parts_from session number (Plain ∷ more) = parts_from session (number + 1) mor
 abbrev pub parts_of_roles : List Role → List Part
 parts_of_roles roles = parts_from (first_connection 1 roles) 1 roles
 
-abbrev pub parts : List (List ℕ) → List Part
-parts lines = parts_of_roles (map role lines)
+abbrev pub media_parts : List (List ℕ) → List Part
+media_parts lines = parts_of_roles (map role lines)
 
 -- one of the four protocols of RTP
-abbrev pub is_rtp : Proto → Bool
-is_rtp Avp = true
-is_rtp Avpf = true
-is_rtp Savp = true
-is_rtp Savpf = true
-is_rtp Other = false
+abbrev pub is_rtp_proto : Proto → Bool
+is_rtp_proto Avp = true
+is_rtp_proto Avpf = true
+is_rtp_proto Savp = true
+is_rtp_proto Savpf = true
+is_rtp_proto Other = false
 
-abbrev pub is_active : MediaLine → Bool
-is_active line = not (line.port == 0) && is_rtp line.proto
+abbrev pub is_active_line : MediaLine → Bool
+is_active_line line = not (line.port == 0) && is_rtp_proto line.proto
 
 -- an active section without an address, or without a port for RTCP
 abbrev pub is_unplaced : Part → Bool
-is_unplaced part = is_active part.media && (is_none part.connection || (part.media.port == 65535 && is_none part.rtcp))
+is_unplaced part = is_active_line part.media && (is_none part.connection || (part.media.port == 65535 && is_none part.rtcp))
 
 abbrev pub is_dtls_part : Part → Bool
 is_dtls_part part = not (part.media.port == 0) && part.media.is_dtls
 
 -- the line that a fault names
-abbrev pub line_of : SdpFault → ℕ
-line_of (faults.Line n) = n
-line_of (faults.Address n) = n
-line_of (faults.PortCount n) = n
-line_of (faults.TooManyMedia n) = 0
-line_of faults.Dtls = 0
-line_of faults.OutOfMemory = 0
+abbrev pub fault_line : SdpFault → ℕ
+fault_line (faults.Line n) = n
+fault_line (faults.Address n) = n
+fault_line (faults.PortCount n) = n
+fault_line (faults.TooManyMedia n) = 0
+fault_line faults.Dtls = 0
+fault_line faults.OutOfMemory = 0
 
 -- the fault of the earlier line
 abbrev pub earlier : Option SdpFault → Option SdpFault → Option SdpFault
 earlier None second = second
 earlier (Some first) None = Some first
-earlier (Some first) (Some second) = if nat_lt (line_of second) (line_of first) then Some second else Some first
+earlier (Some first) (Some second) = if nat_lt (fault_line second) (fault_line first) then Some second else Some first
 
 abbrev pub count_fault : Part → Option SdpFault
 count_fault part = if part.media.is_single then None else Some (faults.PortCount part.line)
@@ -105,7 +105,7 @@ rtcp_fault (Some r) = given_fault r.0 r.1.address
 
 -- the first line of an active section that can't be served
 abbrev pub part_fault : Part → Option SdpFault
-part_fault part = if is_active part.media then earlier (count_fault part) (earlier (connection_fault part.connection) (rtcp_fault part.rtcp)) else None
+part_fault part = if is_active_line part.media then earlier (count_fault part) (earlier (connection_fault part.connection) (rtcp_fault part.rtcp)) else None
 
 -- the first such line of all sections
 abbrev pub served_fault : List Part → Option SdpFault
@@ -136,7 +136,7 @@ v6_rtcp (Some r) = v6_given r.0 r.1.address
 
 -- the first line in effect for an active section that names an IPv6 address
 abbrev pub v6_part : Part → Option ℕ
-v6_part part = if is_active part.media then lower (v6_connection part.connection) (v6_rtcp part.rtcp) else None
+v6_part part = if is_active_line part.media then lower (v6_connection part.connection) (v6_rtcp part.rtcp) else None
 
 abbrev pub v6_line : List Part → Option ℕ
 v6_line [] = None

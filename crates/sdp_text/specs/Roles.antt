@@ -25,8 +25,8 @@ abbrev pub is_media : List ℕ → Bool
 is_media line = starts_with nat_eq line (codes "m=")
 
 -- RFC 3605 section 2.1
-abbrev pub is_rtcp : List ℕ → Bool
-is_rtcp line = starts_with nat_eq line (codes "a=rtcp:")
+abbrev pub is_rtcp_attribute : List ℕ → Bool
+is_rtcp_attribute line = starts_with nat_eq line (codes "a=rtcp:")
 
 -- RFC 8866 section 5.14, RFC 4585 section 8, RFC 3711, RFC 5124
 abbrev pub proto_of : List ℕ → Proto
@@ -122,4 +122,4 @@ rtcp_role (Some line) = Rtcp line
 
 -- what a line says; a line that can't be read says nothing
 abbrev pub role : List ℕ → Role
-role line = if is_media line then media_role (media (drop 2 line)) else if is_connection line then connection_role (connection (drop 2 line)) else if is_rtcp line then rtcp_role (rtcp (drop 7 line)) else Plain
+role line = if is_media line then media_role (media (drop 2 line)) else if is_connection line then connection_role (connection (drop 2 line)) else if is_rtcp_attribute line then rtcp_role (rtcp (drop 7 line)) else Plain

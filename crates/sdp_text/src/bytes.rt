@@ -28,9 +28,9 @@ pub struct Bytes {
 impl Model for Bytes {
     ghost use Rattle.std.specs.Prelude.{ℕ, ◌-◌, vec_len};
     ghost use Rattle.std.specs.Vec.{vec_capacity};
-    ghost use Rattle.sdp_text.specs.Room.{Room};
+    ghost use Rattle.sdp_text.specs.Room.{Reserve};
 
-    ghost Value = { Room ℕ };
+    ghost Value = { Reserve ℕ };
 
     ghost view = { λ b. record { list = b.items.items; spare = vec_capacity b.items - vec_len b.items } };
 }

@@ -1,7 +1,7 @@
 ghost use Rattle.std.specs.Prelude.{◌≡◌, ◌<◌, ◌≤◌, ◌^◌, ◌-◌, length, IfOk};
 ghost use Rattle.std.specs.List.{list_any};
-ghost use Rattle.sdp_text.specs.Parts.{first_connection, parts_of_roles, is_active, is_unplaced, is_dtls_part, line_of, earlier, address_fault, connection_fault, given_fault, rtcp_fault, count_fault, part_fault, served_fault};
-ghost use Rattle.sdp_text.specs.Reading.{unplaced_fault, sections_fault};
+ghost use Rattle.sdp_text.specs.Parts.{first_connection, parts_of_roles, is_active_line, is_unplaced, is_dtls_part, fault_line, earlier, address_fault, connection_fault, given_fault, rtcp_fault, count_fault, part_fault, served_fault};
+ghost use Rattle.sdp_text.specs.Descriptions.{unplaced_fault, sections_fault};
 
 use crate::bytes::OutOfMemory;
 use crate::fault::SdpFault;
@@ -79,7 +79,7 @@ pub(crate) fn parts_of(alloc: Global, roles: &[Role]) -> Result<Vec<Part>, OutOf
 
 /// Whether a section carries RTP: its port isn't 0, and its protocol is one of the four.
 pub(crate) fn is_active(media: &MediaLine) -> bool
-    ensures { result ≡ is_active media.now }
+    ensures { result ≡ is_active_line media.now }
 {
     media.port != 0 && !matches!(media.proto, Proto::Other)
 }
@@ -115,7 +115,7 @@ fn asks_for_dtls(parts: &[Part]) -> bool
 }
 
 fn line_of(fault: &SdpFault) -> u32
-    ensures { result ≡ line_of fault.now }
+    ensures { result ≡ fault_line fault.now }
 {
     match fault {
         SdpFault::Line(line) => *line,

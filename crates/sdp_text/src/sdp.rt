@@ -1,6 +1,6 @@
 ghost use Rattle.std.specs.Prelude.{◌≡◌, ◌≢◌, ◌≤◌, ◌<◌, ◌^◌, length, IfOk, IfErr, OnOk, Some, None, slice_get};
 ghost use Rattle.sdp_text.specs.Lines.{lines_of, size_of};
-ghost use Rattle.sdp_text.specs.Reading.{fault_in, sections_in, v6_line_in, IsServed};
+ghost use Rattle.sdp_text.specs.Descriptions.{fault_in, sections_in, v6_line_in, HasItsAddresses};
 
 use crate::bytes::OutOfMemory;
 use crate::fault::SdpFault;
@@ -27,7 +27,7 @@ impl<'a> Model for Sdp<'a> {
 
     ghost Value = { List (List ℕ) };
 
-    ghost use Rattle.sdp_text.specs.Reading.{IsRead};
+    ghost use Rattle.sdp_text.specs.Descriptions.{IsRead};
 
     ghost view = { λ s. map (λ x. x.now) s.lines.items };
 
@@ -109,7 +109,7 @@ impl<'a> Sdp<'a> {
         requires { index < length (sections_in self.now) }
         ensures section { slice_get (sections_in self.now) index ≡ Some result }
         // An active section has an address, for RTCP too.
-        ensures served { IsServed result }
+        ensures served { HasItsAddresses result }
     {
         section_at(self.sections.as_slice(), index)
     }

@@ -24,7 +24,7 @@ pub struct Section {
 }
 
 impl Section {
-    ghost use Rattle.sdp_text.specs.Reading.{IsActive};
+    ghost use Rattle.sdp_text.specs.Descriptions.{IsActive};
 
     /// Whether it carries RTP: its protocol is one of the four, and its port isn't 0.
     pub fn is_active(&self) -> bool

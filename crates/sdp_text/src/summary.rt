@@ -1,5 +1,5 @@
 ghost use Rattle.std.specs.Prelude.{◌≡◌, map, IfOk};
-ghost use Rattle.sdp_text.specs.Parts.{lower, v6_address, v6_connection, v6_given, v6_rtcp, v6_part, v6_line, is_active, known, connection_host, next_port, rtcp_port, given_host, rtcp_host, is_held, section_of};
+ghost use Rattle.sdp_text.specs.Parts.{lower, v6_address, v6_connection, v6_given, v6_rtcp, v6_part, v6_line, is_active_line, known, connection_host, next_port, rtcp_port, given_host, rtcp_host, is_held, section_of};
 
 use crate::bytes::OutOfMemory;
 use crate::host::Host;

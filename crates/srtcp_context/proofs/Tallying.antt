@@ -11,8 +11,8 @@ use Rattle.srtp_sources.specs.Notes.{Note, indices, sources, has_room, is_room_i
 use Rattle.srtp_sources.proofs.Knowing.{has, equal, equal_if, any-position, indices-unknown, note_of, sources-known, sources-new, indices-noted, indices-other, same_source}
 use Rattle.srtcp_context.specs.declared.counts.Counts.{Counts}
 use Rattle.srtcp_context.specs.declared.counts.Sender.{Sender}
-use Rattle.srtcp_context.specs.Wrapping.{next_index}
-use Rattle.srtcp_context.specs.Counting.{CountsFor, IsPlaced, can_count}
+use Rattle.srtcp_context.specs.OutboundPackets.{next_index}
+use Rattle.srtcp_context.specs.Counts.{CountsFor, IsSenderPlaced, can_count}
 
 pub none_known : (table : Counts) → table.count ≡ 0 → CountsFor table []
 unfolding sources
@@ -22,7 +22,7 @@ none_known table none = record {
 }
 
 -- where a source stands that was found
-pub stands_there : (table : Counts) (sender : Sender) → length table.ssrcs ≡ 32 → table.count ≤ 32 → IsPlaced table sender
+pub stands_there : (table : Counts) (sender : Sender) → length table.ssrcs ≡ 32 → table.count ≤ 32 → IsSenderPlaced table sender
     → IfSome sender.place (λ place. (place < table.count) × (slice_index table.ssrcs place ≡ sender.ssrc))
 stands_there table sender places within placed = by_place sender.place placed
   where

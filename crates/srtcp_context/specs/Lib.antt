@@ -1,6 +1,6 @@
 pub mod Packets
-pub mod Opening
-pub mod Wrapping
+pub mod InboundPackets
+pub mod OutboundPackets
 pub mod Sessions
-pub mod Counting
+pub mod Counts
 pub mod Contexts

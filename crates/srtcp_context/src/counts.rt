@@ -28,8 +28,8 @@ impl Counts {
     ghost use Rattle.std.specs.Prelude.{◌≡◌, ◌<◌, ◌^◌, ◌+◌, ◌==◌, List, [], ◌∷◌, ℕ, IfSome, position, slice_index, slice_set, true, take, length};
     ghost use Rattle.rtp_packet.specs.declared.head.Half.TheVariants.{Rtcp};
     ghost use Rattle.srtp_sources.specs.Notes.{Note, has_room};
-    ghost use Rattle.srtcp_context.specs.Wrapping.{next_index};
-    ghost use Rattle.srtcp_context.specs.Counting.{CountsFor, IsPlaced, can_count};
+    ghost use Rattle.srtcp_context.specs.OutboundPackets.{next_index};
+    ghost use Rattle.srtcp_context.specs.Counts.{CountsFor, IsSenderPlaced, can_count};
 
     /// A table without a source.
     pub(crate) fn new() -> Counts
@@ -45,7 +45,7 @@ impl Counts {
     /// Looks a source up. The calls that take the answer look no further.
     pub(crate) fn find(&self, ssrc: u32) -> Sender
         ensures ssrc { result.ssrc ≡ ssrc }
-        ensures placed { IsPlaced self.now result }
+        ensures placed { IsSenderPlaced self.now result }
     {
         let place = self.ssrcs[..self.count]
             .iter()
@@ -55,7 +55,7 @@ impl Counts {
 
     // Where a source that was found stands.
     fn place(&self, sender: Sender) -> Option<usize>
-        requires { IsPlaced self.now sender }
+        requires { IsSenderPlaced self.now sender }
         ensures first { result ≡ position (λ known. known == sender.ssrc) (take self.now.count self.now.ssrcs) }
         ensures found { IfSome result (λ place. (place < self.now.count) × (slice_index self.now.ssrcs place ≡ sender.ssrc)) }
     {
@@ -64,7 +64,7 @@ impl Counts {
 
     /// The index of the next packet of a source that was found: how many it has sent.
     pub(crate) fn next(&self, sender: Sender) -> u32
-        requires { IsPlaced self.now sender }
+        requires { IsSenderPlaced self.now sender }
         ensures { (notes : List Note) → CountsFor self.now notes → result ≡ next_index sender.ssrc notes }
     {
         match self.place(sender) {
@@ -75,7 +75,7 @@ impl Counts {
 
     /// Whether a source that was looked up is known or may still come in.
     pub(crate) fn has_room(&self, sender: Sender) -> bool
-        requires { IsPlaced self.now sender }
+        requires { IsSenderPlaced self.now sender }
         ensures room { result ≡ can_count self.now sender.ssrc }
         ensures notes { (notes : List Note) → CountsFor self.now notes → result ≡ has_room Rtcp sender.ssrc notes }
     {
@@ -84,7 +84,7 @@ impl Counts {
 
     /// Counts a packet of a source that was found; `next` is what that call returns.
     pub(crate) fn advance(&mut self, sender: Sender, next: u32)
-        requires placed { IsPlaced self.old sender }
+        requires placed { IsSenderPlaced self.old sender }
         requires next { next < 2 ^ 31 }
         requires room { can_count self.old sender.ssrc ≡ true }
         ensures { (notes : List Note) → CountsFor self.old notes → next ≡ next_index sender.ssrc notes → CountsFor self.new (record { half = Rtcp; ssrc = sender.ssrc; index = next } ∷ notes) }

@@ -1,7 +1,7 @@
 ghost use Rattle.std.specs.Prelude.{ℕ, [], ◌≡◌, ◌<◌, ◌≤◌, ◌^◌, List, Some, length, take, IsSome, IfOk, OnErr};
 ghost use Rattle.rtp_packet.specs.Head.{rtcp_ssrc};
 ghost use Rattle.srtp_sources.specs.Notes.{Note};
-ghost use Rattle.srtcp_context.specs.Opening.{opening};
+ghost use Rattle.srtcp_context.specs.InboundPackets.{rtcp_opening};
 
 use crate::session::{RtcpSession, read_word};
 use relay_outside::KeyAndSalt;
@@ -23,11 +23,11 @@ pub struct InRtcp {
 }
 
 impl InRtcp {
-    ghost use Rattle.srtcp_context.specs.Contexts.{InFor, OpensTo};
+    ghost use Rattle.srtcp_context.specs.Contexts.{InRtcpFor, OpensRtcpTo};
 
     /// The context of a master key of 16 bytes with a master salt of 14 after it, which has taken no packet.
     pub fn new(key: &KeyAndSalt) -> InRtcp
-        ensures { InFor key.now result [] }
+        ensures { InRtcpFor key.now result [] }
     {
         InRtcp {
             session: RtcpSession::new(key),
@@ -46,7 +46,7 @@ impl InRtcp {
         requires packet { IsSome (rtcp_ssrc (take len buf.old)) }
         ensures fits { IfOk result (λ size. size ≤ len) }
         ensures refused { OnErr result ((self.new ≡ self.old) × (buf.new ≡ buf.old)) }
-        ensures opens { (master : List ℕ) (notes : List Note) → InFor master self.old notes → OpensTo (opening master notes (take len buf.old)) master notes self.old self.new buf.old buf.new result }
+        ensures opens { (master : List ℕ) (notes : List Note) → InRtcpFor master self.old notes → OpensRtcpTo (rtcp_opening master notes (take len buf.old)) master notes self.old self.new buf.old buf.new result }
     {
         let Some(ssrc) = rtcp(&buf[..len]) else {
             unreachable!();
@@ -68,7 +68,7 @@ impl InRtcp {
         ensures fits { IfOk result (λ size. size ≤ len) }
         ensures head { IfOk result (λ size. rtcp_ssrc (take size buf.new) ≡ Some ssrc) }
         ensures refused { OnErr result ((self.new ≡ self.old) × (buf.new ≡ buf.old)) }
-        ensures opens { (master : List ℕ) (notes : List Note) → InFor master self.old notes → OpensTo (opening master notes (take len buf.old)) master notes self.old self.new buf.old buf.new result }
+        ensures opens { (master : List ℕ) (notes : List Note) → InRtcpFor master self.old notes → OpensRtcpTo (rtcp_opening master notes (take len buf.old)) master notes self.old self.new buf.old buf.new result }
     {
         if len < SHORTEST {
             return Err(UnprotectFault::Short);

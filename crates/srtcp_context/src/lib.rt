@@ -3,8 +3,8 @@
 //! each keeps at most 32 sources, and stands for the plain list of the packets that it took or sent.
 //!
 //! Module `session` has the keys, `counts` the counts of sent packets, `inbound` and `outbound` the contexts, `laws` what
-//! holds of protected packets. `specs/Packets.antt` says what a protected packet is, `specs/Opening.antt` and
-//! `specs/Wrapping.antt` how one is judged.
+//! holds of protected packets. `specs/Packets.antt` says what a protected packet is, `specs/InboundPackets.antt` and
+//! `specs/OutboundPackets.antt` how one is judged.
 #![tactic(auto)]
 
 mod counts;

@@ -1,7 +1,7 @@
 ghost use Rattle.std.specs.Prelude.{ℕ, [], ◌≡◌, ◌+◌, ◌<◌, ◌≤◌, ◌^◌, List, Some, length, take, IsSome, IfOk, OnErr};
 ghost use Rattle.rtp_packet.specs.Head.{rtcp_ssrc};
 ghost use Rattle.srtp_sources.specs.Notes.{Note};
-ghost use Rattle.srtcp_context.specs.Wrapping.{wrapping};
+ghost use Rattle.srtcp_context.specs.OutboundPackets.{rtcp_wrapping};
 
 use crate::counts::Counts;
 use crate::session::RtcpSession;
@@ -19,11 +19,11 @@ pub struct OutRtcp {
 }
 
 impl OutRtcp {
-    ghost use Rattle.srtcp_context.specs.Contexts.{OutFor, WrapsTo};
+    ghost use Rattle.srtcp_context.specs.Contexts.{OutRtcpFor, WrapsRtcpTo};
 
     /// The context of a drawn key, which has protected no packet.
     pub fn new(key: RtcpKey) -> OutRtcp
-        ensures { OutFor key.bytes result [] }
+        ensures { OutRtcpFor key.bytes result [] }
     {
         OutRtcp {
             session: RtcpSession::new(&key.into_bytes()),
@@ -45,7 +45,7 @@ impl OutRtcp {
         requires packet { IsSome (rtcp_ssrc (take len buf.old)) }
         ensures fits { IfOk result (λ sent. sent.0 ≡ len + 14) }
         ensures refused { OnErr result ((self.new ≡ self.old) × (buf.new ≡ buf.old)) }
-        ensures wraps { (master : List ℕ) (notes : List Note) → OutFor master self.old notes → WrapsTo (wrapping master notes (take len buf.old)) master notes self.old self.new buf.old buf.new result }
+        ensures wraps { (master : List ℕ) (notes : List Note) → OutRtcpFor master self.old notes → WrapsRtcpTo (rtcp_wrapping master notes (take len buf.old)) master notes self.old self.new buf.old buf.new result }
     {
         let Some(ssrc) = rtcp(&buf[..len]) else {
             unreachable!();
@@ -65,7 +65,7 @@ impl OutRtcp {
         requires head { rtcp_ssrc (take len buf.old) ≡ Some ssrc }
         ensures fits { IfOk result (λ sent. sent.0 ≡ len + 14) }
         ensures refused { OnErr result ((self.new ≡ self.old) × (buf.new ≡ buf.old)) }
-        ensures wraps { (master : List ℕ) (notes : List Note) → OutFor master self.old notes → WrapsTo (wrapping master notes (take len buf.old)) master notes self.old self.new buf.old buf.new result }
+        ensures wraps { (master : List ℕ) (notes : List Note) → OutRtcpFor master self.old notes → WrapsRtcpTo (rtcp_wrapping master notes (take len buf.old)) master notes self.old self.new buf.old buf.new result }
     {
         let sender = self.counts.find(ssrc);
         if !self.counts.has_room(sender) {

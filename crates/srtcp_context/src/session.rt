@@ -2,7 +2,7 @@ ghost use Rattle.std.specs.Prelude.{ℕ, ◌≡◌, ◌+◌, ◌<◌, ◌≤◌,
 ghost use Rattle.rtp_packet.specs.Head.{rtcp_ssrc};
 ghost use Rattle.aes_ctr.specs.Keystream.{xored};
 ghost use Rattle.srtp_sources.specs.Judged.{Writes};
-ghost use Rattle.srtcp_context.specs.Packets.{packet_keystream, code_of, is_authentic, word_of, trailer, protect, opened, ciphered};
+ghost use Rattle.srtcp_context.specs.Packets.{rtcp_keystream, rtcp_code, is_rtcp_authentic, word_of, trailer, protect_rtcp, opened_srtcp, rtcp_ciphered};
 
 use aes_ctr::Cipher;
 use relay_outside::KeyAndSalt;
@@ -48,11 +48,11 @@ pub(crate) fn read_word(bytes: &[u8]) -> u32
 }
 
 impl RtcpSession {
-    ghost use Rattle.srtcp_context.specs.Sessions.{SessionFor};
+    ghost use Rattle.srtcp_context.specs.Sessions.{RtcpSessionFor};
 
     /// The session of a master key of 16 bytes with a master salt of 14 after it.
     pub(crate) fn new(master: &KeyAndSalt) -> RtcpSession
-        ensures { SessionFor master.now result }
+        ensures { RtcpSessionFor master.now result }
     {
         let Session { cipher, auth, salt } = derive(master, Half::Rtcp);
         RtcpSession {
@@ -64,7 +64,7 @@ impl RtcpSession {
 
     /// Enciphers or deciphers what stands after a packet's first 8 bytes.
     pub(crate) fn cipher(&self, payload: &mut [u8], ssrc: u32, index: u32)
-        ensures { (master : List ℕ) → SessionFor master self.now → payload.new ≡ xored payload.old (packet_keystream master ssrc index (length payload.old)) }
+        ensures { (master : List ℕ) → RtcpSessionFor master self.now → payload.new ≡ xored payload.old (rtcp_keystream master ssrc index (length payload.old)) }
     {
         let counter = packet_counter(&self.salt, ssrc, u64::from(index));
         self.cipher.apply(payload, counter);
@@ -73,7 +73,7 @@ impl RtcpSession {
     /// The code of what is authenticated, of which the tag is the first bytes.
     pub(crate) fn code(&self, bytes: &[u8]) -> [u8; 20]
         requires { length bytes.now < 2 ^ 32 }
-        ensures { (master : List ℕ) → SessionFor master self.now → result ≡ code_of master bytes.now }
+        ensures { (master : List ℕ) → RtcpSessionFor master self.now → result ≡ rtcp_code master bytes.now }
     {
         self.mac.tag(bytes, &[])
     }
@@ -82,7 +82,7 @@ impl RtcpSession {
     pub(crate) fn is_authentic(&self, bytes: &[u8]) -> bool
         requires size { length bytes.now < 2 ^ 31 }
         requires tag { 10 ≤ length bytes.now }
-        ensures { (master : List ℕ) → SessionFor master self.now → result ≡ is_authentic master bytes.now }
+        ensures { (master : List ℕ) → RtcpSessionFor master self.now → result ≡ is_rtcp_authentic master bytes.now }
     {
         let end = bytes.len() - TAG;
         let code = self.code(&bytes[..end]);
@@ -94,7 +94,7 @@ impl RtcpSession {
         requires room { len + 14 ≤ length buf.old }
         requires clear { 8 ≤ len }
         requires index { index < 2 ^ 31 }
-        ensures { (master : List ℕ) → SessionFor master self.now → buf.new ≡ (ciphered master ssrc index (take len buf.old) ++ trailer index) ++ drop (len + 4) buf.old }
+        ensures { (master : List ℕ) → RtcpSessionFor master self.now → buf.new ≡ (rtcp_ciphered master ssrc index (take len buf.old) ++ trailer index) ++ drop (len + 4) buf.old }
     {
         self.cipher(&mut buf[CLEAR..len], ssrc, index);
         let word = ENCIPHERED + index;
@@ -109,7 +109,7 @@ impl RtcpSession {
         requires clear { 8 ≤ len }
         requires index { index < 2 ^ 31 }
         ensures fits { result ≡ len + 14 }
-        ensures writes { (master : List ℕ) → SessionFor master self.now → Writes (protect master (take len buf.old) index) buf.old buf.new result }
+        ensures writes { (master : List ℕ) → RtcpSessionFor master self.now → Writes (protect_rtcp master (take len buf.old) index) buf.old buf.new result }
     {
         self.seal(buf, len, ssrc, index);
         let end = len + TRAILER;
@@ -125,7 +125,7 @@ impl RtcpSession {
         requires long { 22 ≤ len }
         ensures fits { result ≤ len }
         ensures head { rtcp_ssrc (take result buf.new) ≡ Some ssrc }
-        ensures writes { (master : List ℕ) → SessionFor master self.now → Writes (opened master (take len buf.old)) buf.old buf.new result }
+        ensures writes { (master : List ℕ) → RtcpSessionFor master self.now → Writes (opened_srtcp master (take len buf.old)) buf.old buf.new result }
     {
         let word = read_word(&buf[..len]);
         let end = len - ADDED;

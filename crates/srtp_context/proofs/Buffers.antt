@@ -11,7 +11,7 @@ use Rattle.rtp_packet.proofs.HeadLemmas.{rtp_head-front}
 use Rattle.sdes_lines.specs.declared.crypto_line.Suite.{Suite}
 use Rattle.aes_ctr.specs.Keystream.{xored}
 use Rattle.srtp_sources.specs.Judged.{Writes}
-use Rattle.srtp_context.specs.Packets.{tag_size, packet_keystream, ciphered, code_of, tag_of, tagged, protect, body, is_authentic, opened}
+use Rattle.srtp_context.specs.Packets.{tag_size, packet_keystream, ciphered, rtp_code, tag_of, tagged, protect, body, is_authentic, opened}
 use Rattle.srtp_context.proofs.PacketLemmas.{length-tag_of, length-ciphered}
 
 -- the middle of a buffer, as a part of its front
@@ -53,14 +53,14 @@ head_stands found len end buf rest head held within before long =
     rtp_head-front (take len buf) (take end new) found head front (omega (arith, kept))
 
 pub is_authentic-is : (master : List ℕ) (suite : Suite) (bytes code : List ℕ) (index size : ℕ) → size ≡ tag_size suite
-    → code ≡ code_of master (take (length bytes - size) bytes) index
+    → code ≡ rtp_code master (take (length bytes - size) bytes) index
     → bytes_eq (take (length bytes - (length bytes - size)) (drop (length bytes - size) bytes)) (take size code)
     ≡ is_authentic master suite bytes index
 unfolding is_authentic
 is_authentic-is master suite bytes code index size tag made =
     ap (λ l. bytes_eq l (take size code)) (between_to_end bytes (length bytes - size) (length bytes) (omega arith)) ∙
     ap (λ l. bytes_eq (drop (length bytes - size) bytes) (take size l)) made
-    ∙ ap (λ n. bytes_eq (drop (length bytes - n) bytes) (take n (code_of master (take (length bytes - n) bytes) index))) tag
+    ∙ ap (λ n. bytes_eq (drop (length bytes - n) bytes) (take n (rtp_code master (take (length bytes - n) bytes) index))) tag
 
 -- opening in place
 pub opened_in_place : (master : List ℕ) (suite : Suite) (found : RtpHead) (index len size : ℕ) (buf new : List ℕ)
@@ -90,7 +90,7 @@ opened_in_place master suite found index len size buf new head held tag within m
 pub protected_in_place : (master : List ℕ) (suite : Suite) (found : RtpHead) (index len size : ℕ) (buf between code new : List ℕ)
     → rtp_head (take len buf) ≡ Some found → found.head ≤ len → len + size ≤ length buf → size ≡ tag_size suite
     → between ≡ ciphered master found index (take len buf) ++ drop len buf
-    → code ≡ code_of master (take len between) index
+    → code ≡ rtp_code master (take len between) index
     → new ≡ put_mid len size between (take size code)
     → Writes (protect master suite (take len buf) index) buf new (len + size)
 unfolding protect
@@ -102,7 +102,7 @@ protected_in_place master suite found index len size buf between code new head w
     let front : take len between ≡ sent = ap (λ l. take len l) enciphered ∙ take_at sent (drop len buf) len sent_size in
     let behind : drop len between ≡ drop len buf = ap (λ l. drop len l) enciphered ∙ drop_at sent (drop len buf) len sent_size in
     let mark : take size code ≡ tag_of master suite sent index =
-    ap (λ l. take size l) (made ∙ ap (λ l. code_of master l index) front) ∙ ap (λ n. take n (code_of master sent index)) tag in
+    ap (λ l. take size l) (made ∙ ap (λ l. rtp_code master l index) front) ∙ ap (λ n. take n (rtp_code master sent index)) tag in
     let is : option_map_or (λ h. tagged master suite (ciphered master h index packet) index) (rtp_head packet) [] ≡ tagged master suite sent index =
     ap (λ o. option_map_or (λ h. tagged master suite (ciphered master h index packet) index) o []) head in
     let whole_size : length (tagged master suite sent index) ≡ len + size =

@@ -15,7 +15,7 @@ use Rattle.srtp_keys.specs.declared.faults.UnprotectFault.TheVariants as fault
 use Rattle.srtp_sources.specs.Notes.{Note, indices}
 use Rattle.srtp_sources.specs.Judged.{judged_index}
 use Rattle.srtp_context.specs.Packets.{tag_size, is_authentic}
-use Rattle.srtp_context.specs.Opening.{index_near, taken_index, opened_at, opening}
+use Rattle.srtp_context.specs.InboundPackets.{index_near, taken_index, opened_at, opening}
 
 less : (a b : ℕ) → a < b → nat_lt a b ≡ true
 less a b is = grind (arith, nat_tests)

@@ -13,14 +13,14 @@ use Rattle.aes_ctr.specs.Keystream.{xored}
 use Rattle.aes_ctr.proofs.StreamLemmas.{length-xored, xored-xored, length-keystream}
 use Rattle.sha1.specs.Sha1.{sha1, digest_bytes}
 use Rattle.srtp_keys.specs.Hmac.{hmac}
-use Rattle.srtp_context.specs.Packets.{tag_size, packet_keystream, ciphered, code_of, tag_of, tagged, protect, body, is_authentic, opened, OpensAs}
+use Rattle.srtp_context.specs.Packets.{tag_size, packet_keystream, ciphered, rtp_code, tag_of, tagged, protect, body, is_authentic, opened, OpensAs}
 
 length-sha1 : (message : List ℕ) → length (sha1 message) ≡ 20
 unfolding sha1 digest_bytes
 length-sha1 message = refl
 
-pub length-code_of : (master packet : List ℕ) (index : ℕ) → length (code_of master packet index) ≡ 20
-unfolding code_of hmac
+pub length-code_of : (master packet : List ℕ) (index : ℕ) → length (rtp_code master packet index) ≡ 20
+unfolding rtp_code hmac
 length-code_of master packet index = length-sha1 _
 
 pub tag_within : (suite : Suite) → tag_size suite ≤ 10
@@ -29,7 +29,7 @@ tag_within Tag32 = omega arith
 
 pub length-tag_of : (master : List ℕ) (suite : Suite) (packet : List ℕ) (index : ℕ) → length (tag_of master suite packet index) ≡ tag_size suite
 length-tag_of master suite packet index =
-    length-take-le (tag_size suite) (code_of master packet index) (omega (arith, tag_within suite, length-code_of master packet index))
+    length-take-le (tag_size suite) (rtp_code master packet index) (omega (arith, tag_within suite, length-code_of master packet index))
 
 pub length-packet_keystream : (master : List ℕ) (ssrc index size : ℕ) → length (packet_keystream master ssrc index size) ≡ size
 unfolding packet_keystream

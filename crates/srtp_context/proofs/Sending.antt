@@ -14,26 +14,26 @@ use Rattle.replay_window.specs.Indices.{near, fresh}
 use Rattle.srtp_keys.specs.declared.faults.ProtectFault.{ProtectFault}
 use Rattle.srtp_keys.specs.declared.faults.ProtectFault.TheVariants as fault
 use Rattle.srtp_sources.specs.Notes.{Note, indices, has_room}
-use Rattle.srtp_context.specs.Wrapping.{index_by, index_near, sent_index, wrapped_at, wrapping}
+use Rattle.srtp_context.specs.OutboundPackets.{unused_index_by, sent_index_near, sent_index, wrapped_at, wrapping}
 
 pub near_is : (notes : List Note) (found : RtpHead) (source : ℕ) (nearest : Near)
     → source ≡ found.ssrc → nearest ≡ near (indices Rtp source notes) found.seq
-    → index_near found.ssrc notes nearest ≡ sent_index notes found
+    → sent_index_near found.ssrc notes nearest ≡ sent_index notes found
 unfolding sent_index
 near_is notes found source nearest same at =
-    ap (index_near found.ssrc notes) (at ∙ ap (λ s. near (indices Rtp s notes) found.seq) same)
+    ap (sent_index_near found.ssrc notes) (at ∙ ap (λ s. near (indices Rtp s notes) found.seq) same)
 
 -- there is a nearest index: the answer is by the window
 pub at_index : (notes : List Note) (found : RtpHead) (source index : ℕ) (answer : Fresh)
     → source ≡ found.ssrc → At index ≡ near (indices Rtp source notes) found.seq → answer ≡ fresh (indices Rtp source notes) index
-    → index_by found.ssrc notes index answer ≡ sent_index notes found
+    → unused_index_by found.ssrc notes index answer ≡ sent_index notes found
 at_index notes found source index answer same at is =
-    ap (index_by found.ssrc notes index) (is ∙ ap (λ s. fresh (indices Rtp s notes) index) same)
+    ap (unused_index_by found.ssrc notes index) (is ∙ ap (λ s. fresh (indices Rtp s notes) index) same)
     ∙ near_is notes found source (At index) same at
 
 -- the window allows the index: the answer is by the room
 pub fresh_by : (ssrc : ℕ) (notes : List Note) (index source : ℕ) (room : Bool) → source ≡ ssrc → room ≡ has_room Rtp source notes
-    → ◌≡◌ {A = Result ℕ ProtectFault} (if room then Ok index else Err fault.TooManySources) (index_by ssrc notes index Yes)
+    → ◌≡◌ {A = Result ℕ ProtectFault} (if room then Ok index else Err fault.TooManySources) (unused_index_by ssrc notes index Yes)
 fresh_by ssrc notes index source room same is =
     ap (λ t. if t then Ok index else Err fault.TooManySources) (is ∙ ap (λ s. has_room Rtp s notes) same)
 

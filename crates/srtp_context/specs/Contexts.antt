@@ -13,17 +13,17 @@ use Rattle.srtp_context.specs.declared.outbound.OutRtp.{OutRtp}
 use Rattle.srtp_context.specs.Sessions.{SessionFor}
 
 -- the context is of this key and suite, and has taken the packets of these notes
-pub record InFor (master : List ℕ) (suite : Suite) (context : InRtp) (notes : List Note) : Type 0 where
+pub record InRtpFor (master : List ℕ) (suite : Suite) (context : InRtp) (notes : List Note) : Type 0 where
   pub session : SessionFor master suite context.session
   pub sources : SourcesFor Rtp context.sources notes
 
 -- the context is of this key and suite, and has protected the packets of these notes
-pub record OutFor (master : List ℕ) (suite : Suite) (context : OutRtp) (notes : List Note) : Type 0 where
+pub record OutRtpFor (master : List ℕ) (suite : Suite) (context : OutRtp) (notes : List Note) : Type 0 where
   pub session : SessionFor master suite context.session
   pub sources : SourcesFor Rtp context.sources notes
 
-abbrev pub OpensTo : Result Opened UnprotectFault → List ℕ → Suite → List Note → InRtp → InRtp → List ℕ → List ℕ → Result ℕ UnprotectFault → Type 0
-OpensTo opening master suite notes = judged.OpensTo (InFor master suite) notes opening
+abbrev pub OpensRtpTo : Result Opened UnprotectFault → List ℕ → Suite → List Note → InRtp → InRtp → List ℕ → List ℕ → Result ℕ UnprotectFault → Type 0
+OpensRtpTo opening master suite notes = judged.OpensTo (InRtpFor master suite) notes opening
 
-abbrev pub WrapsTo : Result Wrapped ProtectFault → List ℕ → Suite → List Note → OutRtp → OutRtp → List ℕ → List ℕ → Result (ℕ × ℕ) ProtectFault → Type 0
-WrapsTo wrapping master suite notes = judged.WrapsTo (OutFor master suite) notes wrapping
+abbrev pub WrapsRtpTo : Result Wrapped ProtectFault → List ℕ → Suite → List Note → OutRtp → OutRtp → List ℕ → List ℕ → Result (ℕ × ℕ) ProtectFault → Type 0
+WrapsRtpTo wrapping master suite notes = judged.WrapsTo (OutRtpFor master suite) notes wrapping

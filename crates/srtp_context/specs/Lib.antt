@@ -1,5 +1,5 @@
 pub mod Packets
-pub mod Opening
-pub mod Wrapping
+pub mod InboundPackets
+pub mod OutboundPackets
 pub mod Sessions
 pub mod Contexts

@@ -31,12 +31,12 @@ ciphered master found index packet =
     ++ xored (drop found.head packet) (packet_keystream master found.ssrc index (length packet - found.head))
 
 -- the code of a packet: HMAC-SHA1 over it and the roll-over counter, which is the index's quotient by 65,536
-unfoldable pub code_of : List ℕ → List ℕ → ℕ → List ℕ
-code_of master packet index = hmac (authentication_key master Rtp) (packet ++ to_be_bytes w32 (index / 65536))
+unfoldable pub rtp_code : List ℕ → List ℕ → ℕ → List ℕ
+rtp_code master packet index = hmac (authentication_key master Rtp) (packet ++ to_be_bytes w32 (index / 65536))
 
 -- the authentication tag: the code's first bytes
 abbrev pub tag_of : List ℕ → Suite → List ℕ → ℕ → List ℕ
-tag_of master suite packet index = take (tag_size suite) (code_of master packet index)
+tag_of master suite packet index = take (tag_size suite) (rtp_code master packet index)
 
 -- a packet followed by its authentication tag
 abbrev pub tagged : List ℕ → Suite → List ℕ → ℕ → List ℕ

@@ -2,7 +2,7 @@ ghost use Rattle.std.specs.Prelude.{ℕ, [], ◌≡◌, ◌<◌, ◌≤◌, ◌^
 ghost use Rattle.rtp_packet.specs.Head.{rtp_head};
 ghost use Rattle.sdes_lines.specs.declared.crypto_line.Suite.{Suite};
 ghost use Rattle.srtp_sources.specs.Notes.{Note};
-ghost use Rattle.srtp_context.specs.Opening.{opening};
+ghost use Rattle.srtp_context.specs.InboundPackets.{opening};
 
 use crate::session::{RtpSession, tag_size};
 use relay_outside::KeyAndSalt;
@@ -20,11 +20,11 @@ pub struct InRtp {
 }
 
 impl InRtp {
-    ghost use Rattle.srtp_context.specs.Contexts.{InFor, OpensTo};
+    ghost use Rattle.srtp_context.specs.Contexts.{InRtpFor, OpensRtpTo};
 
     /// The context of a master key of 16 bytes with a master salt of 14 after it, which has taken no packet.
     pub fn new(key: &KeyAndSalt, suite: Suite) -> InRtp
-        ensures { InFor key.now suite result [] }
+        ensures { InRtpFor key.now suite result [] }
     {
         InRtp {
             session: RtpSession::new(key, suite),
@@ -42,7 +42,7 @@ impl InRtp {
         requires packet { IsSome (rtp_head (take len buf.old)) }
         ensures fits { IfOk result (λ size. size ≤ len) }
         ensures refused { OnErr result ((self.new ≡ self.old) × (buf.new ≡ buf.old)) }
-        ensures opens { (master : List ℕ) (suite : Suite) (notes : List Note) → InFor master suite self.old notes → OpensTo (opening master suite notes (take len buf.old)) master suite notes self.old self.new buf.old buf.new result }
+        ensures opens { (master : List ℕ) (suite : Suite) (notes : List Note) → InRtpFor master suite self.old notes → OpensRtpTo (opening master suite notes (take len buf.old)) master suite notes self.old self.new buf.old buf.new result }
     {
         let Some(found) = rtp(&buf[..len]) else {
             unreachable!();
@@ -63,7 +63,7 @@ impl InRtp {
         ensures fits { IfOk result (λ size. size ≤ len) }
         ensures head { IfOk result (λ size. rtp_head (take size buf.new) ≡ Some found) }
         ensures refused { OnErr result ((self.new ≡ self.old) × (buf.new ≡ buf.old)) }
-        ensures opens { (master : List ℕ) (suite : Suite) (notes : List Note) → InFor master suite self.old notes → OpensTo (opening master suite notes (take len buf.old)) master suite notes self.old self.new buf.old buf.new result }
+        ensures opens { (master : List ℕ) (suite : Suite) (notes : List Note) → InRtpFor master suite self.old notes → OpensRtpTo (opening master suite notes (take len buf.old)) master suite notes self.old self.new buf.old buf.new result }
     {
         if len < found.head + tag_size(self.session.suite) {
             return Err(UnprotectFault::Short);

@@ -3,7 +3,7 @@
 //! stands for the plain list of the packets that it took or sent. Neither takes memory, and neither can be cloned.
 //!
 //! Module `session` has the keys, `inbound` and `outbound` the contexts, `laws` what holds of protected packets.
-//! `specs/Packets.antt` says what a protected packet is, `specs/Opening.antt` and `specs/Wrapping.antt` how one is judged.
+//! `specs/Packets.antt` says what a protected packet is, `specs/InboundPackets.antt` and `specs/OutboundPackets.antt` how one is judged.
 #![tactic(auto)]
 
 mod inbound;

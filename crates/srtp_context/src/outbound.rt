@@ -2,7 +2,7 @@ ghost use Rattle.std.specs.Prelude.{ℕ, [], ◌≡◌, ◌+◌, ◌<◌, ◌≤
 ghost use Rattle.rtp_packet.specs.Head.{rtp_head};
 ghost use Rattle.sdes_lines.specs.declared.crypto_line.Suite.{Suite};
 ghost use Rattle.srtp_sources.specs.Notes.{Note};
-ghost use Rattle.srtp_context.specs.Wrapping.{wrapping};
+ghost use Rattle.srtp_context.specs.OutboundPackets.{wrapping};
 
 use crate::session::RtpSession;
 use replay_window::{Fresh, Near};
@@ -19,11 +19,11 @@ pub struct OutRtp {
 }
 
 impl OutRtp {
-    ghost use Rattle.srtp_context.specs.Contexts.{OutFor, WrapsTo};
+    ghost use Rattle.srtp_context.specs.Contexts.{OutRtpFor, WrapsRtpTo};
 
     /// The context of a drawn key, which has protected no packet.
     pub fn new(key: RtpKey, suite: Suite) -> OutRtp
-        ensures { OutFor key.bytes suite result [] }
+        ensures { OutRtpFor key.bytes suite result [] }
     {
         OutRtp {
             session: RtpSession::new(&key.into_bytes(), suite),
@@ -43,7 +43,7 @@ impl OutRtp {
         requires packet { IsSome (rtp_head (take len buf.old)) }
         ensures fits { IfOk result (λ sent. sent.0 ≤ len + 10) }
         ensures refused { OnErr result ((self.new ≡ self.old) × (buf.new ≡ buf.old)) }
-        ensures wraps { (master : List ℕ) (suite : Suite) (notes : List Note) → OutFor master suite self.old notes → WrapsTo (wrapping master suite notes (take len buf.old)) master suite notes self.old self.new buf.old buf.new result }
+        ensures wraps { (master : List ℕ) (suite : Suite) (notes : List Note) → OutRtpFor master suite self.old notes → WrapsRtpTo (wrapping master suite notes (take len buf.old)) master suite notes self.old self.new buf.old buf.new result }
     {
         let Some(found) = rtp(&buf[..len]) else {
             unreachable!();
@@ -63,7 +63,7 @@ impl OutRtp {
         requires head { rtp_head (take len buf.old) ≡ Some found }
         ensures fits { IfOk result (λ sent. sent.0 ≤ len + 10) }
         ensures refused { OnErr result ((self.new ≡ self.old) × (buf.new ≡ buf.old)) }
-        ensures wraps { (master : List ℕ) (suite : Suite) (notes : List Note) → OutFor master suite self.old notes → WrapsTo (wrapping master suite notes (take len buf.old)) master suite notes self.old self.new buf.old buf.new result }
+        ensures wraps { (master : List ℕ) (suite : Suite) (notes : List Note) → OutRtpFor master suite self.old notes → WrapsRtpTo (wrapping master suite notes (take len buf.old)) master suite notes self.old self.new buf.old buf.new result }
     {
         let source = self.sources.find(found.ssrc);
         let index = match self.sources.near_of(source, found.seq) {

@@ -2,7 +2,7 @@ ghost use Rattle.std.specs.Prelude.{ℕ, ◌≡◌, ◌+◌, ◌/◌, ◌<◌, �
 ghost use Rattle.sdes_lines.specs.declared.crypto_line.Suite.{Suite};
 ghost use Rattle.aes_ctr.specs.Keystream.{xored};
 ghost use Rattle.srtp_sources.specs.Judged.{Writes};
-ghost use Rattle.srtp_context.specs.Packets.{tag_size, packet_keystream, code_of, is_authentic, protect, opened};
+ghost use Rattle.srtp_context.specs.Packets.{tag_size, packet_keystream, rtp_code, is_authentic, protect, opened};
 ghost use Rattle.rtp_packet.specs.Head.{rtp_head};
 
 use aes_ctr::Cipher;
@@ -64,7 +64,7 @@ impl RtpSession {
     pub(crate) fn code(&self, packet: &[u8], index: u64) -> [u8; 20]
         requires size { length packet.now < 2 ^ 31 }
         requires index { index < 2 ^ 48 }
-        ensures { (master : List ℕ) (suite : Suite) → SessionFor master suite self.now → result ≡ code_of master packet.now index }
+        ensures { (master : List ℕ) (suite : Suite) → SessionFor master suite self.now → result ≡ rtp_code master packet.now index }
     {
         let rollover = (index / 65_536) as u32;
         self.mac.tag(packet, &rollover.to_be_bytes())

@@ -11,7 +11,7 @@ use Rattle.replay_window.specs.declared.window.Window.{Window}
 use Rattle.replay_window.specs.declared.answers.Near.TheVariants.{At}
 use Rattle.replay_window.specs.declared.answers.Fresh.TheVariants.{Yes}
 use Rattle.replay_window.specs.Indices.{near, fresh}
-use Rattle.replay_window.specs.Windows.{StandsFor}
+use Rattle.replay_window.specs.Windows.{WindowStandsFor}
 use Rattle.srtp_sources.specs.declared.sources.Source.{Source}
 use Rattle.srtp_sources.specs.declared.sources.Sources.{Sources}
 use Rattle.std.specs.Prelude.{◌&&◌, if◌then◌else◌}
@@ -114,7 +114,7 @@ pub noted_known : (half : Half) (old new : Sources) (ssrc index place : ℕ) (no
     → new.ssrcs ≡ old.ssrcs → new.count ≡ old.count
     → position (λ known. known == ssrc) (take old.count old.ssrcs) ≡ Some place
     → (place < old.count) × (slice_index old.ssrcs place ≡ ssrc)
-    → ((other : Window) → StandsFor (slice_index_or new.windows place other) (index ∷ indices half ssrc notes))
+    → ((other : Window) → WindowStandsFor (slice_index_or new.windows place other) (index ∷ indices half ssrc notes))
     → ((at : ℕ) (other : Window) → at ≢ place → slice_index_or new.windows at other ≡ slice_index_or old.windows at other)
     → SourcesFor half new (note_of half ssrc index ∷ notes)
 noted_known half old new ssrc index place notes for places within same_ssrcs same_count first at here elsewhere = record {
@@ -125,28 +125,28 @@ noted_known half old new ssrc index place notes for places within same_ssrcs sam
   where
     stand : (k : ℕ) (other : Window) (ssrc_there : ℕ) → slice_index new.ssrcs k ≡ ssrc_there → (list : List ℕ)
         → indices half ssrc_there (note_of half ssrc index ∷ notes) ≡ list
-        → StandsFor (slice_index_or new.windows k other) list
-        → StandsFor (slice_index_or new.windows k other) (indices half (slice_index new.ssrcs k) (note_of half ssrc index ∷ notes))
+        → WindowStandsFor (slice_index_or new.windows k other) list
+        → WindowStandsFor (slice_index_or new.windows k other) (indices half (slice_index new.ssrcs k) (note_of half ssrc index ∷ notes))
     stand k other ssrc_there is list noted stands =
-        let P : List ℕ → Type 0 = λ l. StandsFor (slice_index_or new.windows k other) l in
+        let P : List ℕ → Type 0 = λ l. WindowStandsFor (slice_index_or new.windows k other) l in
         subst P (sym (ap (λ s. indices half s (note_of half ssrc index ∷ notes)) is ∙ noted)) stands
 
     there : (k : ℕ) → slice_index new.ssrcs k ≡ slice_index old.ssrcs k
     there k = ap (λ l. slice_index l k) same_ssrcs
 
     by_place : (k : ℕ) (other : Window) → k < old.count → (k ≡ place) ⊎ (k ≡ place → ⊥)
-        → StandsFor (slice_index_or new.windows k other) (indices half (slice_index new.ssrcs k) (note_of half ssrc index ∷ notes))
+        → WindowStandsFor (slice_index_or new.windows k other) (indices half (slice_index new.ssrcs k) (note_of half ssrc index ∷ notes))
     by_place k other below (inl is) =
-        let at_place : StandsFor (slice_index_or new.windows k other) (index ∷ indices half ssrc notes) =
-        (let P : ℕ → Type 0 = λ n. StandsFor (slice_index_or new.windows n other) (index ∷ indices half ssrc notes) in
+        let at_place : WindowStandsFor (slice_index_or new.windows k other) (index ∷ indices half ssrc notes) =
+        (let P : ℕ → Type 0 = λ n. WindowStandsFor (slice_index_or new.windows n other) (index ∷ indices half ssrc notes) in
         subst P (sym is) (here other)) in
         stand k other ssrc (there k ∙ ap (λ n. slice_index old.ssrcs n) is ∙ at.1) _ (indices-noted half ssrc index notes) at_place
     by_place k other below (inr apart) =
         let others : ssrc ≢ slice_index old.ssrcs k = λ same. apart (same_source half notes k place
         (omega (arith, count_is half old notes for places within)) (omega (arith, at.0, count_is half old notes for places within))
         (source_at half old notes k for below ∙ sym same ∙ sym at.1 ∙ sym (source_at half old notes place for at.0))) in
-        let kept : StandsFor (slice_index_or new.windows k other) (indices half (slice_index old.ssrcs k) notes) =
-        (let P : Window → Type 0 = λ w. StandsFor w (indices half (slice_index old.ssrcs k) notes) in
+        let kept : WindowStandsFor (slice_index_or new.windows k other) (indices half (slice_index old.ssrcs k) notes) =
+        (let P : Window → Type 0 = λ w. WindowStandsFor w (indices half (slice_index old.ssrcs k) notes) in
         subst P (sym (elsewhere k other apart)) (for.each k other below)) in
         stand k other (slice_index old.ssrcs k) (there k) _ (indices-other half ssrc (slice_index old.ssrcs k) index notes others) kept
 
@@ -154,7 +154,7 @@ pub noted_new : (half : Half) (old new : Sources) (ssrc index : ℕ) (notes : Li
     → SourcesFor half old notes → length old.ssrcs ≡ 32 → old.count < 32
     → new.ssrcs ≡ slice_set old.ssrcs old.count ssrc → new.count ≡ old.count + 1
     → position (λ known. known == ssrc) (take old.count old.ssrcs) ≡ None
-    → ((other : Window) → StandsFor (slice_index_or new.windows old.count other) (index ∷ []))
+    → ((other : Window) → WindowStandsFor (slice_index_or new.windows old.count other) (index ∷ []))
     → ((at : ℕ) (other : Window) → at < old.count → slice_index_or new.windows at other ≡ slice_index_or old.windows at other)
     → SourcesFor half new (note_of half ssrc index ∷ notes)
 noted_new half old new ssrc index notes for places within more_ssrcs more_count none here elsewhere = record {
@@ -169,14 +169,14 @@ noted_new half old new ssrc index notes for places within more_ssrcs more_count 
 
     stand : (k : ℕ) (other : Window) (ssrc_there : ℕ) → slice_index new.ssrcs k ≡ ssrc_there → (list : List ℕ)
         → indices half ssrc_there (note_of half ssrc index ∷ notes) ≡ list
-        → StandsFor (slice_index_or new.windows k other) list
-        → StandsFor (slice_index_or new.windows k other) (indices half (slice_index new.ssrcs k) (note_of half ssrc index ∷ notes))
+        → WindowStandsFor (slice_index_or new.windows k other) list
+        → WindowStandsFor (slice_index_or new.windows k other) (indices half (slice_index new.ssrcs k) (note_of half ssrc index ∷ notes))
     stand k other ssrc_there is list noted stands =
-        let P : List ℕ → Type 0 = λ l. StandsFor (slice_index_or new.windows k other) l in
+        let P : List ℕ → Type 0 = λ l. WindowStandsFor (slice_index_or new.windows k other) l in
         subst P (sym (ap (λ s. indices half s (note_of half ssrc index ∷ notes)) is ∙ noted)) stands
 
     by_place : (k : ℕ) (other : Window) → (k < old.count) ⊎ (old.count ≤ k) → k < old.count + 1
-        → StandsFor (slice_index_or new.windows k other) (indices half (slice_index new.ssrcs k) (note_of half ssrc index ∷ notes))
+        → WindowStandsFor (slice_index_or new.windows k other) (indices half (slice_index new.ssrcs k) (note_of half ssrc index ∷ notes))
     by_place k other (inl below) _ =
         let there : slice_index new.ssrcs k ≡ slice_index old.ssrcs k =
         ap (λ l. slice_index l k) more_ssrcs ∙ get_or-set_other old.ssrcs old.count k ssrc 0 (omega arith) in
@@ -185,14 +185,14 @@ noted_new half old new ssrc index notes for places within more_ssrcs more_count 
         ∙ list_any_at (λ known. known == ssrc) (take old.count old.ssrcs) k 0 (omega (arith, length-take-le old.count old.ssrcs))
         (equal _ ssrc (get_or-take old.count old.ssrcs k 0 below ∙ sym same)) in
         let clash : true ≡ false = sym known ∙ unknown in cc) in
-        let kept : StandsFor (slice_index_or new.windows k other) (indices half (slice_index old.ssrcs k) notes) =
-        (let P : Window → Type 0 = λ w. StandsFor w (indices half (slice_index old.ssrcs k) notes) in
+        let kept : WindowStandsFor (slice_index_or new.windows k other) (indices half (slice_index old.ssrcs k) notes) =
+        (let P : Window → Type 0 = λ w. WindowStandsFor w (indices half (slice_index old.ssrcs k) notes) in
         subst P (sym (elsewhere k other below)) (for.each k other below)) in
         stand k other (slice_index old.ssrcs k) there _ (indices-other half ssrc (slice_index old.ssrcs k) index notes others) kept
     by_place k other (inr full) last =
         let is : k ≡ old.count = omega arith in
-        let at_place : StandsFor (slice_index_or new.windows k other) (index ∷ []) =
-        (let P : ℕ → Type 0 = λ n. StandsFor (slice_index_or new.windows n other) (index ∷ []) in subst P (sym is) (here other)) in
+        let at_place : WindowStandsFor (slice_index_or new.windows k other) (index ∷ []) =
+        (let P : ℕ → Type 0 = λ n. WindowStandsFor (slice_index_or new.windows n other) (index ∷ []) in subst P (sym is) (here other)) in
         let there : slice_index new.ssrcs k ≡ ssrc =
         ap (λ n. slice_index new.ssrcs n) is ∙ ap (λ l. slice_index l old.count) more_ssrcs
         ∙ get_or-set_same old.ssrcs old.count ssrc 0 (omega arith) in
@@ -208,9 +208,9 @@ none_known half table none = record {
 -- the window of a source that the table finds
 pub found_stands : (half : Half) (table : Sources) (ssrc place : ℕ) (notes : List Note) → SourcesFor half table notes
     → (place < table.count) × (slice_index table.ssrcs place ≡ ssrc)
-    → (other : Window) → StandsFor (slice_index_or table.windows place other) (indices half ssrc notes)
+    → (other : Window) → WindowStandsFor (slice_index_or table.windows place other) (indices half ssrc notes)
 found_stands half table ssrc place notes for at other =
-    let P : ℕ → Type 0 = λ s. StandsFor (slice_index_or table.windows place other) (indices half s notes) in
+    let P : ℕ → Type 0 = λ s. WindowStandsFor (slice_index_or table.windows place other) (indices half s notes) in
     subst P at.1 (for.each place other at.0)
 
 -- what noting an index of a source that was found means for the SSRC that was looked up
@@ -243,6 +243,6 @@ pub noted_elsewhere : (half : Half) (table : Sources) (note : Note) (notes : Lis
 noted_elsewhere half table note notes not for = record {
   known = for.known ∙ sym (sources-elsewhere half note notes not);
   each = λ place other below.
-      let P : List ℕ → Type 0 = λ l. StandsFor (slice_index_or table.windows place other) l in
+      let P : List ℕ → Type 0 = λ l. WindowStandsFor (slice_index_or table.windows place other) l in
       subst P (sym (indices-elsewhere half (slice_index table.ssrcs place) note notes not)) (for.each place other below);
 }

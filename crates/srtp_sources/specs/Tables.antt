@@ -2,7 +2,7 @@
 use Rattle.std.specs.Prelude.{ℕ, ◌≡◌, ◌<◌, ◌==◌, Bool, List, take, position, slice_index, slice_index_or}
 use Rattle.rtp_packet.specs.declared.head.Half.{Half}
 use Rattle.replay_window.specs.declared.window.Window.{Window}
-use Rattle.replay_window.specs.Windows.{StandsFor}
+use Rattle.replay_window.specs.Windows.{WindowStandsFor}
 use Rattle.srtp_sources.specs.declared.sources.Source.{Source}
 use Rattle.srtp_sources.specs.declared.sources.Sources.{Sources}
 use Rattle.srtp_sources.specs.Notes.{Note, sources, indices, is_room_in}
@@ -11,7 +11,7 @@ use Rattle.srtp_sources.specs.Notes.{Note, sources, indices, is_room_in}
 pub record SourcesFor (half : Half) (table : Sources) (notes : List Note) : Type 0 where
   pub known : take table.count table.ssrcs ≡ sources half notes
   pub each : (place : ℕ) (other : Window) → place < table.count
-      → StandsFor (slice_index_or table.windows place other) (indices half (slice_index table.ssrcs place) notes)
+      → WindowStandsFor (slice_index_or table.windows place other) (indices half (slice_index table.ssrcs place) notes)
 
 -- the table knows the source, or has a place for it
 unfoldable pub can_note : Sources → ℕ → Bool

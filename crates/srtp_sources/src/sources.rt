@@ -34,7 +34,7 @@ impl Sources {
     ghost use Rattle.rtp_packet.specs.declared.head.Half.{Half};
     ghost use Rattle.replay_window.specs.declared.answers.Fresh.TheVariants.{Yes};
     ghost use Rattle.replay_window.specs.Indices.{near, fresh};
-    ghost use Rattle.replay_window.specs.Windows.{IsIndex, StandsFor};
+    ghost use Rattle.replay_window.specs.Windows.{IsIndex, WindowStandsFor};
     ghost use Rattle.srtp_sources.specs.Notes.{Note, indices, has_room};
     ghost use Rattle.srtp_sources.specs.Tables.{SourcesFor, IsPlaced, can_note};
     ghost use Rattle.srtp_sources.specs.Judged.{judged_index};
@@ -144,7 +144,7 @@ impl Sources {
         requires room { self.old.count < 32 }
         ensures ssrcs { self.new.ssrcs ≡ slice_set self.old.ssrcs self.old.count ssrc }
         ensures count { self.new.count ≡ self.old.count + 1 }
-        ensures here { (other : Window) → StandsFor (slice_index_or self.new.windows self.old.count other) (index ∷ []) }
+        ensures here { (other : Window) → WindowStandsFor (slice_index_or self.new.windows self.old.count other) (index ∷ []) }
         ensures elsewhere { (at : ℕ) (other : Window) → at < self.old.count → slice_index_or self.new.windows at other ≡ slice_index_or self.old.windows at other }
     {
         let mut window = Window::new();
@@ -158,14 +158,14 @@ impl Sources {
 ghost use Rattle.std.specs.Prelude.{◌≡◌, ◌≢◌, ◌<◌, ◌^◌, ℕ, List, ◌∷◌, slice_index_or};
 ghost use Rattle.replay_window.specs.declared.window.Window.{Window};
 ghost use Rattle.replay_window.specs.Indices.{fresh};
-ghost use Rattle.replay_window.specs.Windows.{StandsFor};
+ghost use Rattle.replay_window.specs.Windows.{WindowStandsFor};
 ghost use Rattle.replay_window.specs.declared.answers.Fresh.TheVariants.{Yes};
 
 // Notes an index in the window at `place`.
 fn note_at(windows: &mut [Window; 32], place: usize, index: u64)
     requires place { place < 32 }
     requires index { index < 2 ^ 48 }
-    ensures here { (noted : List ℕ) (other : Window) → StandsFor (slice_index_or windows.old place other) noted → fresh noted index ≡ Yes → StandsFor (slice_index_or windows.new place other) (index ∷ noted) }
+    ensures here { (noted : List ℕ) (other : Window) → WindowStandsFor (slice_index_or windows.old place other) noted → fresh noted index ≡ Yes → WindowStandsFor (slice_index_or windows.new place other) (index ∷ noted) }
     ensures elsewhere { (at : ℕ) (other : Window) → at ≢ place → slice_index_or windows.new at other ≡ slice_index_or windows.old at other }
 {
     windows[place].note(index);

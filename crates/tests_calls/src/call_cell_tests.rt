@@ -128,10 +128,10 @@ fn a_leg_is_prepared_with_a_key_and_goes_at_the_end(rt: HostRuntime) {
 #[test]
 fn a_leg_is_not_told_of_before_its_answer(rt: HostRuntime) {
     let cell = offered(&rt, rt.alloc());
-    let Ok(mut told) = LegReports::new(rt.alloc()) else {
+    let Ok(mut log) = LegReports::new(rt.alloc()) else {
         panic!(rt; "no memory");
     };
-    told.push(LegReport {
+    log.push(LegReport {
         section: 0,
         side: Side::A,
         port: 30_000,
@@ -141,8 +141,8 @@ fn a_leg_is_not_told_of_before_its_answer(rt: HostRuntime) {
         rtcp_accepted: 3,
         rtcp_sent: 4,
     });
-    cell.read_legs(&mut told);
-    assert!(rt; told.len() == 0, "what was told before is gone too");
+    cell.read_legs(&mut log);
+    assert!(rt; log.len() == 0, "what was log before is gone too");
 }
 
 #[test]

@@ -21,7 +21,7 @@ struct Quiet {
 }
 
 impl InEnd for Quiet {
-    ghost told = { λ end. record { at = end.at; calls = None } };
+    ghost log = { λ end. record { at = end.at; calls = None } };
 
     ghost faults = { λ end. 0 };
 
@@ -37,7 +37,7 @@ struct Mute {
 }
 
 impl OutEnd for Mute {
-    ghost told = { λ end. record { at = end.at; calls = None } };
+    ghost log = { λ end. record { at = end.at; calls = None } };
 
     ghost faults = { λ end. 0 };
 

@@ -1,6 +1,6 @@
 //! The table of descriptions, and the choice among crypto lines.
 
-ghost use Rattle.sdp_edit.specs.Editing.{KeysHaveTags, HaveTags};
+ghost use Rattle.sdp_edit.specs.EditedText.{KeysHaveTags, HaveTags};
 
 use crate::cases::none_failed;
 use crate::sdp_edit_descriptions::{

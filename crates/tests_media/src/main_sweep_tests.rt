@@ -1,6 +1,6 @@
 ghost use Rattle.std.specs.Prelude.{◌≡◌, [], IfSome};
 ghost use Rattle.turn_table.specs.Hands.{parts};
-ghost use Rattle.relay_core.specs.Turning.{made_by};
+ghost use Rattle.relay_core.specs.Turns.{made_by};
 ghost use Rattle.board_turns.specs.Between.{IsBetween};
 
 use media_lane::{Totals, sweep_between};

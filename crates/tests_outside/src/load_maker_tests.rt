@@ -47,7 +47,7 @@ const SECOND_FROM_A: &[u8] =
 
 /// Whether the next take gives this packet.
 fn gives(end: &mut LoadIn, source: Addr, packet: &[u8]) -> bool
-    ensures { end.new.told.at ≡ end.old.told.at }
+    ensures { end.new.log.at ≡ end.old.log.at }
 {
     let mut buf = [0; 64];
     match end.take(&mut buf) {
@@ -58,7 +58,7 @@ fn gives(end: &mut LoadIn, source: Addr, packet: &[u8]) -> bool
 
 /// Whether the next take gives nothing.
 fn is_at_its_end(end: &mut LoadIn) -> bool
-    ensures { end.new.told.at ≡ end.old.told.at }
+    ensures { end.new.log.at ≡ end.old.log.at }
 {
     let mut buf = [0; 64];
     end.take(&mut buf) == Ok(None)

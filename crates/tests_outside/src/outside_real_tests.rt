@@ -76,7 +76,7 @@ fn an_address_in_use_can_not_be_bound(rt: HostRuntime) {
     assert!(rt; two.bind(local(79)).is_err());
     assert!(rt; two.send(local(79), b"ping").is_err());
     let Some(LinkFault::Bind { at, error }) = two.fault() else {
-        panic!(rt; "not told");
+        panic!(rt; "not log");
     };
     assert!(rt; at == local(79) && error.kind() == ErrorKind::AddrInUse);
     assert!(rt; one.fault().is_none());
@@ -87,7 +87,7 @@ fn movable<T: Send>(_end: &T) {}
 
 /// The ends of a port that is opened.
 fn open<R: Net>(rt: &impl Abort, maker: &mut UdpMaker<R>, at: Addr) -> (UdpIn, UdpOut)
-    ensures { ((⟦<UdpIn as InEnd>⟧.told result.0).at ≡ at) × ((⟦<UdpOut as OutEnd>⟧.told result.1).at ≡ at) }
+    ensures { ((⟦<UdpIn as InEnd>⟧.log result.0).at ≡ at) × ((⟦<UdpOut as OutEnd>⟧.log result.1).at ≡ at) }
 {
     let Ok(ends) = maker.open(at) else {
         panic!(rt; "not opened");
@@ -98,7 +98,7 @@ fn open<R: Net>(rt: &impl Abort, maker: &mut UdpMaker<R>, at: Addr) -> (UdpIn, U
 
 /// Whether a take gives this.
 fn takes(end: &mut UdpIn, buf: &mut [u8; 4], wanted: Option<(Addr, usize)>) -> bool
-    ensures { (⟦<UdpIn as InEnd>⟧.told end.new).at ≡ (⟦<UdpIn as InEnd>⟧.told end.old).at }
+    ensures { (⟦<UdpIn as InEnd>⟧.log end.new).at ≡ (⟦<UdpIn as InEnd>⟧.log end.old).at }
 {
     end.take(buf) == Ok(wanted)
 }
@@ -140,7 +140,7 @@ fn a_take_asks_where_the_system_told_of_a_datagram(rt: HostRuntime) {
     let mut buf = [0; 4];
     assert!(rt; takes(&mut receiving, &mut buf, None), "it asks at first");
     assert!(rt; sending.send(at, b"one").is_ok());
-    assert!(rt; takes(&mut receiving, &mut buf, None), "not told yet");
+    assert!(rt; takes(&mut receiving, &mut buf, None), "not log yet");
     assert!(rt; is_ready(&clock, 0, LONG, 0));
     assert!(rt; takes(&mut receiving, &mut buf, Some((at, 3))));
     maker.close(at, receiving, sending);

@@ -110,7 +110,7 @@ fn packet(rt: &impl Abort, alloc: Global) -> Packet {
 }
 
 fn maker(rt: &impl Abort, alloc: Global) -> SteadyMaker
-    ensures { result.told ≡ Some [] }
+    ensures { result.log ≡ Some [] }
 {
     let packets = [Packet::Nothing, packet(rt, alloc)];
     let packets = Vec::from_array(alloc, packets).expect(rt, "memory");
@@ -160,7 +160,7 @@ fn a_failing_read_keeps_its_line(rt: HostRuntime) {
 }
 
 fn failing_maker(rt: &impl Abort, alloc: Global, failing: u64) -> MemoryMaker
-    ensures { result.told ≡ Some [] }
+    ensures { result.log ≡ Some [] }
 {
     let packets = Vec::from_array(alloc, [packet(rt, alloc)]).expect(rt, "memory");
     let port = MemoryPort::new(HERE, packets, call(rt, alloc, 1), call(rt, alloc, 2));
@@ -174,8 +174,8 @@ fn other_step(
     sending: &mut MemoryOut,
     second: Option<(Addr, usize)>,
 ) -> Option<u32>
-    ensures receiving { (⟦<MemoryIn as InEnd>⟧.told receiving.new).at ≡ (⟦<MemoryIn as InEnd>⟧.told receiving.old).at }
-    ensures sending { (⟦<MemoryOut as OutEnd>⟧.told sending.new).at ≡ (⟦<MemoryOut as OutEnd>⟧.told sending.old).at }
+    ensures receiving { (⟦<MemoryIn as InEnd>⟧.log receiving.new).at ≡ (⟦<MemoryIn as InEnd>⟧.log receiving.old).at }
+    ensures sending { (⟦<MemoryOut as OutEnd>⟧.log sending.new).at ≡ (⟦<MemoryOut as OutEnd>⟧.log sending.old).at }
 {
     let mut buf = [0; 16];
     if receiving.take(&mut buf).is_ok() {

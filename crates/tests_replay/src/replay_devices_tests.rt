@@ -136,7 +136,7 @@ fn maker_at_the_third<'a>(
     alloc: Global,
     timetable: &'a Timetable<'a>,
 ) -> ReplayPorts<'a>
-    ensures { result.told ≡ Some [] }
+    ensures { result.log ≡ Some [] }
 {
     let Ok(mut maker) = ReplayPorts::new(alloc, timetable) else {
         panic!(rt; "no memory");
@@ -202,7 +202,7 @@ fn an_end_gives_the_later_lines_at_its_port(rt: HostRuntime) {
 
 /// Whether the next sends have these results.
 fn are_sent<O: OutEnd>(end: &mut O, wanted: [bool; 4]) -> bool
-    ensures { (O.told end.new).at ≡ (O.told end.old).at }
+    ensures { (O.log end.new).at ≡ (O.log end.old).at }
 {
     let mut same = true;
     for done in wanted {

@@ -1,7 +1,7 @@
 //! A source that reads the lines of a table, and a sink that looks at one line. They hold no memory of their own, and tell no list
 //! of their calls.
 ghost use Rattle.std.specs.Prelude.{◌≤◌, None, IsTrue, length};
-ghost use Rattle.relay_outside.specs.Told.{Rose};
+ghost use Rattle.relay_outside.specs.DeviceLogs.{Rose};
 
 use relay_outside::{Failed, LineRead, LineSink, LineSource};
 
@@ -66,7 +66,7 @@ impl<'a> TableLines<'a> {
 }
 
 impl<'a> LineSource for TableLines<'a> {
-    ghost told = { λ lines. None };
+    ghost log = { λ lines. None };
 
     ghost faults = { λ lines. lines.calls.faults };
 
@@ -109,7 +109,7 @@ impl<'a> TableSink<'a> {
 }
 
 impl<'a> LineSink for TableSink<'a> {
-    ghost told = { λ sink. None };
+    ghost log = { λ sink. None };
 
     ghost faults = { λ sink. sink.calls.faults };
 

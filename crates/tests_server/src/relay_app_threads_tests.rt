@@ -100,7 +100,7 @@ struct MeetingLink<'a> {
 }
 
 impl<'a> ControlLink for MeetingLink<'a> {
-    ghost told = { λ link. None };
+    ghost log = { λ link. None };
 
     ghost faults = { λ link. 0 };
 
@@ -140,7 +140,7 @@ struct MeetingIn<'a> {
 }
 
 impl<'a> InEnd for MeetingIn<'a> {
-    ghost told = { λ end. record { at = end.at; calls = None } };
+    ghost log = { λ end. record { at = end.at; calls = None } };
 
     ghost faults = { λ end. 0 };
 
@@ -164,7 +164,7 @@ struct NoOut {
 }
 
 impl OutEnd for NoOut {
-    ghost told = { λ end. record { at = end.at; calls = None } };
+    ghost log = { λ end. record { at = end.at; calls = None } };
 
     ghost faults = { λ end. 0 };
 
@@ -183,7 +183,7 @@ impl<'a> PortMaker for MeetingPorts<'a> {
 
     type Out = NoOut;
 
-    ghost told = { λ maker. None };
+    ghost log = { λ maker. None };
 
     ghost faults = { λ maker. 0 };
 
@@ -206,7 +206,7 @@ struct TotalsSink {
 }
 
 impl LineSink for TotalsSink {
-    ghost told = { λ sink. None };
+    ghost log = { λ sink. None };
 
     ghost faults = { λ sink. 0 };
 

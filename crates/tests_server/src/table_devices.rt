@@ -1,7 +1,7 @@
 //! Devices that give what stands in tables, and compare what they are given with tables at once. They hold no memory of their own, and
 //! tell no list of their calls.
 ghost use Rattle.std.specs.Prelude.{◌≡◌, ◌≤◌, None, IsTrue, IfSome, length};
-ghost use Rattle.relay_outside.specs.Told.{Rose};
+ghost use Rattle.relay_outside.specs.DeviceLogs.{Rose};
 
 use relay_outside::{
     Addr, ControlLink, Failed, InEnd, Ip, KeySource, LineRead, LineSink, LineSource, OutEnd,
@@ -148,7 +148,7 @@ impl TableLink {
 }
 
 impl ControlLink for TableLink {
-    ghost told = { λ link. None };
+    ghost log = { λ link. None };
 
     ghost faults = { λ link. link.calls.faults };
 
@@ -202,7 +202,7 @@ pub(crate) struct TableIn {
 }
 
 impl InEnd for TableIn {
-    ghost told = { λ end. record { at = end.at; calls = None } };
+    ghost log = { λ end. record { at = end.at; calls = None } };
 
     ghost faults = { λ end. 0 };
 
@@ -232,7 +232,7 @@ impl TableOut {
 }
 
 impl OutEnd for TableOut {
-    ghost told = { λ end. record { at = end.at; calls = None } };
+    ghost log = { λ end. record { at = end.at; calls = None } };
 
     ghost faults = { λ end. 0 };
 
@@ -300,7 +300,7 @@ impl PortMaker for TablePorts {
 
     type Out = TableOut;
 
-    ghost told = { λ maker. None };
+    ghost log = { λ maker. None };
 
     ghost faults = { λ maker. 0 };
 
@@ -329,7 +329,7 @@ impl PortMaker for TablePorts {
 pub(crate) struct SameKey;
 
 impl KeySource for SameKey {
-    ghost told = { λ keys. None };
+    ghost log = { λ keys. None };
 
     ghost faults = { λ keys. 0 };
 
@@ -352,7 +352,7 @@ impl TableTimer {
 }
 
 impl Timer for TableTimer {
-    ghost told = { λ timer. None };
+    ghost log = { λ timer. None };
 
     fn now(&mut self) -> u64 {
         let Some((first, rest)) = self.moments.split_first() else {
@@ -385,7 +385,7 @@ impl TableLines {
 }
 
 impl LineSource for TableLines {
-    ghost told = { λ lines. None };
+    ghost log = { λ lines. None };
 
     ghost faults = { λ lines. lines.calls.faults };
 
@@ -453,7 +453,7 @@ impl TableSink {
 }
 
 impl LineSink for TableSink {
-    ghost told = { λ sink. None };
+    ghost log = { λ sink. None };
 
     ghost faults = { λ sink. sink.calls.faults };
 

@@ -141,7 +141,7 @@ impl<'a> CallsLink<'a> {
 }
 
 impl<'a> ControlLink for CallsLink<'a> {
-    ghost told = { λ link. None };
+    ghost log = { λ link. None };
 
     ghost faults = { λ link. 0 };
 

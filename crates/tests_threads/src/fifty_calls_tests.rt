@@ -11,7 +11,7 @@ use relay_outside::{Failed, HandClock, LineSink, OpenGate, SteadyKeys, SteadyLin
 struct NoTimer;
 
 impl Timer for NoTimer {
-    ghost told = { λ timer. None };
+    ghost log = { λ timer. None };
 
     fn now(&mut self) -> u64 {
         0
@@ -28,7 +28,7 @@ struct OneLine {
 }
 
 impl LineSink for OneLine {
-    ghost told = { λ sink. None };
+    ghost log = { λ sink. None };
 
     ghost faults = { λ sink. 0 };
 

@@ -82,7 +82,7 @@ pub(crate) struct TrafficIn {
 }
 
 impl InEnd for TrafficIn {
-    ghost told = { λ end. record { at = end.at; calls = None } };
+    ghost log = { λ end. record { at = end.at; calls = None } };
 
     ghost faults = { λ end. 0 };
 
@@ -133,7 +133,7 @@ impl<'a> TrafficOut<'a> {
 }
 
 impl<'a> OutEnd for TrafficOut<'a> {
-    ghost told = { λ end. record { at = end.at; calls = None } };
+    ghost log = { λ end. record { at = end.at; calls = None } };
 
     ghost faults = { λ end. end.lost };
 
@@ -197,7 +197,7 @@ impl<'a> PortMaker for TrafficPorts<'a> {
 
     type Out = TrafficOut<'a>;
 
-    ghost told = { λ maker. None };
+    ghost log = { λ maker. None };
 
     ghost faults = { λ maker. 0 };
 

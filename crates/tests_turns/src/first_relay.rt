@@ -1,8 +1,8 @@
 //! A relay before its first step, to whose ports nothing comes.
 ghost use Rattle.std.specs.Prelude.{◌≡◌, [], IfSome};
 ghost use Rattle.turn_table.specs.Hands.{HasNoTurn, parts};
-ghost use Rattle.relay_core.specs.Turning.{made_by};
-ghost use Rattle.board_turns.specs.Nesting.{MayNest};
+ghost use Rattle.relay_core.specs.Turns.{made_by};
+ghost use Rattle.board_turns.specs.NestedSteps.{MayNest};
 ghost use Rattle.board_turns.specs.Between.{IsBetween};
 
 use crate::quiet_devices::{Mute, Quiet};

@@ -2,7 +2,7 @@ ghost use Rattle.std.specs.Prelude.{◌≡◌, ◌∷◌, [], List, length, slic
 ghost use Rattle.port_pool.specs.Pools.{Pairs};
 ghost use Rattle.port_pool.specs.declared.pairs.Lease.{Lease};
 ghost use Rattle.media_ports.specs.Addresses.{ports_of};
-ghost use Rattle.media_ports.specs.Ends.{AreOpened, AreOfLease};
+ghost use Rattle.media_ports.specs.Ends.{ArePairsOpened, AreOfLease};
 
 use media_ports::{
     DrawnList, KeyFault, OpenedPairs, PairEnds, PortFault, address_of, close_pair, draw_keys,
@@ -28,7 +28,7 @@ struct In {
 }
 
 impl InEnd for In {
-    ghost told = { λ end. record { at = end.at; calls = None } };
+    ghost log = { λ end. record { at = end.at; calls = None } };
 
     ghost faults = { λ end. 0 };
 
@@ -50,7 +50,7 @@ struct Out {
 }
 
 impl OutEnd for Out {
-    ghost told = { λ end. record { at = end.at; calls = None } };
+    ghost log = { λ end. record { at = end.at; calls = None } };
 
     ghost faults = { λ end. 0 };
 
@@ -139,7 +139,7 @@ impl PortMaker for Maker {
 
     type Out = Out;
 
-    ghost told = { λ maker. None };
+    ghost log = { λ maker. None };
 
     ghost faults = { λ maker. maker.faults };
 
@@ -192,7 +192,7 @@ fn open_two(
     requires none { opened.old.list ≡ [] }
     requires room { opened.old.room ≡ 2 }
     ensures pairs { OnOk result (length opened.new.list ≡ 2) }
-    ensures opened { OnOk result (AreOpened ⟦<In as InEnd>⟧.told ⟦<Out as OutEnd>⟧.told INTERFACE leases.now.list opened.new.list) }
+    ensures opened { OnOk result (ArePairsOpened ⟦<In as InEnd>⟧.log ⟦<Out as OutEnd>⟧.log INTERFACE leases.now.list opened.new.list) }
 {
     open_pairs(maker, INTERFACE, leases, opened)
 }
@@ -205,8 +205,8 @@ fn close_two(
     second: PairEnds<In, Out>,
 )
     requires two { ports_of leases.now.list ≡ 30000 ∷ 30001 ∷ 30002 ∷ 30003 ∷ [] }
-    requires first { (lease : Lease) → slice_get leases.now.list 0 ≡ Some lease → AreOfLease ⟦<In as InEnd>⟧.told ⟦<Out as OutEnd>⟧.told INTERFACE lease first }
-    requires second { (lease : Lease) → slice_get leases.now.list 1 ≡ Some lease → AreOfLease ⟦<In as InEnd>⟧.told ⟦<Out as OutEnd>⟧.told INTERFACE lease second }
+    requires first { (lease : Lease) → slice_get leases.now.list 0 ≡ Some lease → AreOfLease ⟦<In as InEnd>⟧.log ⟦<Out as OutEnd>⟧.log INTERFACE lease first }
+    requires second { (lease : Lease) → slice_get leases.now.list 1 ≡ Some lease → AreOfLease ⟦<In as InEnd>⟧.log ⟦<Out as OutEnd>⟧.log INTERFACE lease second }
 {
     close_pair(maker, INTERFACE, leases.get(0), first);
     close_pair(maker, INTERFACE, leases.get(1), second);
@@ -215,10 +215,10 @@ fn close_two(
 /// The ends of two opened pairs.
 fn two_ends(opened: OpenedPairs<In, Out>) -> (PairEnds<In, Out>, PairEnds<In, Out>)
     requires { length opened.list ≡ 2 }
-    ensures first { (leases : List Lease) (lease : Lease) → AreOpened ⟦<In as InEnd>⟧.told ⟦<Out as OutEnd>⟧.told INTERFACE leases opened.list →
-        slice_get leases 0 ≡ Some lease → AreOfLease ⟦<In as InEnd>⟧.told ⟦<Out as OutEnd>⟧.told INTERFACE lease result.0 }
-    ensures second { (leases : List Lease) (lease : Lease) → AreOpened ⟦<In as InEnd>⟧.told ⟦<Out as OutEnd>⟧.told INTERFACE leases opened.list →
-        slice_get leases 1 ≡ Some lease → AreOfLease ⟦<In as InEnd>⟧.told ⟦<Out as OutEnd>⟧.told INTERFACE lease result.1 }
+    ensures first { (leases : List Lease) (lease : Lease) → ArePairsOpened ⟦<In as InEnd>⟧.log ⟦<Out as OutEnd>⟧.log INTERFACE leases opened.list →
+        slice_get leases 0 ≡ Some lease → AreOfLease ⟦<In as InEnd>⟧.log ⟦<Out as OutEnd>⟧.log INTERFACE lease result.0 }
+    ensures second { (leases : List Lease) (lease : Lease) → ArePairsOpened ⟦<In as InEnd>⟧.log ⟦<Out as OutEnd>⟧.log INTERFACE leases opened.list →
+        slice_get leases 1 ≡ Some lease → AreOfLease ⟦<In as InEnd>⟧.log ⟦<Out as OutEnd>⟧.log INTERFACE lease result.1 }
 {
     let mut opened = opened;
     let first = opened.pop().unwrap();
@@ -229,8 +229,8 @@ fn two_ends(opened: OpenedPairs<In, Out>) -> (PairEnds<In, Out>, PairEnds<In, Ou
 
 /// Whether the pair's port for RTCP hears the phone, and that for RTP does not; that for RTP sends to it.
 fn hears_and_sends(ends: &mut PairEnds<In, Out>) -> bool
-    ensures { (lease : Lease) → AreOfLease ⟦<In as InEnd>⟧.told ⟦<Out as OutEnd>⟧.told INTERFACE lease ends.old →
-        AreOfLease ⟦<In as InEnd>⟧.told ⟦<Out as OutEnd>⟧.told INTERFACE lease ends.new }
+    ensures { (lease : Lease) → AreOfLease ⟦<In as InEnd>⟧.log ⟦<Out as OutEnd>⟧.log INTERFACE lease ends.old →
+        AreOfLease ⟦<In as InEnd>⟧.log ⟦<Out as OutEnd>⟧.log INTERFACE lease ends.new }
 {
     let mut buf = [0; 8];
     let rtp = ends.rtp_in.take(&mut buf);
@@ -322,7 +322,7 @@ struct Draws {
 }
 
 impl KeySource for Draws {
-    ghost told = { λ draws. None };
+    ghost log = { λ draws. None };
 
     ghost faults = { λ draws. draws.faults };
 

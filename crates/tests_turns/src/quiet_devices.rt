@@ -11,7 +11,7 @@ pub(crate) struct Quiet {
 }
 
 impl InEnd for Quiet {
-    ghost told = { λ end. record { at = end.at; calls = None } };
+    ghost log = { λ end. record { at = end.at; calls = None } };
 
     ghost faults = { λ end. 0 };
 
@@ -27,7 +27,7 @@ pub(crate) struct Mute {
 }
 
 impl OutEnd for Mute {
-    ghost told = { λ end. record { at = end.at; calls = None } };
+    ghost log = { λ end. record { at = end.at; calls = None } };
 
     ghost faults = { λ end. 0 };
 
@@ -45,7 +45,7 @@ impl PortMaker for QuietPorts {
 
     type Out = Mute;
 
-    ghost told = { λ maker. None };
+    ghost log = { λ maker. None };
 
     ghost faults = { λ maker. 0 };
 
@@ -61,7 +61,7 @@ impl PortMaker for QuietPorts {
 pub(crate) struct SameKey;
 
 impl KeySource for SameKey {
-    ghost told = { λ keys. None };
+    ghost log = { λ keys. None };
 
     ghost faults = { λ keys. 0 };
 
@@ -101,7 +101,7 @@ impl<'a> OneAsked<'a> {
 }
 
 impl<'a> ControlLink for OneAsked<'a> {
-    ghost told = { λ link. None };
+    ghost log = { λ link. None };
 
     ghost faults = { λ link. 0 };
 

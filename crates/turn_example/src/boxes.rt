@@ -2,7 +2,7 @@
 ghost use Rattle.std.specs.Prelude.{◌≡◌, ℕ, ◌+◌, ◌<◌, ◌++◌, [], ◌∷◌, length, MatchResult};
 ghost use Rattle.turn_table.specs.Hands.{IsHandOf, MayTurn, HasNoTurn, HasTurn, IsSameHand, IsMain, SameTurns, starts, entries};
 ghost use Rattle.turn_table.specs.Steps.{entry};
-ghost use Rattle.turn_example.specs.Parts.{Steps, IsBoard, IsBox, BeginsAsBoard, BeginsAsBox};
+ghost use Rattle.turn_example.specs.Parts.{ExampleSteps, IsBoard, IsExampleBox, BeginsAsBoard, BeginsAsBox};
 ghost use Rattle.turn_example.specs.declared.machine.Event.TheVariants.{Planned, Opened, Took};
 ghost use Rattle.turn_example.specs.declared.machine.Outcome.TheVariants.{Done};
 
@@ -13,8 +13,8 @@ use std::sync::Wait;
 use turn_table::{Busy, Hand, Turns};
 
 fn take_from<I: End>(part: &mut Part<I>) -> Outcome
-    requires { IsBox part.old }
-    ensures { Steps I.gives part.old Took result part.new }
+    requires { IsExampleBox part.old }
+    ensures { ExampleSteps I.gives part.old Took result part.new }
 {
     match part {
         Part::Port(Some(end)) => Outcome::Gave(end.take()),
@@ -24,8 +24,8 @@ fn take_from<I: End>(part: &mut Part<I>) -> Outcome
 }
 
 fn open_part<I: End>(part: &mut Part<I>, board: u64, end: I) -> Option<I>
-    requires { IsBox part.old }
-    ensures { Steps I.gives part.old (Opened board) Done part.new }
+    requires { IsExampleBox part.old }
+    ensures { ExampleSteps I.gives part.old (Opened board) Done part.new }
 {
     match part {
         Part::Port(inside) => inside.replace(end),
@@ -35,7 +35,7 @@ fn open_part<I: End>(part: &mut Part<I>, board: u64, end: I) -> Option<I>
 
 fn count_opening<I: End>(part: &mut Part<I>, opened: usize)
     requires { IsBoard part.old }
-    ensures { Steps I.gives part.old (Planned opened) Done part.new }
+    ensures { ExampleSteps I.gives part.old (Planned opened) Done part.new }
 {
     match part {
         Part::Board(count) => *count = count.wrapping_add(1),

@@ -49,7 +49,7 @@ pub struct Relay<I> {
 }
 
 impl<I: End> Machine for Relay<I> {
-    ghost use Rattle.turn_example.specs.Parts.{Steps, IsReserved};
+    ghost use Rattle.turn_example.specs.Parts.{ExampleSteps, IsMainEvent};
 
     type State = Part<I>;
 
@@ -57,9 +57,9 @@ impl<I: End> Machine for Relay<I> {
 
     type Outcome = Outcome;
 
-    ghost relates = { Steps I.gives };
+    ghost relates = { ExampleSteps I.gives };
 
-    ghost reserved = { IsReserved };
+    ghost reserved = { IsMainEvent };
 }
 
 /// An event with its outcome, which the proof of a call picks from the call's arguments.

@@ -1,7 +1,7 @@
 //! One way to put a turn for each kind of event. All data of the event are arguments, so that the proof of a call can pick the event from them.
 ghost use Rattle.std.specs.Prelude.{◌≡◌, ◌+◌, ◌%◌, ◌^◌};
 ghost use Rattle.turn_table.specs.Hands.{IsHandOf, HasTurn, IsSameHand, IsMain, EndsTurn, place_of, front_of, state_of, taken_of};
-ghost use Rattle.turn_example.specs.Parts.{Steps};
+ghost use Rattle.turn_example.specs.Parts.{ExampleSteps};
 ghost use Rattle.turn_example.specs.declared.machine.Event.TheVariants.{Planned, Opened, Took};
 ghost use Rattle.turn_example.specs.declared.machine.Outcome.TheVariants.{Done};
 
@@ -17,7 +17,7 @@ pub(crate) fn put_plan<I: End, X: Says>(
 ) -> u64
     requires table { IsHandOf turns.now hand.old × IsMain hand.old }
     requires turn { HasTurn hand.old turn }
-    requires step { Steps I.gives (taken_of turn) (Planned opened) Done (state_of turn) }
+    requires step { ExampleSteps I.gives (taken_of turn) (Planned opened) Done (state_of turn) }
     requires said { (X.event ≡ Planned opened) × (X.outcome ≡ Done) }
     ensures same { IsSameHand hand.old hand.new }
     ensures number { result ≡ front_of turn }
@@ -35,7 +35,7 @@ pub(crate) fn put_opening<I: End, X: Says>(
 ) -> u64
     requires table { IsHandOf turns.now hand.old × IsMain hand.old }
     requires turn { HasTurn hand.old turn }
-    requires step { Steps I.gives (taken_of turn) (Opened board) Done (state_of turn) }
+    requires step { ExampleSteps I.gives (taken_of turn) (Opened board) Done (state_of turn) }
     requires said { (X.event ≡ Opened board) × (X.outcome ≡ Done) }
     ensures same { IsSameHand hand.old hand.new }
     ensures number { result ≡ front_of turn }
@@ -53,7 +53,7 @@ pub(crate) fn put_take<I: End, X: Says>(
 ) -> u64
     requires table { IsHandOf turns.now hand.old }
     requires turn { HasTurn hand.old turn }
-    requires step { Steps I.gives (taken_of turn) Took outcome.now (state_of turn) }
+    requires step { ExampleSteps I.gives (taken_of turn) Took outcome.now (state_of turn) }
     requires said { (X.event ≡ Took) × (X.outcome ≡ outcome.now) }
     ensures same { IsSameHand hand.old hand.new }
     ensures number { result ≡ front_of turn }

@@ -9,8 +9,8 @@ use Rattle.atomic_table.specs.Table.{step, rest}
 use Rattle.turn_table.specs.declared.view.View.{View}
 use Rattle.turn_table.specs.declared.view.Phase.{Phase}
 use Rattle.turn_table.specs.declared.view.Phase.TheVariants.{Nothing, Marked, Out, Held, Counted}
-use Rattle.turn_table.specs.Histories.{In, here, there, seen_at, phase_at}
-use Rattle.turn_table.specs.Steps.{Sat, noted, tried, phased, gained, entry, with_count, emptied_phase, reached_phase, number_of, WasTaken, Given, marked, looked, counted, returned, emptied, reached, finished, freed}
+use Rattle.turn_table.specs.Histories.{IsMemberOf, here, there, seen_at, phase_at}
+use Rattle.turn_table.specs.Steps.{Sat, noted, tried, phased, gained, entry, with_read_count, emptied_phase, reached_phase, phase_number, WasTaken, GivenView, marked, looked, count_read, put_back, emptied, reached, finished, freed}
 use Rattle.turn_table.proofs.Lists.{seen_here, seen_else, phase_here, phase_else, nothing_or}
 use Rattle.turn_table.proofs.Keeps.{IsAt}
 
@@ -41,23 +41,23 @@ module _ {S E O : Type 0} (relates : S → E → O → S → Type 0) (reserved :
   after_mark k spot r v lies m m' e t = let h = either_way (eqb r 0) (subst (λ z. marked relates reserved (step 0 (4 * spot) 0 1 none) z r m') e t k (lies.0, ap (λ i. 4 * i) lies.1)) in
       ((λ q. let w = h.0 (eq-eqb r 0 q) in (w.0, w.1 ∙ ap (λ i. (phased k (Marked w.0) (tried k 0 v), (i, Some w.0) ∷ [])) (sym lies.1))), λ q. h.1 (ne_eqb r 0 q))
 
-  given_before : (k n : ℕ) (x : S) (v : View S E O) → Given relates reserved k (phased k (Marked x) (tried k 0 v)) n x → Given relates reserved k v n x
+  given_before : (k n : ℕ) (x : S) (v : View S E O) → GivenView relates reserved k (phased k (Marked x) (tried k 0 v)) n x → GivenView relates reserved k v n x
   given_before k n x v g = record { history = g.history; long = g.long; start = g.start; starts = g.starts; leaves = g.leaves; named = g.named; own = g.own; above = g.above; main = g.main; whole = g.whole }
 
   -- the seat has the mark, and has read the count
-  pub after_count : (k spot n : ℕ) (x : S) (v : View S E O) → IsAt v k spot → (m m' : Sat S E O) → Path (Sat S E O) m (phased k (Marked x) (tried k 0 v), (spot, Some x) ∷ []) → counted relates reserved (step 0 (4 * spot + 1) 0 0 none) m n m'
-      → Path (Sat S E O) m' (phased k (Out n x) (noted k n (phased k (Marked x) (tried k 0 v))), (spot, Some x) ∷ []) × (seen_at v.seen k ≤ n) × (n ≤ 2 ^ 56) × Given relates reserved k v n x
+  pub after_count : (k spot n : ℕ) (x : S) (v : View S E O) → IsAt v k spot → (m m' : Sat S E O) → Path (Sat S E O) m (phased k (Marked x) (tried k 0 v), (spot, Some x) ∷ []) → count_read relates reserved (step 0 (4 * spot + 1) 0 0 none) m n m'
+      → Path (Sat S E O) m' (phased k (Out n x) (noted k n (phased k (Marked x) (tried k 0 v))), (spot, Some x) ∷ []) × (seen_at v.seen k ≤ n) × (n ≤ 2 ^ 56) × GivenView relates reserved k v n x
   after_count k spot n x v lies m m' e t =
-      let h = subst (λ z. counted relates reserved (step 0 (4 * spot + 1) 0 0 none) z n m') e t k (lies.0, ap (λ i. 4 * i + 1) lies.1) in
+      let h = subst (λ z. count_read relates reserved (step 0 (4 * spot + 1) 0 0 none) z n m') e t k (lies.0, ap (λ i. 4 * i + 1) lies.1) in
       let p = phase_here v.turns k (Marked x) in
-      (h.0 ∙ ap (λ q. (phased k (with_count n q) (noted k n (phased k (Marked x) (tried k 0 v))), (spot, Some x) ∷ [])) p, h.1, h.2, given_before k n x v (h.3 x p))
+      (h.0 ∙ ap (λ q. (phased k (with_read_count n q) (noted k n (phased k (Marked x) (tried k 0 v))), (spot, Some x) ∷ [])) p, h.1, h.2, given_before k n x v (h.3 x p))
 
 module _ {S E O : Type 0} where
   pub after_look : (k spot n : ℕ) (v : View S E O) → IsAt v k spot → (m m' : Sat S E O) → Path (Sat S E O) m (v, []) → looked (step 0 (4 * spot + 1) 0 0 none) m n m' → Path (Sat S E O) m' (noted k n v, []) × (seen_at v.seen k ≤ n) × (n ≤ 2 ^ 56)
   after_look k spot n v lies m m' e t = subst (λ z. looked (step 0 (4 * spot + 1) 0 0 none) z n m') e t k (lies.0, ap (λ i. 4 * i + 1) lies.1)
 
-  pub after_return : (k spot : ℕ) (v : View S E O) → IsAt v k spot → (c : List (ℕ × Option S)) (m m' : Sat S E O) → Path (Sat S E O) m (v, c) → returned (step 0 (4 * spot) 0 0 none) m 0 m' → Path (Sat S E O) m' (phased k Nothing v, rest c)
-  after_return k spot v lies c m m' e t = subst (λ z. returned (step 0 (4 * spot) 0 0 none) z 0 m') e t k (lies.0, ap (λ i. 4 * i) lies.1)
+  pub after_return : (k spot : ℕ) (v : View S E O) → IsAt v k spot → (c : List (ℕ × Option S)) (m m' : Sat S E O) → Path (Sat S E O) m (v, c) → put_back (step 0 (4 * spot) 0 0 none) m 0 m' → Path (Sat S E O) m' (phased k Nothing v, rest c)
+  after_return k spot v lies c m m' e t = subst (λ z. put_back (step 0 (4 * spot) 0 0 none) z 0 m') e t k (lies.0, ap (λ i. 4 * i) lies.1)
 
   pub after_empty : (k spot n : ℕ) (x : S) (v : View S E O) → IsAt v k spot → (c : List (ℕ × Option S)) (r : ℕ) (m m' : Sat S E O) → Path (Sat S E O) m (phased k (Out n x) v, c) → emptied (step 0 (4 * spot) 0 0 none) m r m' → Path (Sat S E O) m' (phased k (Held n x) (phased k (Out n x) v), rest c)
   after_empty k spot n x v lies c r m m' e t = subst (λ z. emptied (step 0 (4 * spot) 0 0 none) z r m') e t k (lies.0, ap (λ i. 4 * i) lies.1) ∙ ap (λ q. (phased k (emptied_phase q) (phased k (Out n x) v), rest c)) (phase_here v.turns k (Out n x))
@@ -75,7 +75,7 @@ module _ {S E O : Type 0} where
       → Path (Sat S E O) m' (phased k (Counted y) (noted k l (gained (entry k n event outcome) (phased k (Out n x) v))), []) × (seen_at v.seen k ≤ n)
   after_finish k spot n l x y event outcome v lies m m' e t =
       let h = subst (λ z. finished event outcome (step 0 (4 * spot + 1) l 0 none) z l m') e t k (lies.0, ap (λ i. 4 * i + 1) lies.1) in
-      let p : number_of (phase_at ((k, Out n x) ∷ v.turns) k) ≡ n = ap number_of (phase_here v.turns k (Out n x)) in
+      let p : phase_number (phase_at ((k, Out n x) ∷ v.turns) k) ≡ n = ap phase_number (phase_here v.turns k (Out n x)) in
       (h.0 ∙ ap (λ q. (phased k (Counted y) (noted k l (gained (entry k q event outcome) (phased k (Out n x) v))), [])) p, let s = h.1 in omega arith)
 
   pub after_free : (k spot : ℕ) (v : View S E O) → IsAt v k spot → (m m' : Sat S E O) → Path (Sat S E O) m (v, []) → freed (step 0 (4 * spot) 0 0 none) m 0 m' → Path (Sat S E O) m' (phased k Nothing v, [])
@@ -115,12 +115,12 @@ module _ {S E O : Type 0} where
       (phase_here b k Nothing, λ j ne. phase_else b k Nothing j ne ∙ (phase_else a k (Counted y) j ne ∙ phase_else v.turns k (Out n x) j ne))
 
 abbrev pub Trials : ℕ → List (ℕ × ℕ) → List (ℕ × ℕ) → Type 0
-Trials k rs rs' = (ts : List (ℕ × ℕ)) × (rs' ≡ ts ++ rs) × ((t : ℕ × ℕ) → In t ts → t.0 ≡ k)
+Trials k rs rs' = (ts : List (ℕ × ℕ)) × (rs' ≡ ts ++ rs) × ((t : ℕ × ℕ) → IsMemberOf t ts → t.0 ≡ k)
 
 -- a hand that tried the mark of the place k alone tries it once more
 pub tried_again : (k : ℕ) (rs rs' rs'' : List (ℕ × ℕ)) → Trials k rs rs' → (n : ℕ) → rs'' ≡ (k, n) ∷ rs' → Trials k rs rs''
 tried_again k rs rs' rs'' t n e = ((k, n) ∷ t.0, e ∙ ap (λ l. (k, n) ∷ l) t.1, λ u h. by t.2 u h)
   where
-    by : ((u : ℕ × ℕ) → In u t.0 → u.0 ≡ k) → (u : ℕ × ℕ) → In u ((k, n) ∷ t.0) → u.0 ≡ k
+    by : ((u : ℕ × ℕ) → IsMemberOf u t.0 → u.0 ≡ k) → (u : ℕ × ℕ) → IsMemberOf u ((k, n) ∷ t.0) → u.0 ≡ k
     by old u (here p) = ap (λ (z : ℕ × ℕ). z.0) p
     by old u (there h) = old u h

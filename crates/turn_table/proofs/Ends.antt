@@ -12,10 +12,10 @@ use Rattle.turn_table.specs.declared.machine.Entry.{Entry}
 use Rattle.turn_table.specs.declared.view.View.{View}
 use Rattle.turn_table.specs.declared.view.Phase.{Phase}
 use Rattle.turn_table.specs.declared.view.Phase.TheVariants.{Out, Counted}
-use Rattle.turn_table.specs.Histories.{one_if, below, seen_at, phase_at, is_at, times, Named, Leaves}
-use Rattle.turn_table.specs.Layout.{rows_of, spot_of}
-use Rattle.turn_table.specs.Kept.{Matches, Stands, PlaceOk, SeatOk, Kept}
-use Rattle.turn_table.specs.Steps.{Sat, IsCount, noted, phased, gained, entry, number_of, finished}
+use Rattle.turn_table.specs.Histories.{one_if, below, seen_at, phase_at, is_entry_at, times, Named, Leaves}
+use Rattle.turn_table.specs.Layout.{column_rows, spot_of}
+use Rattle.turn_table.specs.Invariant.{Matches, StateStands, PlaceOk, SeatOk, Kept}
+use Rattle.turn_table.specs.Steps.{Sat, HasCount, noted, phased, gained, entry, phase_number, finished}
 use Rattle.turn_table.proofs.Lists.{total_append, in_split, in_one, get_longer, get_last, get_snoc, put, put_here, put_else, put_all, seen_here, seen_else, phase_here, phase_else, at_here, at_place, at_number, below_in, below_out}
 use Rattle.turn_table.proofs.Moved.{Grows, moved}
 use Rattle.turn_table.proofs.Keeps.{IsAt, mine_is, begun, there_ok, far_count, count_of}
@@ -26,12 +26,12 @@ module _ {S E O : Type 0} (relates : S → E → O → S → Type 0) where
   leaves_snoc (f ∷ fs) e a x y l step = (l.0, l.1, leaves_snoc fs e l.0 x y l.2 step)
 
 -- one more entry, and one more number below the length
-more_below : {E O : Type 0} (e : Entry E O) (k n i : ℕ) → e.place ≡ k → e.number ≡ n → one_if (is_at k i e) + below i n ≡ below i (suc n)
+more_below : {E O : Type 0} (e : Entry E O) (k n i : ℕ) → e.place ≡ k → e.number ≡ n → one_if (is_entry_at k i e) + below i n ≡ below i (suc n)
 more_below e k n i p q = dite (ℕ_discrete n i)
     (λ (s : n ≡ i). let a = at_here k i e p (q ∙ s) in let b = below_out i n (omega arith) in let c = below_in i (suc n) (omega arith) in omega arith)
     (λ (ne : n ≢ i). let a = at_number k i e p (λ r. ne (sym q ∙ r)) in by a (λ low. (below_in i n low, below_in i (suc n) (omega arith))) (λ high. (below_out i n high, below_out i (suc n) (omega arith))))
   where
-    by : one_if (is_at k i e) ≡ 0 → (i < n → (below i n ≡ 1) × (below i (suc n) ≡ 1)) → (n ≤ i → (below i n ≡ 0) × (below i (suc n) ≡ 0)) → one_if (is_at k i e) + below i n ≡ below i (suc n)
+    by : one_if (is_entry_at k i e) ≡ 0 → (i < n → (below i n ≡ 1) × (below i (suc n) ≡ 1)) → (n ≤ i → (below i n ≡ 0) × (below i (suc n) ≡ 0)) → one_if (is_entry_at k i e) + below i n ≡ below i (suc n)
     by a low high = dite (dec_le n i) (λ (g : n ≤ i). let h = high g in let h0 = h.0 in let h1 = h.1 in omega arith) (λ (g : ¬ (n ≤ i)). let h = low (lt_of_not-le g) in let h0 = h.0 in let h1 = h.1 in omega arith)
 
 module _ {S E O : Type 0} (relates : S → E → O → S → Type 0) (reserved : E → Type 0) (starts : List S) where
@@ -43,7 +43,7 @@ module _ {S E O : Type 0} (relates : S → E → O → S → Type 0) (reserved :
 
   module _ (id k spot : ℕ) (v : View S E O) (lies : IsAt v k spot) (live : 0 < v.parts) (n m : ℕ) (next : m ≡ suc n) (x y : S) (phase : phase_at v.turns k ≡ Out n x) (low : n < 2 ^ 56)
       (event : E) (outcome : O) (related : relates x event outcome y) (right : reserved event → v.main ≡ true)
-      (s : St) (r : Rule s) (at : get_elem? s.views id ≡ some v) (a : S) (start : slice_get starts k ≡ Some a) (is : spot ≡ spot_of (rows_of (length starts)) k) (long : spot < length s.homes) where
+      (s : St) (r : Rule s) (at : get_elem? s.views id ≡ some v) (a : S) (start : slice_get starts k ≡ Some a) (is : spot ≡ spot_of (column_rows (length starts)) k) (long : spot < length s.homes) where
     abbrev e : Entry E O
     e = entry k n event outcome
 
@@ -62,8 +62,8 @@ module _ {S E O : Type 0} (relates : S → E → O → S → Type 0) (reserved :
     mine : ((r.cells k).0 ≡ suc id) × ((r.cells k).1 ≡ Out n x)
     mine = mine_is (r.cells k) id (phase_at v.turns k) (Out n x) ((r.seat id v at).turns k) phase (λ e. absurd cc)
 
-    out : Stands relates s.homes spot (r.log k) a (Out n x)
-    out = subst (Stands relates s.homes spot (r.log k) a) mine.1 ok.stands
+    out : StateStands relates s.homes spot (r.log k) a (Out n x)
+    out = subst (StateStands relates s.homes spot (r.log k) a) mine.1 ok.stands
 
     longer : length log' ≡ suc n
     longer = let l = length-append (r.log k) (e ∷ []) in let c = out.1 in omega arith
@@ -96,7 +96,7 @@ module _ {S E O : Type 0} (relates : S → E → O → S → Type 0) (reserved :
     }
 
     once : (j i : ℕ) → times j i w.entries + below i (length (r.log j)) ≡ times j i v.entries + below i (length (put r.log k log' j))
-    once j i = let t = total_append (λ (f : Entry E O). one_if (is_at j i f)) v.entries (e ∷ []) in dite (ℕ_discrete j k)
+    once j i = let t = total_append (λ (f : Entry E O). one_if (is_entry_at j i f)) v.entries (e ∷ []) in dite (ℕ_discrete j k)
         (λ (q : j ≡ k). let l : length (put r.log k log' j) ≡ suc n = ap (λ z. length (put r.log k log' z)) q ∙ (ap length (put_here r.log k log') ∙ longer) in
         let c : length (r.log j) ≡ n = ap (λ z. length (r.log z)) q ∙ sym out.1 in
         let b = more_below e j n i (sym q) refl in
@@ -129,9 +129,9 @@ module _ {S E O : Type 0} (relates : S → E → O → S → Type 0) (reserved :
           once = once;
         }
 
-    told : (j : ℕ) → IsCount v j (4 * spot + 1) → Path (Sat S E O) (w, []) (phased j (Counted y) (noted j m (gained (entry j (number_of (phase_at v.turns j)) event outcome) v)), []) × (seen_at v.seen j ≤ number_of (phase_at v.turns j))
-    told j q = let n' : n ≡ number_of (phase_at v.turns k) = sym (ap number_of phase) in
-        subst (λ i. Path (Sat S E O) (w, []) (phased i (Counted y) (noted i m (gained (entry i (number_of (phase_at v.turns i)) event outcome) v)), []) × (seen_at v.seen i ≤ number_of (phase_at v.turns i))) (count_of v k j spot lies q).0
+    told : (j : ℕ) → HasCount v j (4 * spot + 1) → Path (Sat S E O) (w, []) (phased j (Counted y) (noted j m (gained (entry j (phase_number (phase_at v.turns j)) event outcome) v)), []) × (seen_at v.seen j ≤ phase_number (phase_at v.turns j))
+    told j q = let n' : n ≡ phase_number (phase_at v.turns k) = sym (ap phase_number phase) in
+        subst (λ i. Path (Sat S E O) (w, []) (phased i (Counted y) (noted i m (gained (entry i (phase_number (phase_at v.turns i)) event outcome) v)), []) × (seen_at v.seen i ≤ phase_number (phase_at v.turns i))) (count_of v k j spot lies q).0
         (ap (λ z. (phased k (Counted y) (noted k m (gained (entry k z event outcome) v)), [])) n', let h = (r.seat id v at).seen k in let c = out.1 in omega arith)
 
   -- kind 7

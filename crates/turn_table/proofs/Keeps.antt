@@ -15,10 +15,10 @@ use Rattle.turn_table.specs.declared.machine.Entry.{Entry}
 use Rattle.turn_table.specs.declared.view.View.{View}
 use Rattle.turn_table.specs.declared.view.Phase.{Phase}
 use Rattle.turn_table.specs.declared.view.Phase.TheVariants.{Nothing, Marked, Out, Held, Counted}
-use Rattle.turn_table.specs.Histories.{In, one_if, seen_at, phase_at, times, Leaves}
-use Rattle.turn_table.specs.Layout.{rows_of, spot_of}
-use Rattle.turn_table.specs.Kept.{Matches, Stands, PlaceOk, Kept, spent_view}
-use Rattle.turn_table.specs.Steps.{Sat, spot_in, IsMark, IsCount, noted, tried, phased, with_count, emptied_phase, reached_phase, number_of, WasTaken, Given, marked, looked, counted, returned, emptied, reached, freed}
+use Rattle.turn_table.specs.Histories.{IsMemberOf, one_if, seen_at, phase_at, times, Leaves}
+use Rattle.turn_table.specs.Layout.{column_rows, spot_of}
+use Rattle.turn_table.specs.Invariant.{Matches, StateStands, PlaceOk, Kept, spent_view}
+use Rattle.turn_table.specs.Steps.{Sat, spot_in, IsMark, HasCount, noted, tried, phased, with_read_count, emptied_phase, reached_phase, phase_number, WasTaken, GivenView, marked, looked, count_read, put_back, emptied, reached, freed}
 use Rattle.turn_table.proofs.Lists.{total_two, total_some, get_there, seen_here, seen_else, phase_here, phase_else, times_in, below_in}
 use Rattle.turn_table.proofs.Spots.{rows_hold, spot_low, one_spot}
 use Rattle.turn_table.proofs.Moved.{Homes, rephased, reviewed}
@@ -46,12 +46,12 @@ double_more k j e = omega arith
 -- the one place whose mark, or whose count, the word is
 same_place : {S E O : Type 0} (v : View S E O) (k j spot : ℕ) → IsAt v k spot → IsAt v j spot → k ≡ j
 same_place v k j spot at at' = let h = rows_hold (length v.starts) in let low = at.0 in let low' = at'.0 in
-    one_spot (rows_of (length v.starts)) k j (omega arith) (omega arith) (sym at.1 ∙ at'.1)
+    one_spot (column_rows (length v.starts)) k j (omega arith) (omega arith) (sym at.1 ∙ at'.1)
 
 mark_of : {S E O : Type 0} (v : View S E O) (k j spot : ℕ) → IsAt v k spot → IsMark v j (4 * spot) → (k ≡ j) × (spot ≡ spot_in v j)
 mark_of v k j spot at is = let q = double spot (spot_in v j) is.1 in (same_place v k j spot at (is.0, q), q)
 
-pub count_of : {S E O : Type 0} (v : View S E O) (k j spot : ℕ) → IsAt v k spot → IsCount v j (4 * spot + 1) → (k ≡ j) × (spot ≡ spot_in v j)
+pub count_of : {S E O : Type 0} (v : View S E O) (k j spot : ℕ) → IsAt v k spot → HasCount v j (4 * spot + 1) → (k ≡ j) × (spot ≡ spot_in v j)
 count_of v k j spot at is = let q = double_more spot (spot_in v j) is.1 in (same_place v k j spot at (is.0, q), q)
 
 -- the other spots' words after a write of one of this spot's
@@ -69,14 +69,14 @@ module _ {S E O : Type 0} (relates : S → E → O → S → Type 0) (reserved :
   Rule = Kept relates reserved starts
 
   abbrev rows : ℕ
-  rows = rows_of (length starts)
+  rows = column_rows (length starts)
 
   -- the place, with its start state, and its spot in the table
   pub begun : (s : St) (r : Rule s) (id k spot : ℕ) (v : View S E O) → get_elem? s.views id ≡ some v → 0 < v.parts → IsAt v k spot → (a : S) × (slice_get starts k ≡ Some a) × (spot ≡ spot_of rows k) × (spot < length s.homes)
   begun s r id k spot v at live lies =
       let same = (r.seat id v at).same live in
       let inside : k < length starts = subst (λ (l : List S). k < length l) same lies.0 in
-      let is : spot ≡ spot_of rows k = lies.1 ∙ ap (λ (l : List S). spot_of (rows_of (length l)) k) same in
+      let is : spot ≡ spot_of rows k = lies.1 ∙ ap (λ (l : List S). spot_of (column_rows (length l)) k) same in
       let h = rows_hold (length starts) in
       let low : spot_of rows k < length s.homes = subst (λ n. spot_of rows k < n) (sym r.long) (spot_low rows k (omega arith)) in
       let b = get_there starts k inside in (b.0, b.1, is, subst (λ i. i < length s.homes) (sym is) low)
@@ -104,7 +104,7 @@ module _ {S E O : Type 0} (relates : S → E → O → S → Type 0) (reserved :
     won : get_or s.words (4 * spot) 0 ≡ 0 → Found true
     won zero_there =
         let empty : (r.cells k).0 ≡ 0 = let m = ok.mark in omega arith in
-        let h = subst (Stands relates s.homes spot (r.log k) a) (ok.free empty) ok.stands in
+        let h = subst (StateStands relates s.homes spot (r.log k) a) (ok.free empty) ok.stands in
         let x : S = h.0 in
         let wide = r.wide in (
           phased k (Marked x) (tried k 0 v),
@@ -192,7 +192,7 @@ module _ {S E O : Type 0} (relates : S → E → O → S → Type 0) (reserved :
       let h = r.one in omega arith))
 
   -- each entry of a history stands in the list of some seat
-  pub in_some : (s : St) (r : Rule s) (k i : ℕ) (e : Entry E O) → slice_get (r.log k) i ≡ Some e → (j : ℕ) × (u : View S E O) × (get_elem? s.views j ≡ some u) × In e u.entries
+  pub in_some : (s : St) (r : Rule s) (k i : ℕ) (e : Entry E O) → slice_get (r.log k) i ≡ Some e → (j : ℕ) × (u : View S E O) × (get_elem? s.views j ≡ some u) × IsMemberOf e u.entries
   in_some s r k i e there =
       let low = slice_get_within (r.log k) i e there in
       let one = r.once k i in let b = below_in i (length (r.log k)) low in
@@ -201,14 +201,14 @@ module _ {S E O : Type 0} (relates : S → E → O → S → Type 0) (reserved :
       let tied = ((r.seat o.0 o.1 o.2).tied f.0 f.1).1 in
       let same : Some f.0 ≡ Some e = sym (subst (λ (z : ℕ × ℕ). slice_get (r.log z.0) z.1 ≡ Some f.0) (λ c. (f.2 c, f.3 c)) tied) ∙ there in
       let here : f.0 ≡ e = cc in
-      (o.0, o.1, o.2, subst (λ z. In z o.1.entries) here f.1)
+      (o.0, o.1, o.2, subst (λ z. IsMemberOf z o.1.entries) here f.1)
 
   -- the reserved entries are the main seat's
-  reserved_own : (s : St) (r : Rule s) (id : ℕ) (v : View S E O) → get_elem? s.views id ≡ some v → v.main ≡ true → (k i : ℕ) (e : Entry E O) → slice_get (r.log k) i ≡ Some e → reserved e.event → In e v.entries
+  reserved_own : (s : St) (r : Rule s) (id : ℕ) (v : View S E O) → get_elem? s.views id ≡ some v → v.main ≡ true → (k i : ℕ) (e : Entry E O) → slice_get (r.log k) i ≡ Some e → reserved e.event → IsMemberOf e v.entries
   reserved_own s r id v at main k i e there is = let o = in_some s r k i e there in by o.0 o.1 o.2 o.3 o.1.main refl
     where
-      by : (j : ℕ) (u : View S E O) → get_elem? s.views j ≡ some u → In e u.entries → (b : Bool) → u.main ≡ b → In e v.entries
-      by j u at' h true main' = subst (λ (z : View S E O). In e z.entries) (one_main s r j id u v at' at main' main) h
+      by : (j : ℕ) (u : View S E O) → get_elem? s.views j ≡ some u → IsMemberOf e u.entries → (b : Bool) → u.main ≡ b → IsMemberOf e v.entries
+      by j u at' h true main' = subst (λ (z : View S E O). IsMemberOf e z.entries) (one_main s r j id u v at' at main' main) h
       by j u at' h false side = absurd ((r.seat j u at').plain side e h is)
 
   -- where one seat has all parts, the others are spent
@@ -217,15 +217,15 @@ module _ {S E O : Type 0} (relates : S → E → O → S → Type 0) (reserved :
       (let t = total_two (λ (u : View S E O). u.parts) s.views j id u v ne at' at in let h = r.whole in omega arith)
 
   -- and all entries are its own
-  pub all_own : (s : St) (r : Rule s) (id : ℕ) (v : View S E O) → get_elem? s.views id ≡ some v → v.parts ≡ 1024 → (k i : ℕ) (e : Entry E O) → slice_get (r.log k) i ≡ Some e → In e v.entries
+  pub all_own : (s : St) (r : Rule s) (id : ℕ) (v : View S E O) → get_elem? s.views id ≡ some v → v.parts ≡ 1024 → (k i : ℕ) (e : Entry E O) → slice_get (r.log k) i ≡ Some e → IsMemberOf e v.entries
   all_own s r id v at all k i e there = let o = in_some s r k i e there in dite (ℕ_discrete o.0 id)
-      (λ q. subst (λ (z : View S E O). In e z.entries) (some-injective o.1 v (sym o.2 ∙ (ap (get_elem? s.views) q ∙ at))) o.3)
-      (λ ne. elim (subst (λ (z : View S E O). In e z.entries) (others_spent s r id v at all o.0 o.1 ne o.2) o.3) [ ])
+      (λ q. subst (λ (z : View S E O). IsMemberOf e z.entries) (some-injective o.1 v (sym o.2 ∙ (ap (get_elem? s.views) q ∙ at))) o.3)
+      (λ ne. elim (subst (λ (z : View S E O). IsMemberOf e z.entries) (others_spent s r id v at all o.0 o.1 ne o.2) o.3) [ ])
 
   given : (s : St) (r : Rule s) (id : ℕ) (v : View S E O) → get_elem? s.views id ≡ some v → 0 < v.parts → (k spot : ℕ) (a : S) → slice_get starts k ≡ Some a → PlaceOk relates s.words s.homes (r.log k) (r.cells k) k spot a
-      → (n : ℕ) → n ≡ length (r.log k) → (x : S) → Leaves relates a (r.log k) x → Given relates reserved k v n x
+      → (n : ℕ) → n ≡ length (r.log k) → (x : S) → Leaves relates a (r.log k) x → GivenView relates reserved k v n x
   given s r id v at live k spot a start ok n count x leaves =
-      let own : (e : Entry E O) → In e v.entries → e.place ≡ k → slice_get (r.log k) e.number ≡ Some e = λ e h p. subst (λ j. slice_get (r.log j) e.number ≡ Some e) p ((r.seat id v at).tied e h).1 in record {
+      let own : (e : Entry E O) → IsMemberOf e v.entries → e.place ≡ k → slice_get (r.log k) e.number ≡ Some e = λ e h p. subst (λ j. slice_get (r.log j) e.number ≡ Some e) p ((r.seat id v at).tied e h).1 in record {
         history = r.log k;
         long = sym count;
         start = a;
@@ -240,7 +240,7 @@ module _ {S E O : Type 0} (relates : S → E → O → S → Type 0) (reserved :
 
   -- kind 4, by the hand that has the mark
   pub counts : (slots id k spot : ℕ) (v : View S E O) (c : List (ℕ × Option S)) → IsAt v k spot → 0 < v.parts → (x : S) → phase_at v.turns k ≡ Marked x
-      → Allows Rule slots id (v, c) (4 * spot + 1) (λ n. n) (counted relates reserved (step slots (4 * spot + 1) 0 0 none) (v, c))
+      → Allows Rule slots id (v, c) (4 * spot + 1) (λ n. n) (count_read relates reserved (step slots (4 * spot + 1) 0 0 none) (v, c))
   counts slots id k spot v c lies live x phase s r deep at small =
       let b = begun s r id k spot v at live lies in
       let ok = there_ok s r k spot b.0 b.1 b.2 in
@@ -249,9 +249,9 @@ module _ {S E O : Type 0} (relates : S → E → O → S → Type 0) (reserved :
       let low = ok.low in
       let seen = (r.seat id v at).seen k in
       let m = mine_is (r.cells k) id (phase_at v.turns k) (Marked x) ((r.seat id v at).turns k) phase (λ e. absurd cc) in
-      let h = subst (Stands relates s.homes spot (r.log k) b.0) m.1 ok.stands in
+      let h = subst (StateStands relates s.homes spot (r.log k) b.0) m.1 ok.stands in
       let w : View S E O = phased k (Out n x) (noted k n v) in
-      let now : phased k (with_count n (phase_at v.turns k)) (noted k n v) ≡ w = ap (λ p. phased k (with_count n p) (noted k n v)) phase in (
+      let now : phased k (with_read_count n (phase_at v.turns k)) (noted k n v) ≡ w = ap (λ p. phased k (with_read_count n p) (noted k n v)) phase in (
         w,
         keeps,
         tt,
@@ -267,11 +267,11 @@ module _ {S E O : Type 0} (relates : S → E → O → S → Type 0) (reserved :
               stands = (h.0, count, h.1);
             }
             (inr m.0) (inr refl) (noted_low s r id v at k n count) (inl (refl, sym (phase_here v.turns k (Out n x)))) (λ j ne. phase_else v.turns k (Out n x) j ne)),
-        λ j e. subst (λ i. Path (Sat S E O) (w, c) (phased i (with_count n (phase_at v.turns i)) (noted i n v), c) × (seen_at v.seen i ≤ n) × (n ≤ 2 ^ 56) × ((y : S) → phase_at v.turns i ≡ Marked y → Given relates reserved i v n y)) (count_of v k j spot lies e).0 (
+        λ j e. subst (λ i. Path (Sat S E O) (w, c) (phased i (with_read_count n (phase_at v.turns i)) (noted i n v), c) × (seen_at v.seen i ≤ n) × (n ≤ 2 ^ 56) × ((y : S) → phase_at v.turns i ≡ Marked y → GivenView relates reserved i v n y)) (count_of v k j spot lies e).0 (
           ap (λ u. (u, c)) (sym now),
           omega arith,
           omega arith,
-          λ y q. let same : Marked x ≡ Marked y = sym phase ∙ q in let x≡y : x ≡ y = cc in subst (Given relates reserved k v n) x≡y (given s r id v at live k spot b.0 b.1 ok n count x h.1),
+          λ y q. let same : Marked x ≡ Marked y = sym phase ∙ q in let x≡y : x ≡ y = cc in subst (GivenView relates reserved k v n) x≡y (given s r id v at live k spot b.0 b.1 ok n count x h.1),
         ),
       )
 
@@ -279,7 +279,7 @@ module _ {S E O : Type 0} (relates : S → E → O → S → Type 0) (reserved :
   turned_to : (slots id k spot : ℕ) (v : View S E O) → IsAt v k spot → 0 < v.parts → (p q : Phase S) → p ≢ Nothing → q ≢ Nothing → phase_at v.turns k ≡ p
       → (s : St) (r : Rule s) → length s.homes ≡ slots → get_elem? s.views id ≡ some v → (homes' : Homes S) → length homes' ≡ length s.homes
       → ((i : ℕ) → i ≢ spot → get_elem? homes' i ≡ get_elem? s.homes i)
-      → ((a : S) → Stands relates s.homes spot (r.log k) a p → Stands relates homes' spot (r.log k) a q)
+      → ((a : S) → StateStands relates s.homes spot (r.log k) a p → StateStands relates homes' spot (r.log k) a q)
       → Rule record { words = s.words; homes = homes'; views = set s.views id (phased k q v) }
   turned_to slots id k spot v lies live p q some_p some_q phase s r deep at homes' as_deep same stands =
       let b = begun s r id k spot v at live lies in
@@ -293,7 +293,7 @@ module _ {S E O : Type 0} (relates : S → E → O → S → Type 0) (reserved :
         named = ok.named;
         free = λ e. absurd (omega arith);
         held = λ _. some_q;
-        stands = stands b.0 (subst (Stands relates s.homes spot (r.log k) b.0) m.1 ok.stands);
+        stands = stands b.0 (subst (StateStands relates s.homes spot (r.log k) b.0) m.1 ok.stands);
       }
       (inr m.0) (inr refl) (r.seat id v at).seen (inl (refl, sym (phase_here v.turns k q))) (λ j ne. phase_else v.turns k q j ne)
 
@@ -319,7 +319,7 @@ module _ {S E O : Type 0} (relates : S → E → O → S → Type 0) (reserved :
       let b = begun s r id k spot v at live lies in
       let ok = there_ok s r k spot b.0 b.1 b.2 in
       let m = mine_is (r.cells k) id (phase_at v.turns k) (Held n x) ((r.seat id v at).turns k) phase (λ e. absurd cc) in
-      let h = subst (Stands relates s.homes spot (r.log k) b.0) m.1 ok.stands in (
+      let h = subst (StateStands relates s.homes spot (r.log k) b.0) m.1 ok.stands in (
         w,
         takes spot None,
         h.0,
@@ -328,14 +328,14 @@ module _ {S E O : Type 0} (relates : S → E → O → S → Type 0) (reserved :
             (λ j ne. set_else s.homes spot j none ne) (λ a h'. (set_here s.homes spot none b.3, h'.1, h'.3))),
         λ j e. let lies' = mark_of v k j spot lies e in
             subst (λ (z : ℕ × ℕ). Path (Sat S E O) (w, (spot, None) ∷ []) (phased z.0 (reached_phase (phase_at v.turns z.0)) v, (z.1, None) ∷ []) × ((n' : ℕ) (y : S) → phase_at v.turns z.0 ≡ Held n' y → n' < 2 ^ 56)) (λ i. (lies'.0 i, lies'.1 i))
-            (ap (λ p. (phased k (reached_phase p) v, (spot, None) ∷ [])) (sym phase), λ n' y q. let same : Held n x ≡ Held n' y = sym phase ∙ q in let e' : n ≡ n' = ap number_of same in let l = h.2 in omega arith),
+            (ap (λ p. (phased k (reached_phase p) v, (spot, None) ∷ [])) (sym phase), λ n' y q. let same : Held n x ≡ Held n' y = sym phase ∙ q in let e' : n ≡ n' = ap phase_number same in let l = h.2 in omega arith),
       )
 
   -- kind 8: the mark is free, and the state is home, or goes home unchanged
   released : (slots id k spot : ℕ) (v : View S E O) → IsAt v k spot → 0 < v.parts → (p : Phase S) → p ≢ Nothing → phase_at v.turns k ≡ p
       → (s : St) (r : Rule s) → length s.homes ≡ slots → get_elem? s.views id ≡ some v → (homes' : Homes S) → length homes' ≡ length s.homes
       → ((i : ℕ) → i ≢ spot → get_elem? homes' i ≡ get_elem? s.homes i)
-      → ((a : S) → Stands relates s.homes spot (r.log k) a p → Stands relates homes' spot (r.log k) a Nothing)
+      → ((a : S) → StateStands relates s.homes spot (r.log k) a p → StateStands relates homes' spot (r.log k) a Nothing)
       → Rule record { words = set s.words (4 * spot) 0; homes = homes'; views = set s.views id (phased k Nothing v) }
   released slots id k spot v lies live p some_p phase s r deep at homes' as_deep same stands =
       let b = begun s r id k spot v at live lies in
@@ -351,7 +351,7 @@ module _ {S E O : Type 0} (relates : S → E → O → S → Type 0) (reserved :
         named = ok.named;
         free = λ _. refl;
         held = λ e. absurd (omega arith);
-        stands = stands b.0 (subst (Stands relates s.homes spot (r.log k) b.0) m.1 ok.stands);
+        stands = stands b.0 (subst (StateStands relates s.homes spot (r.log k) b.0) m.1 ok.stands);
       }
       (inr m.0) (inl refl) (r.seat id v at).seen (inr ((λ e. omega arith), phase_here v.turns k Nothing)) (λ j ne. phase_else v.turns k Nothing j ne)
 
@@ -366,7 +366,7 @@ module _ {S E O : Type 0} (relates : S → E → O → S → Type 0) (reserved :
   )
 
   pub returns : (slots id k spot : ℕ) (v : View S E O) → IsAt v k spot → 0 < v.parts → (n : ℕ) (x : S) → phase_at v.turns k ≡ Out n x
-      → Allows Rule slots id (v, (spot, Some x) ∷ []) (4 * spot) (λ _. 0) (λ _. returned (step slots (4 * spot) 0 0 none) (v, (spot, Some x) ∷ []) 0)
+      → Allows Rule slots id (v, (spot, Some x) ∷ []) (4 * spot) (λ _. 0) (λ _. put_back (step slots (4 * spot) 0 0 none) (v, (spot, Some x) ∷ []) 0)
   returns slots id k spot v lies live n x phase s r deep at small = (
     phased k Nothing v,
     gives,

@@ -8,7 +8,7 @@ use lib.ListN.{get_elem?}
 use Rattle.turn_table.specs.declared.machine.Entry.{Entry}
 use Rattle.turn_table.specs.declared.view.Phase.{Phase}
 use Rattle.turn_table.specs.declared.view.Phase.TheVariants.{Nothing, Marked, Out, Held, Counted}
-use Rattle.turn_table.specs.Histories.{In, here, there, total, one_if, below, seen_at, phase_at, is_at, times}
+use Rattle.turn_table.specs.Histories.{IsMemberOf, here, there, total, one_if, below, seen_at, phase_at, is_entry_at, times}
 
 module _ {V : Type 0} (f : V → ℕ) where
   pub total_append : (vs ws : List V) → total f (vs ++ ws) ≡ total f vs + total f ws
@@ -37,29 +37,29 @@ module _ {V : Type 0} (f : V → ℕ) where
   total_some (v ∷ vs) h = ⊎_elim (λ z. let r = total_some vs (omega arith) in (suc r.0, r.1, r.2, r.3)) (λ p. (zero, v, refl, p)) (eq-zero-or-pos (f v))
 
 module _ {A : Type 0} where
-  pub in_left : {x : A} {xs : List A} (ys : List A) → In x xs → In x (xs ++ ys)
+  pub in_left : {x : A} {xs : List A} (ys : List A) → IsMemberOf x xs → IsMemberOf x (xs ++ ys)
   in_left ys (here e) = here e
   in_left ys (there h) = there (in_left ys h)
 
-  pub in_right : {x : A} (xs : List A) {ys : List A} → In x ys → In x (xs ++ ys)
+  pub in_right : {x : A} (xs : List A) {ys : List A} → IsMemberOf x ys → IsMemberOf x (xs ++ ys)
   in_right [] h = h
   in_right (z ∷ zs) h = there (in_right zs h)
 
-  pub in_split : {x : A} (xs : List A) {ys : List A} → In x (xs ++ ys) → In x xs ⊎ In x ys
+  pub in_split : {x : A} (xs : List A) {ys : List A} → IsMemberOf x (xs ++ ys) → IsMemberOf x xs ⊎ IsMemberOf x ys
   in_split [] h = inr h
   in_split (z ∷ zs) (here e) = inl (here e)
   in_split (z ∷ zs) (there h) = ⊎_elim (λ l. inl (there l)) (λ r. inr r) (in_split zs h)
 
-  pub in_one : {x y : A} → In x (y ∷ []) → x ≡ y
+  pub in_one : {x y : A} → IsMemberOf x (y ∷ []) → x ≡ y
   in_one (here e) = e
   in_one (there h) = elim h [ ]
 
-  pub get_in : (xs : List A) (i : ℕ) (x : A) → slice_get xs i ≡ Some x → In x xs
+  pub get_in : (xs : List A) (i : ℕ) (x : A) → slice_get xs i ≡ Some x → IsMemberOf x xs
   get_in [] i x e = absurd (let n : None ≡ Some x = e in cc)
   get_in (y ∷ ys) zero x e = here (let p : Some y ≡ Some x = e in cc)
   get_in (y ∷ ys) (suc i) x e = there (get_in ys i x e)
 
-  pub in_get : (xs : List A) (x : A) → In x xs → (i : ℕ) × (slice_get xs i ≡ Some x)
+  pub in_get : (xs : List A) (x : A) → IsMemberOf x xs → (i : ℕ) × (slice_get xs i ≡ Some x)
   in_get [] x h = elim h [ ]
   in_get (y ∷ ys) x (here e) = (zero, ap (λ (z : A). Some z) (sym e))
   in_get (y ∷ ys) x (there h) = let r = in_get ys x h in (suc r.0, r.1)
@@ -132,16 +132,16 @@ module _ {S : Type 0} where
   nothing_or (Counted x) = inr (λ e. absurd cc)
 
 module _ {E O : Type 0} where
-  pub at_here : (k i : ℕ) (e : Entry E O) → e.place ≡ k → e.number ≡ i → one_if (is_at k i e) ≡ 1
+  pub at_here : (k i : ℕ) (e : Entry E O) → e.place ≡ k → e.number ≡ i → one_if (is_entry_at k i e) ≡ 1
   at_here k i e p n = (λ j. one_if (eq-eqb e.place k p j && eq-eqb e.number i n j))
 
-  pub at_place : (k i : ℕ) (e : Entry E O) → e.place ≢ k → one_if (is_at k i e) ≡ 0
+  pub at_place : (k i : ℕ) (e : Entry E O) → e.place ≢ k → one_if (is_entry_at k i e) ≡ 0
   at_place k i e ne = ap (λ b. one_if (b && eqb e.number i)) (ne_eqb e.place k ne)
 
-  pub at_number : (k i : ℕ) (e : Entry E O) → e.place ≡ k → e.number ≢ i → one_if (is_at k i e) ≡ 0
+  pub at_number : (k i : ℕ) (e : Entry E O) → e.place ≡ k → e.number ≢ i → one_if (is_entry_at k i e) ≡ 0
   at_number k i e p ne = (λ j. one_if (eq-eqb e.place k p j && ne_eqb e.number i ne j))
 
-  pub times_in : (k i : ℕ) (es : List (Entry E O)) → 0 < times k i es → (e : Entry E O) × In e es × (e.place ≡ k) × (e.number ≡ i)
+  pub times_in : (k i : ℕ) (es : List (Entry E O)) → 0 < times k i es → (e : Entry E O) × IsMemberOf e es × (e.place ≡ k) × (e.number ≡ i)
   times_in k i [] h = absurd (omega arith)
   times_in k i (e ∷ es) h = ⊎_elim
       (λ (p : (eqb e.place k ≡ true) × (e.place ≡ k)). ⊎_elim
@@ -151,7 +151,7 @@ module _ {E O : Type 0} where
       (λ (p : (eqb e.place k ≡ false) × (e.place ≢ k)). let z = at_place k i e p.1 in more (times_in k i es (omega arith)))
       (eqb_tells e.place k)
     where
-      more : (r : Entry E O) × In r es × (r.place ≡ k) × (r.number ≡ i) → (r : Entry E O) × In r (e ∷ es) × (r.place ≡ k) × (r.number ≡ i)
+      more : (r : Entry E O) × IsMemberOf r es × (r.place ≡ k) × (r.number ≡ i) → (r : Entry E O) × IsMemberOf r (e ∷ es) × (r.place ≡ k) × (r.number ≡ i)
       more r = (r.0, there r.1, r.2, r.3)
 
 pub below_in : (i n : ℕ) → i < n → below i n ≡ 1

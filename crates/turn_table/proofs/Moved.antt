@@ -13,8 +13,8 @@ use Rattle.turn_table.specs.declared.view.View.{View}
 use Rattle.turn_table.specs.declared.view.Phase.{Phase}
 use Rattle.turn_table.specs.declared.view.Phase.TheVariants.{Nothing, Marked, Out, Held, Counted}
 use Rattle.turn_table.specs.Histories.{one_if, below, seen_at, phase_at, times}
-use Rattle.turn_table.specs.Layout.{rows_of, spot_of}
-use Rattle.turn_table.specs.Kept.{Matches, Stands, PlaceOk, SeatOk, Kept}
+use Rattle.turn_table.specs.Layout.{column_rows, spot_of}
+use Rattle.turn_table.specs.Invariant.{Matches, StateStands, PlaceOk, SeatOk, Kept}
 use Rattle.turn_table.proofs.Lists.{total_set, put, put_here, put_else, put_all, within}
 use Rattle.turn_table.proofs.Spots.{rows_hold, one_spot}
 
@@ -34,7 +34,7 @@ not_mine c id other ne (inl z) e = absurd (omega arith)
 not_mine c id other ne (inr z) e = ne (omega arith)
 
 module _ {S E O : Type 0} (relates : S → E → O → S → Type 0) where
-  pub stands_there : (homes homes' : Homes S) (spot : ℕ) (log : List (Entry E O)) (a : S) → get_elem? homes' spot ≡ get_elem? homes spot → (p : Phase S) → Stands relates homes spot log a p → Stands relates homes' spot log a p
+  pub stands_there : (homes homes' : Homes S) (spot : ℕ) (log : List (Entry E O)) (a : S) → get_elem? homes' spot ≡ get_elem? homes spot → (p : Phase S) → StateStands relates homes spot log a p → StateStands relates homes' spot log a p
   stands_there homes homes' spot log a e Nothing h = (h.0, e ∙ h.1, h.2)
   stands_there homes homes' spot log a e (Marked x) h = (e ∙ h.0, h.1)
   stands_there homes homes' spot log a e (Out n x) h = (e ∙ h.0, h.1, h.2)
@@ -60,7 +60,7 @@ module _ {S E O : Type 0} (relates : S → E → O → S → Type 0) (reserved :
   St = State (Option S) (View S E O)
 
   abbrev rows : ℕ
-  rows = rows_of (length starts)
+  rows = column_rows (length starts)
 
   -- the rest of what `moved` needs of a step on the place k by the seat id, from the view v to w
   pub record Moves (s : St) (r : Kept relates reserved starts s) (k id : ℕ) (v w : View S E O) (log' : List (Entry E O)) (cell' : ℕ × Phase S) : Type 0 where

@@ -7,25 +7,25 @@ use native.Mathlib.Decide.{ℕ_discrete}
 use Rattle.turn_table.specs.declared.machine.Entry.{Entry}
 use Rattle.turn_table.specs.declared.view.Phase.{Phase}
 use Rattle.turn_table.specs.declared.view.Phase.TheVariants.{Nothing}
-use Rattle.turn_table.specs.Histories.{In, here, there, phase_at}
+use Rattle.turn_table.specs.Histories.{IsMemberOf, here, there, phase_at}
 use Rattle.turn_table.specs.Places.{at_place, IsNumbered, OwnPartIsHistory}
 use Rattle.turn_table.proofs.Lists.{get_in, in_get, get_snoc}
 
 module _ {A : Type 0} (p : A → Bool) where
-  pub in_filter : {x : A} (xs : List A) → In x xs → p x ≡ true → In x (filter p xs)
+  pub in_filter : {x : A} (xs : List A) → IsMemberOf x xs → p x ≡ true → IsMemberOf x (filter p xs)
   in_filter {x} [] h t = elim h [ ]
-  in_filter {x} (y ∷ ys) (here e) t = subst (λ b. In x (cond b (y ∷ filter p ys) (filter p ys))) (sym (ap p (sym e) ∙ t)) (here e)
+  in_filter {x} (y ∷ ys) (here e) t = subst (λ b. IsMemberOf x (cond b (y ∷ filter p ys) (filter p ys))) (sym (ap p (sym e) ∙ t)) (here e)
   in_filter {x} (y ∷ ys) (there h) t = by (p y) (in_filter ys h t)
     where
-      by : (b : Bool) → In x (filter p ys) → In x (cond b (y ∷ filter p ys) (filter p ys))
+      by : (b : Bool) → IsMemberOf x (filter p ys) → IsMemberOf x (cond b (y ∷ filter p ys) (filter p ys))
       by true i = there i
       by false i = i
 
-  pub filter_in : {x : A} (xs : List A) → In x (filter p xs) → In x xs × (p x ≡ true)
+  pub filter_in : {x : A} (xs : List A) → IsMemberOf x (filter p xs) → IsMemberOf x xs × (p x ≡ true)
   filter_in {x} [] h = elim h [ ]
   filter_in {x} (y ∷ ys) h = by (filter_in ys) (p y) refl h
     where
-      by : (In x (filter p ys) → In x ys × (p x ≡ true)) → (b : Bool) → p y ≡ b → In x (cond b (y ∷ filter p ys) (filter p ys)) → In x (y ∷ ys) × (p x ≡ true)
+      by : (IsMemberOf x (filter p ys) → IsMemberOf x ys × (p x ≡ true)) → (b : Bool) → p y ≡ b → IsMemberOf x (cond b (y ∷ filter p ys) (filter p ys)) → IsMemberOf x (y ∷ ys) × (p x ≡ true)
       by go true t (here e) = (here e, ap p e ∙ t)
       by go true t (there i) = let r = go i in (there r.0, r.1)
       by go false t i = let r = go i in (there r.0, r.1)

@@ -12,9 +12,9 @@ use Rattle.atomic_table.proofs.Lists.{at_set, set_here, set_else, at_longer}
 use Rattle.turn_table.specs.declared.machine.Entry.{Entry}
 use Rattle.turn_table.specs.declared.view.View.{View}
 use Rattle.turn_table.specs.declared.view.Phase.TheVariants.{Nothing}
-use Rattle.turn_table.specs.Histories.{one_if, phase_at, is_at, times, Leaves, IsHistory}
-use Rattle.turn_table.specs.Layout.{rows_of, spot_of}
-use Rattle.turn_table.specs.Kept.{Stands, SeatOk, Kept, first_view, spent_view}
+use Rattle.turn_table.specs.Histories.{one_if, phase_at, is_entry_at, times, Leaves, IsHistory}
+use Rattle.turn_table.specs.Layout.{column_rows, spot_of}
+use Rattle.turn_table.specs.Invariant.{StateStands, SeatOk, Kept, first_view, spent_view}
 use Rattle.turn_table.specs.Steps.{Sat, cut_left, cut_right, glued, surveyed, WasTaken}
 use Rattle.turn_table.proofs.Lists.{total_set, total_append, total_alone, in_split, get_there, seen_append, below_out, within, at_end}
 use Rattle.turn_table.proofs.Spots.{rows_hold}
@@ -38,8 +38,8 @@ aside_out (x ∷ xs) zero h = absurd (omega arith)
 aside_out (x ∷ xs) (suc k) h = aside_out xs k (omega arith)
 
 module _ {S E O : Type 0} (relates : S → E → O → S → Type 0) (reserved : E → Type 0) where
-  pub opens : (starts : List S) (ws : List ℕ) (xs : List (Option S)) → length ws ≡ 3840 * rows_of (length starts) → ((i : ℕ) → get_or ws i 0 ≡ 0) → length xs ≡ 960 * rows_of (length starts)
-      → ((k : ℕ) → k < 960 * rows_of (length starts) → get_elem? xs (spot_of (rows_of (length starts)) k) ≡ some (get_or (map (λ (x : S). Some x) starts) k None))
+  pub opens : (starts : List S) (ws : List ℕ) (xs : List (Option S)) → length ws ≡ 3840 * column_rows (length starts) → ((i : ℕ) → get_or ws i 0 ≡ 0) → length xs ≡ 960 * column_rows (length starts)
+      → ((k : ℕ) → k < 960 * column_rows (length starts) → get_elem? xs (spot_of (column_rows (length starts)) k) ≡ some (get_or (map (λ (x : S). Some x) starts) k None))
       → Kept relates reserved starts (opening ws xs (first_view {E = E} {O = O} starts))
   opens starts ws xs wide clear deep laid = record {
     log = λ k. [];
@@ -47,20 +47,20 @@ module _ {S E O : Type 0} (relates : S → E → O → S → Type 0) (reserved :
     wide = let l = long in omega arith;
     long = long ∙ deep;
     place = λ k a start. record {
-      mark = clear (4 * spot_of (rows_of (length starts)) k);
-      count = clear (4 * spot_of (rows_of (length starts)) k + 1);
+      mark = clear (4 * spot_of (column_rows (length starts)) k);
+      count = clear (4 * spot_of (column_rows (length starts)) k + 1);
       low = omega arith;
       named = λ i e there. absurd (let n : None ≡ Some e = there in cc);
       free = λ _. refl;
       held = λ h. absurd (omega arith);
       stands = (
         a,
-        home_there xs (spot_of (rows_of (length starts)) k) (Some a)
+        home_there xs (spot_of (column_rows (length starts)) k) (Some a)
             (laid k (let w = slice_get_within starts k a start in let h = rows_hold (length starts) in omega arith) ∙ ap some (aside_in starts k a start)),
         refl,
       );
     };
-    spare = λ k past low. home_there xs (spot_of (rows_of (length starts)) k) None (laid k (let l = long in omega arith) ∙ ap some (aside_out starts k past));
+    spare = λ k past low. home_there xs (spot_of (column_rows (length starts)) k) None (laid k (let l = long in omega arith) ∙ ap some (aside_out starts k past));
     beyond = λ k h. refl;
     seat = first;
     owned = λ k h. absurd (omega arith);
@@ -164,7 +164,7 @@ module _ {S E O : Type 0} (relates : S → E → O → S → Type 0) (reserved :
     whole = let t = total_set (λ (u : View S E O). u.parts) s.views id v both at in let t' = total_set (λ (u : View S E O). u.parts) first other w spent_view at' in let h = r.whole in omega arith;
     one = let t = total_set (λ (u : View S E O). one_if u.main) s.views id v both at in let t' = total_set (λ (u : View S E O). one_if u.main) first other w spent_view at' in let h = r.one in let q : one_if w.main ≡ 0 = ap one_if side in omega arith;
     once = λ k i. let t = total_set (λ (u : View S E O). times k i u.entries) s.views id v both at in let t' = total_set (λ (u : View S E O). times k i u.entries) first other w spent_view at' in
-        let a = total_append (λ (e : Entry E O). one_if (is_at k i e)) v.entries w.entries in let h = r.once k i in omega arith;
+        let a = total_append (λ (e : Entry E O). one_if (is_entry_at k i e)) v.entries w.entries in let h = r.once k i in omega arith;
   }
     where
       both : View S E O
@@ -255,10 +255,10 @@ module _ {S E O : Type 0} (relates : S → E → O → S → Type 0) (reserved :
 
   -- the place k at the end: its history stands in the last hand's list, and its state is home
   pub closes : (s : St) (r : Rule s) (id : ℕ) (v : View S E O) → get_elem? s.views id ≡ some v → v.parts ≡ 1024 → ((k : ℕ) → phase_at v.turns k ≡ Nothing) → (k : ℕ) (a : S) → slice_get starts k ≡ Some a
-      → (x : S) × (get_elem? s.homes (spot_of (rows_of (length starts)) k) ≡ some (some (Some x))) × Leaves relates a (r.log k) x × IsHistory v.entries k (r.log k)
+      → (x : S) × (get_elem? s.homes (spot_of (column_rows (length starts)) k) ≡ some (some (Some x))) × Leaves relates a (r.log k) x × IsHistory v.entries k (r.log k)
   closes s r id v at all idle k a start =
       let ok = r.place k a start in
-      let h = subst (Stands relates s.homes (spot_of (rows_of (length starts)) k) (r.log k) a) (ok.free (nobody s r id v at all idle k)) ok.stands in (
+      let h = subst (StateStands relates s.homes (spot_of (column_rows (length starts)) k) (r.log k) a) (ok.free (nobody s r id v at all idle k)) ok.stands in (
         h.0,
         h.1,
         h.2,

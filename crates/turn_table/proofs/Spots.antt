@@ -2,10 +2,10 @@
 use Rattle.std.proofs.Common.{◌≡◌, ℕ, ◌+◌, ◌*◌, ◌/◌, ◌%◌, ◌^◌, ◌<◌, ◌≤◌, sym, ap, ◌∙◌, arith}
 use Rattle.std.proofs.lemmas.Nat.{div-mul-add, mod-mul-add, div-add-mod'}
 use Rattle.std.proofs.Math.Nat.{mod-lt, mul-le-mul_right, div-lt_iff_lt-mul}
-use Rattle.turn_table.specs.Layout.{rows_of, spot_of, place_at}
+use Rattle.turn_table.specs.Layout.{column_rows, spot_of, place_at}
 
 -- the columns have room for all places
-pub rows_hold : (n : ℕ) → n ≤ 960 * rows_of n
+pub rows_hold : (n : ℕ) → n ≤ 960 * column_rows n
 rows_hold n = omega arith
 
 pub spot_low : (rows k : ℕ) → k < 960 * rows → spot_of rows k < 960 * rows

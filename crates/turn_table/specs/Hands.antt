@@ -6,8 +6,8 @@ use Rattle.turn_table.specs.declared.view.Phase.TheVariants.{Nothing, Held}
 use Rattle.turn_table.specs.declared.hands.Turns.{Turns}
 use Rattle.turn_table.specs.declared.hands.Hand.{Hand}
 use Rattle.turn_table.specs.declared.hands.Turn.{Turn}
-use Rattle.turn_table.specs.Histories.{In, seen_at, phase_at, Leaves, IsHistory}
-use Rattle.turn_table.specs.Steps.{entry, WasTaken, Given, AreKnown}
+use Rattle.turn_table.specs.Histories.{IsMemberOf, seen_at, phase_at, Leaves, IsHistory}
+use Rattle.turn_table.specs.Steps.{entry, WasTaken, GivenView, AreKnown}
 
 module _ {M S E O : Type 0} {g : _} where
   -- all that a hand knows
@@ -73,11 +73,11 @@ module _ {M S E O : Type 0} {g : _} where
 
   -- no mark but that of the place k was tried, however often
   abbrev pub TriedOnly : ℕ → Hand M S E O g → Hand M S E O g → Type 0
-  TriedOnly k h h' = (ts : List (ℕ × ℕ)) × (tries h' ≡ ts ++ tries h) × ((t : ℕ × ℕ) → In t ts → t.0 ≡ k)
+  TriedOnly k h h' = (ts : List (ℕ × ℕ)) × (tries h' ≡ ts ++ tries h) × ((t : ℕ × ℕ) → IsMemberOf t ts → t.0 ≡ k)
 
   -- the mark of the place k alone was tried, and at the last it was free
   abbrev pub TriedUntilFree : ℕ → Hand M S E O g → Hand M S E O g → Type 0
-  TriedUntilFree k h h' = (ts : List (ℕ × ℕ)) × (tries h' ≡ (k, 0) ∷ ts ++ tries h) × ((t : ℕ × ℕ) → In t ts → t.0 ≡ k)
+  TriedUntilFree k h h' = (ts : List (ℕ × ℕ)) × (tries h' ≡ (k, 0) ∷ ts ++ tries h) × ((t : ℕ × ℕ) → IsMemberOf t ts → t.0 ≡ k)
 
   -- the place's mark, tried once, was free, and its front n isn't the last
   abbrev pub FoundFree : ℕ → ℕ → Hand M S E O g → Hand M S E O g → Type 0
@@ -112,7 +112,7 @@ module _ {M S E O : Type 0} {g : _} where
 
   -- the state x, given at the front n of the place k, is what the entries before it leave
   abbrev pub IsGiven : (S → E → O → S → Type 0) → (E → Type 0) → Hand M S E O g → ℕ → ℕ → S → Type 0
-  IsGiven relates reserved h k n x = Given relates reserved k (view h) n x
+  IsGiven relates reserved h k n x = GivenView relates reserved k (view h) n x
 
   -- no turn was gained, since another hand had it or the numbers of the place are spent
   abbrev pub IsBusy : (S → E → O → S → Type 0) → (E → Type 0) → ℕ → ℕ → Hand M S E O g → Hand M S E O g → Type 0
@@ -149,7 +149,7 @@ module _ {M S E O : Type 0} {g : _} where
 
   -- each entry stands at a place of the table
   abbrev pub AreInRange : Hand M S E O g → Type 0
-  AreInRange h = (e : Entry E O) → In e (entries h) → e.place < length (starts h)
+  AreInRange h = (e : Entry E O) → IsMemberOf e (entries h) → e.place < length (starts h)
 
   -- of each place, the hand's list has the whole history, and the state is what it leaves
   abbrev pub IsClosed : (S → E → O → S → Type 0) → Hand M S E O g → List S → Type 0

@@ -5,9 +5,9 @@ use Rattle.turn_table.specs.declared.view.Phase.{Phase}
 use Rattle.turn_table.specs.declared.view.Phase.TheVariants.{Nothing}
 
 -- x is an element of the list
-pub data In {A : Type 0} (x : A) : List A → Type 0 where
-  here : {y : A} {ys : List A} → x ≡ y → In x (y ∷ ys)
-  there : {y : A} {ys : List A} → In x ys → In x (y ∷ ys)
+pub data IsMemberOf {A : Type 0} (x : A) : List A → Type 0 where
+  here : {y : A} {ys : List A} → x ≡ y → IsMemberOf x (y ∷ ys)
+  there : {y : A} {ys : List A} → IsMemberOf x ys → IsMemberOf x (y ∷ ys)
 
 -- f of each, added up
 abbrev pub total : {V : Type 0} → (V → ℕ) → List V → ℕ
@@ -33,12 +33,12 @@ phase_at (t ∷ ts) k = cond (eqb t.0 k) t.1 (phase_at ts k)
 
 module _ {E O : Type 0} where
   -- the entry stands for the event with this number at this place
-  abbrev pub is_at : ℕ → ℕ → Entry E O → Bool
-  is_at k i e = eqb e.place k && eqb e.number i
+  abbrev pub is_entry_at : ℕ → ℕ → Entry E O → Bool
+  is_entry_at k i e = eqb e.place k && eqb e.number i
 
   -- how often the place and the number stand in the list
   abbrev pub times : ℕ → ℕ → List (Entry E O) → ℕ
-  times k i es = total (λ e. one_if (is_at k i e)) es
+  times k i es = total (λ e. one_if (is_entry_at k i e)) es
 
   -- the entries are of the place k, and each has its position as its number
   abbrev pub Named : ℕ → List (Entry E O) → Type 0
@@ -47,8 +47,8 @@ module _ {E O : Type 0} where
 -- h is the history of the place k, and it stands in the list: each entry of the place is in h at its number, each of h is in the list, and each number below the length stands once
 pub record IsHistory {E O : Type 0} (es : List (Entry E O)) (k : ℕ) (h : List (Entry E O)) : Type 0 where
   pub named : Named k h
-  pub own : (e : Entry E O) → In e es → e.place ≡ k → slice_get h e.number ≡ Some e
-  pub all : (i : ℕ) (e : Entry E O) → slice_get h i ≡ Some e → In e es
+  pub own : (e : Entry E O) → IsMemberOf e es → e.place ≡ k → slice_get h e.number ≡ Some e
+  pub all : (i : ℕ) (e : Entry E O) → slice_get h i ≡ Some e → IsMemberOf e es
   pub once : (i : ℕ) → times k i es ≡ below i (length h)
 
 module _ {S E O : Type 0} (relates : S → E → O → S → Type 0) where

@@ -2,8 +2,8 @@
 use Rattle.std.specs.Prelude.{ℕ, ◌+◌, ◌*◌, ◌/◌, ◌%◌}
 
 -- how many spots a column has
-abbrev pub rows_of : ℕ → ℕ
-rows_of places = (places + 1919) / 1920 * 2
+abbrev pub column_rows : ℕ → ℕ
+column_rows places = (places + 1919) / 1920 * 2
 
 -- the spot of the place k: its column is the remainder, and its row there the quotient
 abbrev pub spot_of : ℕ → ℕ → ℕ

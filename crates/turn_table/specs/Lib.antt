@@ -1,8 +1,8 @@
 pub mod Histories
 pub mod Layout
-pub mod Kept
+pub mod Invariant
 pub mod Steps
 pub mod Hands
 pub mod Places
-pub mod Lending
+pub mod StateBorrows
 pub mod Room

@@ -8,9 +8,9 @@ use Rattle.turn_table.specs.declared.machine.Entry.{Entry}
 use Rattle.turn_table.specs.declared.view.View.{View}
 use Rattle.turn_table.specs.declared.view.Phase.{Phase}
 use Rattle.turn_table.specs.declared.view.Phase.TheVariants.{Nothing, Marked, Out, Held, Counted}
-use Rattle.turn_table.specs.Histories.{In, seen_at, phase_at, Named, Leaves, IsHistory}
-use Rattle.turn_table.specs.Layout.{rows_of, spot_of}
-use Rattle.turn_table.specs.Kept.{Kept}
+use Rattle.turn_table.specs.Histories.{IsMemberOf, seen_at, phase_at, Named, Leaves, IsHistory}
+use Rattle.turn_table.specs.Layout.{column_rows, spot_of}
+use Rattle.turn_table.specs.Invariant.{Kept}
 
 abbrev pub Sat : Type 0 → Type 0 → Type 0 → Type 0
 Sat S E O = Me (Option S) (View S E O)
@@ -22,15 +22,15 @@ abbrev pub entry : {E O : Type 0} → ℕ → ℕ → E → O → Entry E O
 entry k n event outcome = record { place = k; number = n; event = event; outcome = outcome }
 
 module _ {S : Type 0} where
-  abbrev pub number_of : Phase S → ℕ
-  number_of (Out n x) = n
-  number_of (Held n x) = n
-  number_of _ = 0
+  abbrev pub phase_number : Phase S → ℕ
+  phase_number (Out n x) = n
+  phase_number (Held n x) = n
+  phase_number _ = 0
 
   -- the count was read
-  abbrev pub with_count : ℕ → Phase S → Phase S
-  with_count n (Marked x) = Out n x
-  with_count n p = p
+  abbrev pub with_read_count : ℕ → Phase S → Phase S
+  with_read_count n (Marked x) = Out n x
+  with_read_count n p = p
 
   -- the empty slot went home
   abbrev pub emptied_phase : Phase S → Phase S
@@ -50,14 +50,14 @@ module _ {S : Type 0} where
 module _ {S E O : Type 0} where
   -- where the place k lies, by the start states that the hand knows
   abbrev pub spot_in : View S E O → ℕ → ℕ
-  spot_in v k = spot_of (rows_of (length v.starts)) k
+  spot_in v k = spot_of (column_rows (length v.starts)) k
 
   -- the word is the mark, or the count, of the place k of the table
   abbrev pub IsMark : View S E O → ℕ → ℕ → Type 0
   IsMark v k word = (k < length v.starts) × (word ≡ 4 * spot_in v k)
 
-  abbrev pub IsCount : View S E O → ℕ → ℕ → Type 0
-  IsCount v k word = (k < length v.starts) × (word ≡ 4 * spot_in v k + 1)
+  abbrev pub HasCount : View S E O → ℕ → ℕ → Type 0
+  HasCount v k word = (k < length v.starts) × (word ≡ 4 * spot_in v k + 1)
 
   abbrev pub noted : ℕ → ℕ → View S E O → View S E O
   noted k n v = record v { seen = (k, n) ∷ v.seen }
@@ -97,21 +97,21 @@ pub record WasTaken {S E O : Type 0} (relates : S → E → O → S → Type 0) 
 
 -- The state x is what the place's history leaves. It has n entries, the hand's own of this place among them, at their numbers; and, for the main hand, each of its reserved entries is the hand's own,
 -- for a hand with all parts each of its entries
-pub record Given {S E O : Type 0} (relates : S → E → O → S → Type 0) (reserved : E → Type 0) (k : ℕ) (v : View S E O) (n : ℕ) (x : S) : Type 0 where
+pub record GivenView {S E O : Type 0} (relates : S → E → O → S → Type 0) (reserved : E → Type 0) (k : ℕ) (v : View S E O) (n : ℕ) (x : S) : Type 0 where
   pub history : List (Entry E O)
   pub long : length history ≡ n
   pub start : S
   pub starts : slice_get v.starts k ≡ Some start
   pub leaves : Leaves relates start history x
   pub named : Named k history
-  pub own : (e : Entry E O) → In e v.entries → e.place ≡ k → slice_get history e.number ≡ Some e
-  pub above : (e : Entry E O) → In e v.entries → e.place ≡ k → e.number < n
-  pub main : v.main ≡ true → (i : ℕ) (e : Entry E O) → slice_get history i ≡ Some e → reserved e.event → In e v.entries
-  pub whole : v.parts ≡ 1024 → (i : ℕ) (e : Entry E O) → slice_get history i ≡ Some e → In e v.entries
+  pub own : (e : Entry E O) → IsMemberOf e v.entries → e.place ≡ k → slice_get history e.number ≡ Some e
+  pub above : (e : Entry E O) → IsMemberOf e v.entries → e.place ≡ k → e.number < n
+  pub main : v.main ≡ true → (i : ℕ) (e : Entry E O) → slice_get history i ≡ Some e → reserved e.event → IsMemberOf e v.entries
+  pub whole : v.parts ≡ 1024 → (i : ℕ) (e : Entry E O) → slice_get history i ≡ Some e → IsMemberOf e v.entries
 
 -- each entry of this knowledge stands at a place of the table, and of each place its list has the whole history
 pub record AreKnown {S E O : Type 0} (v : View S E O) : Type 0 where
-  pub range : (e : Entry E O) → In e v.entries → e.place < length v.starts
+  pub range : (e : Entry E O) → IsMemberOf e v.entries → e.place < length v.starts
   pub histories : (k : ℕ) (a : S) → slice_get v.starts k ≡ Some a → (history : List (Entry E O)) × IsHistory v.entries k history
 
 module _ {S E O : Type 0} where
@@ -125,16 +125,16 @@ module _ {S E O : Type 0} where
       MatchBool (eqb e 0) ((x : S) × (m' ≡ (phased k (Marked x) (tried k 0 m.0), (spot_in m.0 k, Some x) ∷ m.1))) ((e ≡ 1) × (m' ≡ (tried k 1 m.0, m.1)) × WasTaken relates reserved k m.0)
 
   abbrev pub looked : At S → Sat S E O → ℕ → Sat S E O → Type 0
-  looked st m e m' = (k : ℕ) → IsCount m.0 k st.word → (m' ≡ (noted k e m.0, m.1)) × (seen_at m.0.seen k ≤ e) × (e ≤ 2 ^ 56)
+  looked st m e m' = (k : ℕ) → HasCount m.0 k st.word → (m' ≡ (noted k e m.0, m.1)) × (seen_at m.0.seen k ≤ e) × (e ≤ 2 ^ 56)
 
-  abbrev pub counted : (S → E → O → S → Type 0) → (E → Type 0) → At S → Sat S E O → ℕ → Sat S E O → Type 0
-  counted relates reserved st m e m' = (k : ℕ) → IsCount m.0 k st.word →
-      (m' ≡ (phased k (with_count e (phase_at m.0.turns k)) (noted k e m.0), m.1)) × (seen_at m.0.seen k ≤ e) × (e ≤ 2 ^ 56)
-      × ((x : S) → phase_at m.0.turns k ≡ Marked x → Given relates reserved k m.0 e x)
+  abbrev pub count_read : (S → E → O → S → Type 0) → (E → Type 0) → At S → Sat S E O → ℕ → Sat S E O → Type 0
+  count_read relates reserved st m e m' = (k : ℕ) → HasCount m.0 k st.word →
+      (m' ≡ (phased k (with_read_count e (phase_at m.0.turns k)) (noted k e m.0), m.1)) × (seen_at m.0.seen k ≤ e) × (e ≤ 2 ^ 56)
+      × ((x : S) → phase_at m.0.turns k ≡ Marked x → GivenView relates reserved k m.0 e x)
 
   -- the state goes home unchanged, and the mark is free
-  abbrev pub returned : At S → Sat S E O → ℕ → Sat S E O → Type 0
-  returned st m e m' = (k : ℕ) → IsMark m.0 k st.word → m' ≡ (phased k Nothing m.0, rest m.1)
+  abbrev pub put_back : At S → Sat S E O → ℕ → Sat S E O → Type 0
+  put_back st m e m' = (k : ℕ) → IsMark m.0 k st.word → m' ≡ (phased k Nothing m.0, rest m.1)
 
   abbrev pub emptied : At S → Sat S E O → ℕ → Sat S E O → Type 0
   emptied st m e m' = (k : ℕ) → IsMark m.0 k st.word → m' ≡ (phased k (emptied_phase (phase_at m.0.turns k)) m.0, rest m.1)
@@ -145,9 +145,9 @@ module _ {S E O : Type 0} where
 
   -- the new state goes home, the count is raised, and the entry is this hand's
   abbrev pub finished : E → O → At S → Sat S E O → ℕ → Sat S E O → Type 0
-  finished event outcome st m e m' = (k : ℕ) → IsCount m.0 k st.word →
-      (m' ≡ (phased k (counted_phase m.1) (noted k e (gained (entry k (number_of (phase_at m.0.turns k)) event outcome) m.0)), rest m.1))
-      × (seen_at m.0.seen k ≤ number_of (phase_at m.0.turns k))
+  finished event outcome st m e m' = (k : ℕ) → HasCount m.0 k st.word →
+      (m' ≡ (phased k (counted_phase m.1) (noted k e (gained (entry k (phase_number (phase_at m.0.turns k)) event outcome) m.0)), rest m.1))
+      × (seen_at m.0.seen k ≤ phase_number (phase_at m.0.turns k))
 
   abbrev pub freed : At S → Sat S E O → ℕ → Sat S E O → Type 0
   freed st m e m' = (k : ℕ) → IsMark m.0 k st.word → m' ≡ (phased k Nothing m.0, m.1)

@@ -1,6 +1,6 @@
 //! The table, the hands that step on it, and a turn.
 ghost use Rattle.std.specs.Prelude.{◌≡◌, ◌*◌, ◌^◌, ◌<◌, ◌≤◌, [], length};
-ghost use Rattle.turn_table.specs.Layout.{rows_of};
+ghost use Rattle.turn_table.specs.Layout.{column_rows};
 
 use crate::cased::{Cased, Slot};
 use crate::machine::Machine;
@@ -29,7 +29,7 @@ pub struct Turns<M: Machine> {
     ghost wide: { table.shared.table_id.words ≡ 4 * table.shared.table_id.slots },
     ghost deep: { table.shared.table_id.slots ≡ 960 * rows },
     ghost few: { (0 < rows) × (rows ≤ 2 ^ 50) },
-    ghost counts: { (places ≡ length table.shared.key.value.items) × (rows ≡ rows_of places) },
+    ghost counts: { (places ≡ length table.shared.key.value.items) × (rows ≡ column_rows places) },
     ghost roomy: { places ≤ room.table.shared.key },
 }
 
@@ -43,7 +43,7 @@ pub struct Hand<M: Machine> {
     pub(crate) seat: Seat<Slot<M::State>, View<M::State, M::Event, M::Outcome>>,
     ghost empty: { seat.me.1 ≡ [] },
     ghost live: { 0 < seat.me.0.parts },
-    ghost long: { seat.table_id.slots ≡ 960 * rows_of (length seat.me.0.starts) },
+    ghost long: { seat.table_id.slots ≡ 960 * column_rows (length seat.me.0.starts) },
 }
 
 /// The right to change the state of one place, which no other hand has meanwhile. It has to be put back.

@@ -7,12 +7,12 @@
 //! A spot has 32 bytes of words and 32 of slots, and the rows are an even number. So two rows of a column share a cache line of 64 bytes, where the
 //! memory begins at a multiple of 64 bytes or 16 bytes behind one, as an allocator gives large blocks, and no two columns do.
 ghost use Rattle.std.specs.Prelude.{◌≡◌, ◌*◌, ◌^◌, ◌<◌, ◌≤◌};
-ghost use Rattle.turn_table.specs.Layout.{rows_of, spot_of, place_at};
+ghost use Rattle.turn_table.specs.Layout.{column_rows, spot_of, place_at};
 
 /// How many rows there are for this many places.
 pub(crate) fn row_count(places: usize) -> usize
     requires { places < 2 ^ 59 }
-    ensures { result ≡ rows_of places }
+    ensures { result ≡ column_rows places }
 {
     (places + 1919) / 1920 * 2
 }

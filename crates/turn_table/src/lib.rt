@@ -8,7 +8,7 @@
 //! - `hands`: the table, the hands and a turn.
 //! - `steps`, `wait`, `turn`: a turn is taken, changed and put back.
 //! - `life`: a table begins and ends, and hands are split and joined.
-//! - `view`, `plays`: what the proofs know between two atomic steps. The rule that then holds is `specs/Kept.antt`.
+//! - `view`, `plays`: what the proofs know between two atomic steps. The rule that then holds is `specs/Invariant.antt`.
 //! - `layout`: where the places lie, so that those of one thread lie side by side.
 //! - `cased`, `room`: how the states are kept, so that a turn moves one word, and the close takes no memory.
 //! - `threads`: that tables may be shared, and hands moved, among threads.

@@ -1,6 +1,6 @@
 //! The kinds of atomic step that a hand makes, each with what it tells: `specs/Steps.antt`.
-ghost use Rattle.turn_table.specs.Kept.{spent_view};
-ghost use Rattle.turn_table.specs.Steps.{marked, looked, counted, returned, emptied, reached, finished, freed, surveyed, cut_left, cut_right, glued};
+ghost use Rattle.turn_table.specs.Invariant.{spent_view};
+ghost use Rattle.turn_table.specs.Steps.{marked, looked, count_read, put_back, emptied, reached, finished, freed, surveyed, cut_left, cut_right, glued};
 
 use crate::cased::Slot;
 use crate::machine::{Machine, Said};
@@ -30,14 +30,14 @@ pub(crate) struct Count<M> {
 }
 
 impl<M: Machine> Play<Slot<M::State>, View<M::State, M::Event, M::Outcome>> for Count<M> {
-    ghost then = { counted M.relates M.reserved };
+    ghost then = { count_read M.relates M.reserved };
 }
 
 /// The store of 0 into the mark of a place whose numbers are spent.
 pub(crate) struct Return;
 
 impl<S, E, O> Play<Slot<S>, View<S, E, O>> for Return {
-    ghost then = { returned };
+    ghost then = { put_back };
 }
 
 /// The load at which the slot goes home, emptied.

@@ -57,7 +57,7 @@ impl<M: Machine> Turns<M> {
     }
 
     /// Puts a turn back, by which its event is made. It returns the event's number at its place.
-    /// That no other hand has an entry with that place and number stands in the rule (`specs/Kept.antt`, `once`), and is
+    /// That no other hand has an entry with that place and number stands in the rule (`specs/Invariant.antt`, `once`), and is
     /// told at `close`.
     pub fn put<X: Said<M>>(&self, hand: &mut Hand<M>, turn: Turn<M>) -> u64
         requires table { IsHandOf self.now hand.old }

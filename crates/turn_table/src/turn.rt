@@ -7,7 +7,7 @@ use crate::machine::Machine;
 
 impl<M: Machine> Turn<M> {
     ghost use Rattle.turn_table.specs.Hands.{state_of, place_of, front_of};
-    ghost use Rattle.turn_table.specs.Lending.{LendsState};
+    ghost use Rattle.turn_table.specs.StateBorrows.{LendsState};
 
     /// The state of the place, to read and to change. What it is when the turn is put is what the place then has.
     pub fn state(&mut self) -> &mut M::State

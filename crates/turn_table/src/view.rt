@@ -38,7 +38,7 @@ pub struct View<S, E, O> {
     pub turns: LinkedList<(usize, Phase<S>)>,
 }
 
-/// The rule that holds between any two steps: `specs/Kept.antt`.
+/// The rule that holds between any two steps: `specs/Invariant.antt`.
 pub struct Rule<M> {
     of: PhantomData<M>,
 }
@@ -48,7 +48,7 @@ impl<M: Machine> TableRule<
     View<M::State, M::Event, M::Outcome>,
     Snapshot<Vec<M::State>>,
 > for Rule<M> {
-    ghost use Rattle.turn_table.specs.Kept.{Kept, first_view};
+    ghost use Rattle.turn_table.specs.Invariant.{Kept, first_view};
 
     ghost holds = { λ key. Kept M.relates M.reserved key.value.items };
 

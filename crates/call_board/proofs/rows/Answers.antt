@@ -3,7 +3,7 @@ use Rattle.std.proofs.Common.{◌≡◌, ap, List, [], ◌∷◌, true, false, c
 use Rattle.std.specs.Prelude.{codes}
 use Rattle.relay_outside.specs.declared.address.Family.TheVariants.{V6}
 use Rattle.port_pool.specs.Ports.{pair_count}
-use Rattle.ng_command.specs.Said as said
+use Rattle.ng_command.specs.Meanings as said
 use Rattle.ng_reply.specs.declared.code.ErrorCode.TheVariants.{E3, E9, E10, E13, E14, E15, E16, E17}
 use Rattle.port_pool.specs.declared.holder.Side.TheVariants.{B}
 use Rattle.offer_answer.specs.Rounds.{Round}
@@ -11,7 +11,7 @@ use Rattle.offer_answer.specs.Plan as plan
 use Rattle.call_board.specs.Acts as act
 use Rattle.call_board.specs.Acts.{Call, Given, Control, Tick, Stop, BoardEntry}
 use Rattle.call_board.specs.Calls.{rounds}
-use Rattle.call_board.specs.Pairs.{free_in, is_short, new_keys}
+use Rattle.call_board.specs.Pairs.{free_in, is_short, drawn_keys_from}
 use Rattle.call_board.specs.Replies.{Pong, Done, Warned, Reported, Listed, Fault, reply_datagram}
 use Rattle.call_board.specs.Answers.{failing, telling, answering_command, answering_asked, answering_unless, delete_of, offer_planned, offer_leased, leased_pairs, offering}
 use Rattle.call_board.specs.Fits.{FitsAt, named_live}
@@ -121,7 +121,7 @@ key_fault before = refl
 -- the keys of an offer are numbered from the count of those drawn before
 numbered_on : (before : List Round)
     → offer_leased config (begins_with_keys ∷ []) (record given { draws = (3 ∷ []) ∷ [] }) asked c2 true before []
-    ≡ offering config before (record { of = c2; begins = true; ask = asked; legs = []; keys = new_keys 2 ((3 ∷ []) ∷ []) (plan.demand before asked).keys; dropped = (plan.demand before asked).dropped })
+    ≡ offering config before (record { of = c2; begins = true; ask = asked; legs = []; keys = drawn_keys_from 2 ((3 ∷ []) ∷ []) (plan.demand before asked).keys; dropped = (plan.demand before asked).dropped })
 numbered_on before = refl
 
 -- a leg gets a pair of its own family alone

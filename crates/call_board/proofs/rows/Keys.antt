@@ -7,7 +7,7 @@ use Rattle.offer_answer.specs.Rounds.{KeyPlace, drawn_for}
 use Rattle.call_board.specs.Acts as act
 use Rattle.call_board.specs.Acts.{BoardEntry}
 use Rattle.call_board.specs.Calls.{rounds}
-use Rattle.call_board.specs.Pairs.{drawn, new_keys}
+use Rattle.call_board.specs.Pairs.{drawn, drawn_keys_from}
 use Rattle.call_board.proofs.rows.Histories.{did, history_of, c1, c2, key, lease, offer, deletes}
 
 -- three words that stand for keys
@@ -37,10 +37,10 @@ used_up = refl
 abbrev place : (section : ℕ) → KeyPlace
 place section = record { section = section; side = B; suite = Tag80 }
 
-numbered_on : new_keys (length (drawn (history_of (two_drawn ∷ [])))) (third_key ∷ first_key ∷ []) (place 0 ∷ place 1 ∷ []) ≡ key 2 0 B third_key ∷ key 3 1 B first_key ∷ []
+numbered_on : drawn_keys_from (length (drawn (history_of (two_drawn ∷ [])))) (third_key ∷ first_key ∷ []) (place 0 ∷ place 1 ∷ []) ≡ key 2 0 B third_key ∷ key 3 1 B first_key ∷ []
 numbered_on = refl
 
-numbered_after_undone : new_keys (length (drawn (history_of (did (act.Undone E16 [] (first_key ∷ [])) ∷ [])))) (second_key ∷ []) (place 0 ∷ []) ≡ key 1 0 B second_key ∷ []
+numbered_after_undone : drawn_keys_from (length (drawn (history_of (did (act.Undone E16 [] (first_key ∷ [])) ∷ [])))) (second_key ∷ []) (place 0 ∷ []) ≡ key 1 0 B second_key ∷ []
 numbered_after_undone = refl
 
 -- the keys of one call, and of no other

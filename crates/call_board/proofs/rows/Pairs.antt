@@ -11,7 +11,7 @@ use Rattle.port_pool.specs.declared.signal.SectionSignal.TheVariants.{Reject}
 use Rattle.offer_answer.specs.Rounds.{NewLeg}
 use Rattle.call_board.specs.Acts as act
 use Rattle.call_board.specs.Acts.{BoardEntry}
-use Rattle.call_board.specs.Pairs.{Once, held, closed, free, free_in, fronts, is_short, lease_of, new_legs, next_generation}
+use Rattle.call_board.specs.Pairs.{Once, held, closed, free, free_in, fronts, is_short, next_lease, leased_new_legs, next_generation}
 use Rattle.call_board.proofs.rows.Histories.{config, did, tick, stop, history_of, c1, c2, c3, leg, begins, offers, answers, deletes, lease}
 
 -- Leases, from the lowest pair on.
@@ -198,8 +198,8 @@ no_address_of_version_6 : free_in config [] V6 ≡ []
 unfolding pair_count
 no_address_of_version_6 = refl
 
-legs_of_offer : new_legs (history_of (first_two ∷ deletes c1 ∷ [])) c2 (2 ∷ 0 ∷ []) (wants 0 V4 ∷ wants 5 V4 ∷ []) ≡ leg c2 0 B 2 1 ∷ leg c2 5 B 0 2 ∷ []
+legs_of_offer : leased_new_legs (history_of (first_two ∷ deletes c1 ∷ [])) c2 (2 ∷ 0 ∷ []) (wants 0 V4 ∷ wants 5 V4 ∷ []) ≡ leg c2 0 B 2 1 ∷ leg c2 5 B 0 2 ∷ []
 legs_of_offer = refl
 
-lease_of_undone : map (lease_of (history_of (first_two ∷ deletes c1 ∷ []))) (2 ∷ 0 ∷ []) ≡ lease 2 1 ∷ lease 0 2 ∷ []
+lease_of_undone : map (next_lease (history_of (first_two ∷ deletes c1 ∷ []))) (2 ∷ 0 ∷ []) ≡ lease 2 1 ∷ lease 0 2 ∷ []
 lease_of_undone = refl

@@ -2,17 +2,17 @@
 use Rattle.std.proofs.Common.{◌≡◌, ℕ, List, [], ◌∷◌, ◌++◌, map, true, false, Some, None, Ok, Err, codes, refl, arith}
 use Rattle.relay_outside.specs.declared.address.Ip.TheVariants as ips
 use Rattle.ng_bencode.specs.Tree.{Bytes, Entries, no_entries, entry}
-use Rattle.ng_command.specs.Said.{Offer, Query, Listing}
-use Rattle.ng_command.specs.Reading.{told as command_told}
+use Rattle.ng_command.specs.Meanings.{Offer, Query, Listing}
+use Rattle.ng_command.specs.Bodies.{said_or_fault as command_told}
 use Rattle.ng_command.specs.declared.fault.KeyName.TheVariants.{CallId}
 use Rattle.ng_reply.specs.declared.code.ErrorCode.TheVariants.{E1, E3, E4, E6, E7, E8, E9, E10, E11, E12, E13, E14, E15, E18}
 use Rattle.ng_reply.specs.declared.code.SdpPart.TheVariants as part
 use Rattle.offer_answer.specs.Plan.{tag, protocol}
 use Rattle.call_board.specs.Acts as act
 use Rattle.call_board.specs.Acts.{Act, Control, BoardEntry}
-use Rattle.call_board.specs.Asked.{asked}
+use Rattle.call_board.specs.Requests.{asked}
 use Rattle.call_board.specs.Reports.{report_tree, listing_tree}
-use Rattle.call_board.specs.Fits.{FitsControl, is_read, is_heard, asks_after}
+use Rattle.call_board.specs.Fits.{FitsControl, is_read, is_request_read, asks_after}
 use Rattle.call_board.proofs.rows.Histories.{config, from_port, given, options, c1, c2, begins}
 use Rattle.call_board.proofs.rows.Turns.{turns, at, ping, ping_fits, offered, offered_fits}
 
@@ -260,10 +260,10 @@ out_of_memory_is_unread = refl
 others_are_read : is_read ping ≡ true
 others_are_read = refl
 
-heard_acts : map is_heard (act.Failed E8 ∷ act.Failed E13 ∷ act.Failed E14 ∷ act.Undone E15 [] [] ∷ []) ≡ true ∷ true ∷ true ∷ true ∷ []
+heard_acts : map is_request_read (act.Failed E8 ∷ act.Failed E13 ∷ act.Failed E14 ∷ act.Undone E15 [] [] ∷ []) ≡ true ∷ true ∷ true ∷ true ∷ []
 heard_acts = refl
 
-unheard_acts : map is_heard (act.Failed E9 ∷ act.Failed E10 ∷ act.Failed E11 ∷ act.Failed E12 ∷ act.Told ∷ act.OutOfMemory ∷ act.Repeated ∷ []) ≡ false ∷ false ∷ false ∷ false ∷ false ∷ false ∷ false ∷ []
+unheard_acts : map is_request_read (act.Failed E9 ∷ act.Failed E10 ∷ act.Failed E11 ∷ act.Failed E12 ∷ act.Told ∷ act.OutOfMemory ∷ act.Repeated ∷ []) ≡ false ∷ false ∷ false ∷ false ∷ false ∷ false ∷ false ∷ []
 unheard_acts = refl
 
 -- What no turn is.

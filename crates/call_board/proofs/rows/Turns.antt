@@ -5,22 +5,22 @@ use Rattle.ng_bencode.specs.Tree.{Bytes, Items, Entries, no_items, item, no_entr
 use Rattle.ng_command.specs.declared.command.Options.{Options}
 use Rattle.sdes_lines.specs.declared.crypto_line.CryptoLine.{CryptoLine}
 use Rattle.sdes_lines.specs.CryptoLine.{IsUsable, line_text}
-use Rattle.sdp_edit.specs.Choosing.{IsFirstOf, IsAny, section_lines}
+use Rattle.sdp_edit.specs.ChosenLines.{IsFirstOf, IsAny, section_lines}
 use Rattle.sdp_text.specs.Lines.{lines_of}
 use Rattle.sdp_edit.specs.Attributes.{is_removed, is_feedback}
 use Rattle.sdp_edit.specs.Images.{image_of}
-use Rattle.sdp_edit.specs.Places.{place_of}
+use Rattle.sdp_edit.specs.Places.{line_place}
 use Rattle.sdp_edit.specs.Texts.{with_end, connection_text, media_text, origin_text}
-use Rattle.sdp_edit.specs.Editing.{edited_from, edited_line, image_text, added_connection, added_keys, key_lines}
+use Rattle.sdp_edit.specs.EditedText.{edited_from, edited_line, image_text, added_connection, added_keys, key_lines}
 use Rattle.cookie_cache.specs.Keepings as cache
 use Rattle.port_pool.specs.Ports.{pair_count}
 use Rattle.port_pool.specs.declared.holder.Side.TheVariants.{A, B}
 use Rattle.offer_answer.specs.Rounds.{OfferAsk}
 use Rattle.offer_answer.specs.Keys.{chosen_in}
-use Rattle.offer_answer.specs.Plan.{OfferHeard, offer_fault, demand, offer_text, is_side}
+use Rattle.offer_answer.specs.Plan.{OfferRead, offer_fault, demand, offer_text, is_side}
 use Rattle.call_board.specs.Acts as act
 use Rattle.call_board.specs.Acts.{Call, Control, Turn, Tick, Stop, BoardEntry}
-use Rattle.call_board.specs.Asked.{asked, sdp_error}
+use Rattle.call_board.specs.Requests.{asked, sdp_error}
 use Rattle.call_board.specs.Replies.{reply_text}
 use Rattle.call_board.specs.Answers.{offer_ask}
 use Rattle.call_board.specs.Pairs.{free}
@@ -29,7 +29,7 @@ use Rattle.call_board.proofs.rows.Histories.{config, from_port, given, options, 
 
 -- what is opened so that a turn computes
 unfoldable pub turns : Unit {0}
-unfolding asked sdp_error reply_text pair_count cache.kept OfferHeard offer_fault demand offer_text is_side digits is_removed is_feedback image_of place_of with_end connection_text media_text origin_text edited_from edited_line image_text added_connection added_keys key_lines
+unfolding asked sdp_error reply_text pair_count cache.kept OfferRead offer_fault demand offer_text is_side digits is_removed is_feedback image_of line_place with_end connection_text media_text origin_text edited_from edited_line image_text added_connection added_keys key_lines
 turns = tt
 
 abbrev pub at : ℕ → Control → BoardEntry

@@ -12,7 +12,7 @@ use Rattle.port_pool.specs.declared.reports.LegReport.{LegReport}
 use Rattle.call_cell.specs.declared.outcome.Refused.TheVariants as refused
 use Rattle.call_cell.specs.Cells.{CellEntry, Relayed, Prepare, Commit, Expire, Read, End, since_end}
 use Rattle.call_cell.specs.Deeds.{deed, refused_deed}
-use Rattle.call_cell.specs.Asked.{is_due, reports, FitsRelay}
+use Rattle.call_cell.specs.Demands.{is_due, reports, FitsRelay}
 use Rattle.call_cell.proofs.rows.Calls.{config, leg_a, leg_b, at_a, at_b, first_place, second_place, third_place, no_flags, plain, side_a, side_b, held, prepared, committed, rejected, received, from_a, from_b, control_a, control_b, answered, steps, makes, relays, now, packet, fails}
 
 -- Timeouts.
@@ -148,7 +148,7 @@ second_b = record leg_b { section = 1; pair = 2 }
 abbrev two_sections : List CellEntry
 two_sections = steps [] (now (Prepare 0 (second_b ∷ second_a ∷ []) [] []) ∷ now (Prepare 0 (leg_b ∷ leg_a ∷ []) [] []) ∷ now (Commit (section.Commit side_a side_b ∷ section.Commit side_a side_b ∷ [])) ∷ [])
 
-sections_in_order : map {B = ℕ × Side × ℕ} (λ told. (told.section, told.side, told.port)) (reports config two_sections) ≡ (0, A, 30002) ∷ (0, B, 30000) ∷ (1, A, 30006) ∷ (1, B, 30004) ∷ []
+sections_in_order : map {B = ℕ × Side × ℕ} (λ one_report. (one_report.section, one_report.side, one_report.port)) (reports config two_sections) ≡ (0, A, 30002) ∷ (0, B, 30000) ∷ (1, A, 30006) ∷ (1, B, 30004) ∷ []
 unfolding reports
 sections_in_order = refl
 

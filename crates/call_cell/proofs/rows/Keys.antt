@@ -5,14 +5,14 @@ use Rattle.rtp_packet.specs.Head.{rtp_head, rtcp_ssrc}
 use Rattle.replay_window.specs.Indices.{near, nearest_lifted, fresh}
 use Rattle.srtp_sources.specs.Notes.{indices, sources, has_room}
 use Rattle.srtp_context.specs.Packets as srtp
-use Rattle.srtp_context.specs.Wrapping as srtp_out
-use Rattle.srtcp_context.specs.Wrapping as srtcp_out
+use Rattle.srtp_context.specs.OutboundPackets as srtp_out
+use Rattle.srtcp_context.specs.OutboundPackets as srtcp_out
 use Rattle.sdes_lines.specs.declared.crypto_line.Suite.TheVariants.{Tag80}
 use Rattle.histories.specs.Words.{first, numbers}
 use Rattle.call_cell.specs.declared.outcome.Lost.TheVariants as lost
 use Rattle.call_cell.specs.declared.outcome.Outcome.TheVariants as outcomes
 use Rattle.call_cell.specs.Cells.{CellEvent, CellEntry, Relay, Shield}
-use Rattle.call_cell.specs.Keyed.{wrapped_under}
+use Rattle.call_cell.specs.Protection.{wrapped_under}
 use Rattle.call_cell.specs.Deeds.{deed}
 use Rattle.call_cell.proofs.rows.Calls.{Step, leg_a, at_a, at_b, side_a, side_b, held, under, committed, received, from_a, from_b, answered, answered_keyed, steps, now, packet, fails, outcomes_of, shields_of, deeds, shield, rtp_of, rtcp_of}
 
@@ -160,24 +160,24 @@ abbrev controls : List ℕ → List Step
 controls ssrcs = map (λ ssrc. packet (received leg_a Rtcp at_a (rtcp_of ssrc))) ssrcs
 
 control_counts : shields_of (steps keyed (controls (5 ∷ 5 ∷ 6 ∷ 5 ∷ []))) ≡ shield 0 Rtcp 5 2 ∷ shield 0 Rtcp 6 0 ∷ shield 0 Rtcp 5 1 ∷ shield 0 Rtcp 5 0 ∷ []
-unfolding deed rtcp_ssrc wrapped_under srtcp_out.wrapping srtcp_out.sent_index indices sources has_room
+unfolding deed rtcp_ssrc wrapped_under srtcp_out.rtcp_wrapping srtcp_out.sent_rtcp_index indices sources has_room
 control_counts = refl
 
 -- a copy is no copy to it, and a failed send counts
 control_failed_counts : shields_of (steps keyed (fails (received leg_a Rtcp at_a (rtcp_of 5)) ∷ controls (5 ∷ []))) ≡ shield 0 Rtcp 5 1 ∷ shield 0 Rtcp 5 0 ∷ []
-unfolding deed rtcp_ssrc wrapped_under srtcp_out.wrapping srtcp_out.sent_index indices sources has_room
+unfolding deed rtcp_ssrc wrapped_under srtcp_out.rtcp_wrapping srtcp_out.sent_rtcp_index indices sources has_room
 control_failed_counts = refl
 
 -- RTP and RTCP of one source are counted apart
 control_apart : shields_of (steps keyed (packet (received leg_a Rtp at_a (rtp_of 5 0)) ∷ controls (5 ∷ []) ++ packet (received leg_a Rtp at_a (rtp_of 5 1)) ∷ [])) ≡ shield 0 Rtp 5 1 ∷ shield 0 Rtcp 5 0 ∷ shield 0 Rtp 5 0 ∷ []
-unfolding deed rtp_head rtcp_ssrc wrapped_under srtp_out.wrapping srtp_out.sent_index srtcp_out.wrapping srtcp_out.sent_index near nearest_lifted fresh indices sources has_room
+unfolding deed rtp_head rtcp_ssrc wrapped_under srtp_out.wrapping srtp_out.sent_index srtcp_out.rtcp_wrapping srtcp_out.sent_rtcp_index near nearest_lifted fresh indices sources has_room
 control_apart = refl
 
 control_sources : first (outcomes_of (steps keyed (controls (numbers 1 33)))) ≡ Some (outcomes.Lost lost.OutSources)
-unfolding deed rtcp_ssrc wrapped_under srtcp_out.wrapping srtcp_out.sent_index indices sources has_room
+unfolding deed rtcp_ssrc wrapped_under srtcp_out.rtcp_wrapping srtcp_out.sent_rtcp_index indices sources has_room
 control_sources = refl
 
 -- the sources of one half leave the other half's places free
 control_sources_apart : first (shields_of (steps keyed (of_sources (numbers 1 32) ++ controls (99 ∷ [])))) ≡ Some (shield 0 Rtcp 99 0)
-unfolding deed rtp_head rtcp_ssrc wrapped_under srtp_out.wrapping srtp_out.sent_index srtcp_out.wrapping srtcp_out.sent_index near nearest_lifted fresh indices sources has_room
+unfolding deed rtp_head rtcp_ssrc wrapped_under srtp_out.wrapping srtp_out.sent_index srtcp_out.rtcp_wrapping srtcp_out.sent_rtcp_index near nearest_lifted fresh indices sources has_room
 control_sources_apart = refl

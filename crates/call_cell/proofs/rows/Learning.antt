@@ -8,7 +8,7 @@ use Rattle.call_cell.specs.declared.outcome.Refused.TheVariants as refused
 use Rattle.call_cell.specs.declared.outcome.Lost.TheVariants as lost
 use Rattle.call_cell.specs.declared.outcome.Outcome.TheVariants as outcomes
 use Rattle.call_cell.specs.Cells.{CellEvent, Relay}
-use Rattle.call_cell.specs.Learning.{learned, endpoint}
+use Rattle.call_cell.specs.Lessons.{learned, endpoint}
 use Rattle.call_cell.specs.Deeds.{deed, lost_deed}
 use Rattle.call_cell.proofs.rows.Calls.{leg_a, leg_b, at_a, at_b, next_port, first_place, second_place, third_place, no_flags, strict, handover, strict_handover, asymmetric, strict_asymmetric, plain, side_a, side_b, held, committed, received, from_a, from_b, control_a, control_b, answered, steps, now, packet, outcomes_of, sent_to_a, sent_to_b, rtp_of}
 

@@ -7,8 +7,8 @@ use Rattle.replay_window.specs.Indices.{near, nearest_lifted, fresh}
 use Rattle.srtp_sources.specs.Notes.{Note, indices, sources, has_room}
 use Rattle.srtp_keys.specs.declared.faults.UnprotectFault.TheVariants.{NotAuthentic}
 use Rattle.srtp_context.specs.Packets as srtp
-use Rattle.srtp_context.specs.Opening as srtp_in
-use Rattle.srtcp_context.specs.Opening as srtcp_in
+use Rattle.srtp_context.specs.InboundPackets as srtp_in
+use Rattle.srtcp_context.specs.InboundPackets as srtcp_in
 use Rattle.sdes_lines.specs.declared.crypto_line.Suite.{Suite}
 use Rattle.sdes_lines.specs.declared.crypto_line.Suite.TheVariants.{Tag80, Tag32}
 use Rattle.relay_outside.specs.declared.address.Addr.{Addr}
@@ -19,8 +19,8 @@ use Rattle.call_cell.specs.declared.outcome.Refused.TheVariants as refused
 use Rattle.call_cell.specs.declared.outcome.Lost.TheVariants as lost
 use Rattle.call_cell.specs.declared.outcome.Outcome.TheVariants as outcomes
 use Rattle.call_cell.specs.Cells.{CellEvent, CellEntry, Prepare, Relay, Receipt}
-use Rattle.call_cell.specs.Keyed.{accepted, Judged, Stopped, Passed, opened_by, opened_rtp, opened_under}
-use Rattle.call_cell.specs.Learning.{learned}
+use Rattle.call_cell.specs.Protection.{accepted, Judged, Stopped, Passed, opened_by, opened_rtp, opened_under}
+use Rattle.call_cell.specs.Lessons.{learned}
 use Rattle.call_cell.specs.Deeds.{deed, refused_deed, lost_deed}
 use Rattle.call_cell.proofs.rows.Calls.{config, Step, prepared, leg_a, leg_b, at_a, at_b, first_place, second_place, strict, plain, side_a, side_b, held, sends_under, under, committed, rejected, received, from_a, answered, steps, now, note, rtp_of, rtcp_of}
 
@@ -196,5 +196,5 @@ source_before_key = refl
 -- SRTCP takes the index that the packet carries.
 
 too_short_for_control : opened_by (Some (key, Tag32)) [] Rtcp (rtcp_of 5 ++ replicate 13 0) ≡ Stopped refused.Short
-unfolding opened_under srtcp_in.opening srtcp_in.taken_index rtcp_ssrc
+unfolding opened_under srtcp_in.rtcp_opening srtcp_in.taken_rtcp_index rtcp_ssrc
 too_short_for_control = refl

@@ -7,11 +7,11 @@ use Rattle.sdes_lines.specs.declared.crypto_line.CryptoLine.{CryptoLine}
 use Rattle.sdes_lines.specs.CryptoLine.{line_text, IsUsable}
 use Rattle.sdp_text.specs.Lines.{lines_of}
 use Rattle.sdp_text.specs.declared.proto.Proto.TheVariants.{Savp}
-use Rattle.sdp_edit.specs.Choosing.{section_lines, IsFirstOf, IsOffered}
+use Rattle.sdp_edit.specs.ChosenLines.{section_lines, IsFirstOf, IsOffered}
 use Rattle.port_pool.specs.declared.holder.Side.TheVariants.{B}
 use Rattle.offer_answer.specs.Rounds.{Round, Offered, OfferAsk, AnswerAsk}
 use Rattle.offer_answer.specs.Keys.{chosen_in, last_lines}
-use Rattle.offer_answer.specs.Plan.{AnswerHeard, offer_fault, answer_fault, demand}
+use Rattle.offer_answer.specs.Plan.{AnswerRead, offer_fault, answer_fault, demand}
 use Rattle.offer_answer.specs.Laws.{IsAnswerRound, AreRounds}
 use Rattle.offer_answer.proofs.rows.Calls.{plain, towards, alice_with, bob_with, audio, secure_audio, two_legs, key, offer_by, answer_by, a, b, none1}
 
@@ -57,7 +57,7 @@ takes_the_line : IsFirstOf (IsOffered (last_lines secured 0)) (section_lines 0 (
 takes_the_line = inl ((is_usable, inl (refl, refl)), refl)
 
 answer_comes_about : IsAnswerRound secured answer
-unfolding AnswerHeard opened
+unfolding AnswerRead opened
 answer_comes_about = record { no_fault = refl; heard = record { count = refl; first = first } }
   where
     first : (section : ℕ) → section < 1 → IsFirstOf (IsOffered (last_lines secured section)) (section_lines section (lines_of answer.sdp)) (chosen_in answer.chosen section)

@@ -9,10 +9,10 @@ use Rattle.port_pool.specs.Ports.{pair_count}
 use Rattle.offer_answer.specs.Plan as plan
 use Rattle.call_board.specs.Acts as act
 use Rattle.call_board.specs.Acts.{Call, Given, Control, Turn, Tick, BoardEntry}
-use Rattle.call_board.specs.Kept.{kept}
+use Rattle.call_board.specs.KeptReplies.{kept_reply}
 use Rattle.call_board.specs.Replies.{Done, Described, reply_datagram}
 use Rattle.call_board.specs.Answers.{answering_unless}
-use Rattle.call_board.specs.Fits.{answer_of, FitsControl}
+use Rattle.call_board.specs.Fits.{answered_in, FitsControl}
 use Rattle.relay_core.proofs.Example.Datagrams.{config, id, offer, answer, legs, keys, first_draw, second_draw, offered, line, signal, offer_body, offer_pairs, offer_is_read, offer_is_asked, offer_is_faultless, offer_demands, offer_is_heard, answer_body, answer_pairs, answer_is_read, answer_is_asked, answer_is_faultless, answer_commits, answer_is_heard, delete_body, delete_pairs, delete_is_read, delete_is_asked, next_id, next_body, next_pairs, next_offer, next_legs, next_is_read, next_is_asked, next_is_faultless, next_demands, next_is_heard}
 
 -- who sends the datagrams
@@ -43,7 +43,7 @@ offer_turn = record {
   act = act.Offered accepted_offer;
 }
 
-offer_is_answered : answer_of offer_turn ≡ answering_unless config [] offer_turn (kept [] controller (codes "1") 1000)
+offer_is_answered : answered_in offer_turn ≡ answering_unless config [] offer_turn (kept_reply [] controller (codes "1") 1000)
 unfolding cache.kept pair_count
 offer_is_answered = rw (offer_is_asked, offer_is_faultless, offer_demands) refl
 
@@ -74,7 +74,7 @@ repeat_turn = record offer_turn { given = nothing_given; act = act.Repeated }
 abbrev pub after_offer : List BoardEntry
 after_offer = record { moment = 1000; event = Turn offer_turn } ∷ []
 
-repeat_is_answered : answer_of repeat_turn ≡ answering_unless config after_offer repeat_turn (kept after_offer controller (codes "1") 1100)
+repeat_is_answered : answered_in repeat_turn ≡ answering_unless config after_offer repeat_turn (kept_reply after_offer controller (codes "1") 1100)
 unfolding cache.kept
 repeat_is_answered = refl
 
@@ -110,7 +110,7 @@ answer_turn = record {
   act = act.Answered accepted_answer;
 }
 
-answer_is_answered : answer_of answer_turn ≡ answering_unless config after_repeat answer_turn (kept after_repeat controller (codes "2") 2000)
+answer_is_answered : answered_in answer_turn ≡ answering_unless config after_repeat answer_turn (kept_reply after_repeat controller (codes "2") 2000)
 unfolding cache.kept
 answer_is_answered = rw (answer_is_asked, answer_is_faultless, answer_commits) refl
 
@@ -155,7 +155,7 @@ after_answer = record { moment = 2000; event = Turn answer_turn } ∷ after_repe
 abbrev pub after_tick : List BoardEntry
 after_tick = record { moment = 3000; event = Tick [] } ∷ after_answer
 
-delete_is_answered : answer_of delete_turn ≡ answering_unless config after_tick delete_turn (kept after_tick controller (codes "3") 5000)
+delete_is_answered : answered_in delete_turn ≡ answering_unless config after_tick delete_turn (kept_reply after_tick controller (codes "3") 5000)
 unfolding cache.kept
 delete_is_answered = rw delete_is_asked refl
 
@@ -202,7 +202,7 @@ next_turn = record {
   act = act.Offered accepted_next;
 }
 
-next_is_answered : answer_of next_turn ≡ answering_unless config after_delete next_turn (kept after_delete controller (codes "4") 6000)
+next_is_answered : answered_in next_turn ≡ answering_unless config after_delete next_turn (kept_reply after_delete controller (codes "4") 6000)
 unfolding cache.kept pair_count
 next_is_answered = rw (next_is_asked, next_is_faultless, next_demands) refl
 

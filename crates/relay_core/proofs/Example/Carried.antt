@@ -5,7 +5,7 @@ use Rattle.histories.specs.Words.{here, there}
 use Rattle.port_pool.specs.declared.holder.Holder.{Holder}
 use Rattle.port_pool.specs.Boxes.{Close}
 use Rattle.relay_core.specs.Entries.{Box, box_of}
-use Rattle.relay_core.specs.Carried.{OccursOf, CarriesPacket, CarriesCalls}
+use Rattle.relay_core.specs.WholeCalls.{OccursOf, CarriesPacket, CarriesCalls}
 use Rattle.relay_core.proofs.Example.Datagrams.{config, leg_a, leg_b, legs, key_80, line, next_leg_a}
 use Rattle.relay_core.proofs.Example.Board.{accepted_offer, accepted_answer, offer_turn, repeat_turn, answer_turn, delete_turn, accepted_next, next_turn}
 use Rattle.relay_core.proofs.Example.Cell.{relayed, sending, relayed_back, sending_back, reply_note, is_wire, refused_late}

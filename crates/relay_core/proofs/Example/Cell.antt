@@ -13,15 +13,15 @@ use Rattle.srtp_sources.specs.Notes.{Note, indices, sources, has_room}
 use Rattle.srtp_keys.specs.declared.faults.UnprotectFault.{UnprotectFault}
 use Rattle.srtp_keys.specs.declared.faults.UnprotectFault.TheVariants as fault
 use Rattle.srtp_context.specs.Packets as srtp
-use Rattle.srtp_context.specs.Opening as srtp_in
-use Rattle.srtp_context.specs.Wrapping as srtp_out
+use Rattle.srtp_context.specs.InboundPackets as srtp_in
+use Rattle.srtp_context.specs.OutboundPackets as srtp_out
 use Rattle.srtp_context.proofs.PacketLemmas.{protect-opens}
 use Rattle.sdes_lines.specs.declared.crypto_line.Suite.TheVariants.{Tag80}
 use Rattle.call_cell.specs.declared.outcome.Refused.TheVariants as refused
 use Rattle.call_cell.specs.declared.outcome.Outcome.TheVariants.{Refused, Sent}
 use Rattle.call_cell.specs.Cells.{CellEntry, Prepare, Commit, Relay, Receipt, Relayed, Sending}
-use Rattle.call_cell.specs.Keyed.{Stopped, Passed, opened_rtp, opened_under, wrapped_under}
-use Rattle.call_cell.specs.Asked.{is_due, FitsRelay}
+use Rattle.call_cell.specs.Protection.{Stopped, Passed, opened_rtp, opened_under, wrapped_under}
+use Rattle.call_cell.specs.Demands.{is_due, FitsRelay}
 use Rattle.call_cell.specs.Deeds.{judged, deed_judged, deed}
 use Rattle.relay_core.proofs.Example.Datagrams.{config, leg_a, leg_b, legs, keys, first_draw, answerers_key, signal, signal_b, next_legs}
 use Rattle.relay_core.proofs.Example.Wire.{IsWire, protected_is_wire}

@@ -12,8 +12,8 @@ use Rattle.sdes_lines.specs.CryptoLine.{line_text, IsUsable}
 use Rattle.sdp_text.specs.declared.proto.Proto.TheVariants.{Savp}
 use Rattle.ng_bencode.specs.Tree.{Bytes, Entries, entry, no_entries}
 use Rattle.ng_command.specs.declared.command.Options.{Options}
-use Rattle.ng_command.specs.Said as said
-use Rattle.ng_command.specs.Said.{Said}
+use Rattle.ng_command.specs.Meanings as said
+use Rattle.ng_command.specs.Meanings.{Said}
 use Rattle.port_pool.specs.declared.holder.Side.TheVariants.{A, B}
 use Rattle.port_pool.specs.declared.holder.Holder.{Holder}
 use Rattle.port_pool.specs.declared.signal.LegSignal.{LegSignal}
@@ -23,7 +23,7 @@ use Rattle.port_pool.specs.Signals.{NewKey}
 use Rattle.offer_answer.specs.Rounds.{Round, Offered, OfferAsk, AnswerAsk}
 use Rattle.offer_answer.specs.Demands.{new_leg}
 use Rattle.offer_answer.specs.Plan as plan
-use Rattle.call_board.specs.Asked.{Reads, asked, sdp_error}
+use Rattle.call_board.specs.Requests.{ReadsBody, asked, sdp_error}
 
 -- one call at a time, and two port pairs
 abbrev pub config : Config
@@ -65,7 +65,7 @@ offer_pairs =
     entry (codes "command") (Bytes (codes "offer")) (entry (codes "call-id") (Bytes id) (entry (codes "from-tag") (Bytes tag_a)
     (entry (codes "sdp") (Bytes offer_sdp) (entry (codes "transport protocol") (Bytes (codes "RTP/SAVP")) no_entries))))
 
-pub offer_is_read : Reads offer_body (Some offer_pairs)
+pub offer_is_read : ReadsBody offer_body (Some offer_pairs)
 unfolding offer_body offer_pairs offer_sdp digits
 offer_is_read = record { ints = (tt, (tt, (tt, (tt, (tt, tt))))); deep = omega arith; spelled = refl }
 
@@ -93,8 +93,8 @@ of_one_section : (P : ℕ → Type 0) → P 0 → (section : ℕ) → section < 
 of_one_section P first zero h = first
 of_one_section P first (suc n) h = absurd (omega arith)
 
-pub offer_is_heard : plan.OfferHeard offer
-unfolding plan.OfferHeard offer_sdp
+pub offer_is_heard : plan.OfferRead offer
+unfolding plan.OfferRead offer_sdp
 offer_is_heard = record { count = refl; first = of_one_section _ refl }
 
 -- The legs that it leases pairs for, and the keys that it draws.
@@ -145,7 +145,7 @@ answer_pairs =
     entry (codes "command") (Bytes (codes "answer")) (entry (codes "call-id") (Bytes id) (entry (codes "from-tag") (Bytes tag_a)
     (entry (codes "to-tag") (Bytes tag_b) (entry (codes "sdp") (Bytes answer_sdp) no_entries))))
 
-pub answer_is_read : Reads answer_body (Some answer_pairs)
+pub answer_is_read : ReadsBody answer_body (Some answer_pairs)
 unfolding answer_body answer_pairs answer_sdp digits
 answer_is_read = record { ints = (tt, (tt, (tt, (tt, (tt, tt))))); deep = omega arith; spelled = refl }
 
@@ -205,8 +205,8 @@ line_is_usable = record {
   line_is = refl;
 }
 
-pub answer_is_heard : plan.AnswerHeard offered answer
-unfolding plan.AnswerHeard offer_sdp answer_sdp
+pub answer_is_heard : plan.AnswerRead offered answer
+unfolding plan.AnswerRead offer_sdp answer_sdp
 answer_is_heard = record { count = refl; first = of_one_section _ (inl ((line_is_usable, inl (refl, refl)), refl)) }
 
 -- The delete.
@@ -217,7 +217,7 @@ delete_body = codes "d7:command6:delete7:call-id1:ce"
 unfoldable pub delete_pairs : Entries
 delete_pairs = entry (codes "command") (Bytes (codes "delete")) (entry (codes "call-id") (Bytes id) no_entries)
 
-pub delete_is_read : Reads delete_body (Some delete_pairs)
+pub delete_is_read : ReadsBody delete_body (Some delete_pairs)
 unfolding delete_body delete_pairs digits
 delete_is_read = record { ints = (tt, (tt, tt)); deep = omega arith; spelled = refl }
 
@@ -238,7 +238,7 @@ next_pairs =
     entry (codes "command") (Bytes (codes "offer")) (entry (codes "call-id") (Bytes next_id) (entry (codes "from-tag") (Bytes tag_a)
     (entry (codes "sdp") (Bytes offer_sdp) no_entries)))
 
-pub next_is_read : Reads next_body (Some next_pairs)
+pub next_is_read : ReadsBody next_body (Some next_pairs)
 unfolding next_body next_pairs offer_sdp digits
 next_is_read = record { ints = (tt, (tt, (tt, (tt, tt)))); deep = omega arith; spelled = refl }
 
@@ -257,8 +257,8 @@ pub next_demands : plan.demand [] next_offer ≡ record { pairs = new_leg 0 B �
 unfolding plan.demand offer_sdp
 next_demands = refl
 
-pub next_is_heard : plan.OfferHeard next_offer
-unfolding plan.OfferHeard offer_sdp
+pub next_is_heard : plan.OfferRead next_offer
+unfolding plan.OfferRead offer_sdp
 next_is_heard = record { count = refl; first = of_one_section _ refl }
 
 -- it gets the same pairs, in their next leases

@@ -6,9 +6,9 @@ use Rattle.histories.specs.Words.{Before}
 use Rattle.port_pool.specs.Boxes.{Take, Closed, holder}
 use Rattle.call_cell.specs.Cells.{Expire}
 use Rattle.call_cell.specs.Deeds.{deed}
-use Rattle.call_board.specs.Kept.{kept}
+use Rattle.call_board.specs.KeptReplies.{kept_reply}
 use Rattle.call_board.specs.Answers.{answering_unless}
-use Rattle.call_board.specs.Fits.{answer_of}
+use Rattle.call_board.specs.Fits.{answered_in}
 use Rattle.relay_core.specs.Entries.{Cell, Box, board_history, cell_before, box_history}
 use Rattle.relay_core.specs.Legal.{StandsAt}
 use Rattle.relay_core.proofs.Safety.{legal_safe}
@@ -52,7 +52,7 @@ open_before_next_close = refl
 
 -- What safety says of the worked list: a reply and a deed are those of their histories, and a packet is taken before it is sent.
 
-repeat_is_answered : answer_of repeat_turn ≡ answering_unless config (board_history entries 1) repeat_turn (kept (board_history entries 1) repeat_turn.source repeat_turn.cookie 1100)
+repeat_is_answered : answered_in repeat_turn ≡ answering_unless config (board_history entries 1) repeat_turn (kept_reply (board_history entries 1) repeat_turn.source repeat_turn.cookie 1100)
 repeat_is_answered = (legal_safe config entries legal).board.replies_are repeated repeat_turn (at_place entries 4 refl) refl
 
 late_is_refused : refused_late.deed ≡ deed config (cell_before entries relayed_late) late_receipt true

@@ -1,5 +1,5 @@
 ghost use Rattle.std.specs.Prelude.{◌≡◌, ◌↔◌, ℕ, List, Some, [], IsTrue, IsSome};
-ghost use Rattle.relay_outside.specs.Told.{Gains, WhereInRange};
+ghost use Rattle.relay_outside.specs.DeviceLogs.{Gains, WhereInRange};
 
 use crate::calls::CallList;
 use crate::clocks::{Clock, Timer};
@@ -10,7 +10,7 @@ use std::marker::Model;
 /// the list is empty.
 #[derive(Drop)]
 pub struct HandTimer {
-    told: CallList<u64>,
+    log: CallList<u64>,
     moments: Vec<u64>,
     next: usize,
 }
@@ -21,7 +21,7 @@ impl Model for HandTimer {
 
     ghost Value = { TimerTape };
 
-    ghost view = { λ timer. record { told = timer.told; moments = drop timer.next timer.moments.items } };
+    ghost view = { λ timer. record { log = timer.log; moments = drop timer.next timer.moments.items } };
 
     ghost invariant = { λ timer. timer.next ≤ length timer.moments.items - 1 };
 }
@@ -29,32 +29,32 @@ impl Model for HandTimer {
 impl HandTimer {
     /// A timer that gives these moments.
     pub fn new(alloc: Global, moments: Vec<u64>) -> HandTimer
-        ensures { result ≡ record { told = Some []; moments = moments.items } }
+        ensures { result ≡ record { log = Some []; moments = moments.items } }
     {
         HandTimer {
-            told: CallList::new(alloc),
+            log: CallList::new(alloc),
             moments,
             next: 0,
         }
     }
 
-    /// Whether the timer still tells its list.
+    /// Whether the timer still keeps its log.
     pub fn tells(&self) -> bool
-        ensures { IsTrue result ↔ IsSome self.now.told }
+        ensures { IsTrue result ↔ IsSome self.now.log }
     {
-        self.told.tells()
+        self.log.tells()
     }
 }
 
 impl Timer for HandTimer {
     ghost use Rattle.std.specs.Prelude.{◌≡◌};
-    ghost use Rattle.relay_outside.specs.Told.{Gains};
+    ghost use Rattle.relay_outside.specs.DeviceLogs.{Gains};
     ghost use Rattle.relay_outside.specs.Clocks.{next_moment, moments_left};
 
-    ghost told = { λ timer. timer.told };
+    ghost log = { λ timer. timer.log };
 
     fn now(&mut self) -> u64
-        ensures told { Gains self.old.told self.new.told result }
+        ensures log { Gains self.old.log self.new.log result }
         ensures moment { result ≡ next_moment self.old.moments }
         ensures left { self.new.moments ≡ moments_left self.old.moments }
     {
@@ -65,7 +65,7 @@ impl Timer for HandTimer {
         if self.next + 1 < self.moments.len() {
             self.next += 1;
         }
-        self.told.note(Some(moment));
+        self.log.note(Some(moment));
         moment
     }
 }
@@ -95,7 +95,7 @@ impl HandClock {
 
 impl Clock for HandClock {
     ghost use Rattle.std.specs.Prelude.{◌≡◌, Some};
-    ghost use Rattle.relay_outside.specs.Told.{WhereInRange};
+    ghost use Rattle.relay_outside.specs.DeviceLogs.{WhereInRange};
 
     ghost range = { λ clock. Some (clock, clock) };
 

@@ -1,14 +1,14 @@
 ghost use Rattle.std.specs.Prelude.{◌≡◌, ◌↔◌, ◌≤◌, ◌<◌, Some, None, [], not, IsTrue, IsSome, IfOk, MatchOption, MatchResult, position, length};
-ghost use Rattle.relay_outside.specs.Told.{Gains, EndGains, HasCause, IsOpenedFor, WhereTold, is_done};
+ghost use Rattle.relay_outside.specs.DeviceLogs.{Gains, EndGains, HasCause, IsOpenedFor, WhereLogged, is_done};
 ghost use Rattle.relay_outside.specs.Ports.{FitsTake, in_given, same_addr, IsOpen};
-ghost use Rattle.relay_outside.specs.PortTape.{GivesPacket, in_from, out_from, nothing_at, returned, MovesOut, MovesBack};
+ghost use Rattle.relay_outside.specs.PortTape.{GivesPacket, in_from, out_from, nothing_at, given_back, MovesOut, MovesBack};
 ghost use Rattle.relay_outside.specs.Failures.{uncalled, next_fails, after_call};
 
 use super::ports::{Arrivals, Packet, SteadyIn, SteadyOut, is_same};
 use crate::address::Addr;
 use crate::answers::Failed;
 use crate::calls::CallList;
-use crate::failing::Failing;
+use crate::failures::Failing;
 use crate::ports::{InCall, InEnd, OutCall, OutEnd, PortCall, PortMaker};
 use std::alloc::Global;
 use std::marker::Model;
@@ -29,44 +29,44 @@ impl Model for MemoryIn {
 
     ghost Value = { InState };
 
-    ghost view = { λ end. record { told = end.end.told; packets = end.end.packets; failures = end.failing } };
+    ghost view = { λ end. record { log = end.end.log; packets = end.end.packets; failures = end.failing } };
 }
 
 impl MemoryIn {
-    /// Whether the end still tells its list.
+    /// Whether the end still keeps its log.
     pub fn tells(&self) -> bool
-        ensures { IsTrue result ↔ IsSome self.now.told.calls }
+        ensures { IsTrue result ↔ IsSome self.now.log.calls }
     {
         self.end.tells()
     }
 
-    /// What the end told, and the end with a new list in its place.
+    /// The end's log, and the end with a new one in its place.
     fn without_list(self, alloc: Global) -> (CallList<InCall>, MemoryIn)
-        ensures list { result.0 ≡ self.told.calls }
+        ensures list { result.0 ≡ self.log.calls }
         ensures packets { result.1.packets ≡ self.packets }
         ensures failures { result.1.failures ≡ self.failures }
     {
         let MemoryIn { end, failing } = self;
-        let (told, end) = end.without_list(alloc);
-        (told, MemoryIn { end, failing })
+        let (log, end) = end.without_list(alloc);
+        (log, MemoryIn { end, failing })
     }
 }
 
 impl InEnd for MemoryIn {
     ghost use Rattle.std.specs.Prelude.{◌≡◌, ◌<◌, MatchResult, length, not};
-    ghost use Rattle.relay_outside.specs.Told.{EndGains, HasCause, is_done};
+    ghost use Rattle.relay_outside.specs.DeviceLogs.{EndGains, HasCause, is_done};
     ghost use Rattle.relay_outside.specs.Ports.{FitsTake, in_given};
     ghost use Rattle.relay_outside.specs.PortTape.{GivesPacket};
     ghost use Rattle.relay_outside.specs.Failures.{next_fails, after_call};
 
-    ghost told = { λ end. end.told };
+    ghost log = { λ end. end.log };
 
     ghost faults = { λ end. end.failures.faults };
 
     fn take(&mut self, buf: &mut [u8]) -> Result<Option<(Addr, usize)>, Failed>
         requires { 0 < length buf.old }
         ensures within { FitsTake result (length buf.old) }
-        ensures told { EndGains self.old.told self.new.told (InCall.Take (length buf.old) (in_given result buf.new)) }
+        ensures log { EndGains self.old.log self.new.log (InCall.Take (length buf.old) (in_given result buf.new)) }
         ensures cause { HasCause self.old.failures.faults self.new.failures.faults result }
         ensures fails { next_fails self.old.failures ≡ not (is_done result) }
         ensures counted { self.new.failures ≡ after_call self.old.failures }
@@ -93,41 +93,41 @@ impl Model for MemoryOut {
 
     ghost Value = { OutState };
 
-    ghost view = { λ end. record { told = end.end; failures = end.failing } };
+    ghost view = { λ end. record { log = end.end; failures = end.failing } };
 }
 
 impl MemoryOut {
-    /// Whether the end still tells its list.
+    /// Whether the end still keeps its log.
     pub fn tells(&self) -> bool
-        ensures { IsTrue result ↔ IsSome self.now.told.calls }
+        ensures { IsTrue result ↔ IsSome self.now.log.calls }
     {
         self.end.tells()
     }
 
-    /// What the end told, and the end with a new list in its place.
+    /// The end's log, and the end with a new one in its place.
     fn without_list(self, alloc: Global) -> (CallList<OutCall>, MemoryOut)
-        ensures list { result.0 ≡ self.told.calls }
+        ensures list { result.0 ≡ self.log.calls }
         ensures failures { result.1.failures ≡ self.failures }
     {
         let MemoryOut { end, failing } = self;
         let at = end.address();
-        let told = end.into_list();
+        let log = end.into_list();
         let end = SteadyOut::new(alloc, at);
-        (told, MemoryOut { end, failing })
+        (log, MemoryOut { end, failing })
     }
 }
 
 impl OutEnd for MemoryOut {
     ghost use Rattle.std.specs.Prelude.{◌≡◌, not};
-    ghost use Rattle.relay_outside.specs.Told.{EndGains, HasCause, is_done};
+    ghost use Rattle.relay_outside.specs.DeviceLogs.{EndGains, HasCause, is_done};
     ghost use Rattle.relay_outside.specs.Failures.{next_fails, after_call};
 
-    ghost told = { λ end. end.told };
+    ghost log = { λ end. end.log };
 
     ghost faults = { λ end. end.failures.faults };
 
     fn send(&mut self, to: Addr, bytes: &[u8]) -> Result<(), Failed>
-        ensures told { EndGains self.old.told self.new.told (OutCall.Send to bytes.now (is_done result)) }
+        ensures log { EndGains self.old.log self.new.log (OutCall.Send to bytes.now (is_done result)) }
         ensures cause { HasCause self.old.failures.faults self.new.failures.faults result }
         ensures fails { next_fails self.old.failures ≡ not (is_done result) }
         ensures counted { self.new.failures ≡ after_call self.old.failures }
@@ -191,7 +191,7 @@ impl MemoryPort {
 
     /// Takes what the ends are left with in place of what is here.
     fn move_in(&mut self, receiving: MemoryIn, sending: MemoryOut)
-        ensures { self.new ≡ returned self.old.at receiving sending }
+        ensures { self.new ≡ given_back self.old.at receiving sending }
     {
         let MemoryIn { end, failing } = receiving;
         self.arrivals.move_in(end);
@@ -244,7 +244,7 @@ fn take_back(ports: &mut Vec<MemoryPort>, at: Addr, receiving: MemoryIn, sending
 #[derive(Drop)]
 pub struct MemoryMaker {
     alloc: Global,
-    told: CallList<PortCall>,
+    log: CallList<PortCall>,
     ports: Vec<MemoryPort>,
     failing: Failing,
 }
@@ -254,35 +254,35 @@ impl Model for MemoryMaker {
 
     ghost Value = { MakerState };
 
-    ghost view = { λ maker. record { told = maker.told; ports = maker.ports.items; failures = maker.failing } };
+    ghost view = { λ maker. record { log = maker.log; ports = maker.ports.items; failures = maker.failing } };
 }
 
 impl MemoryMaker {
     /// A maker whose ends are to give and to fail as these entries say, and whose openings with these
     /// numbers fail.
     pub fn new(alloc: Global, ports: Vec<MemoryPort>, failing: Vec<u64>) -> MemoryMaker
-        ensures { result ≡ record { told = Some []; ports = ports.items; failures = uncalled failing.items } }
+        ensures { result ≡ record { log = Some []; ports = ports.items; failures = uncalled failing.items } }
     {
         MemoryMaker {
             alloc,
-            told: CallList::new(alloc),
+            log: CallList::new(alloc),
             ports,
             failing: Failing::new(failing),
         }
     }
 
-    /// Whether the maker still tells its list.
+    /// Whether the maker still keeps its log.
     pub fn tells(&self) -> bool
-        ensures { IsTrue result ↔ IsSome self.now.told }
+        ensures { IsTrue result ↔ IsSome self.now.log }
     {
-        self.told.tells()
+        self.log.tells()
     }
 
-    /// The openings and closings in their order, where they are told.
+    /// The openings and closings in their order, where they are logged.
     pub fn calls(&self) -> Option<&[PortCall]>
-        ensures { MatchOption result (self.now.told ≡ None) (λ calls. self.now.told ≡ Some calls.now) }
+        ensures { MatchOption result (self.now.log ≡ None) (λ calls. self.now.log ≡ Some calls.now) }
     {
-        self.told.get()
+        self.log.get()
     }
 }
 
@@ -292,45 +292,45 @@ impl PortMaker for MemoryMaker {
     type Out = MemoryOut;
 
     ghost use Rattle.std.specs.Prelude.{◌≡◌, ◌≤◌, IfOk, MatchResult, not};
-    ghost use Rattle.relay_outside.specs.Told.{Gains, HasCause, IsOpenedFor, WhereTold, is_done};
+    ghost use Rattle.relay_outside.specs.DeviceLogs.{Gains, HasCause, IsOpenedFor, WhereLogged, is_done};
     ghost use Rattle.relay_outside.specs.Ports.{IsOpen};
     ghost use Rattle.relay_outside.specs.PortTape.{MovesOut, MovesBack};
     ghost use Rattle.relay_outside.specs.Failures.{next_fails, after_call};
 
-    ghost told = { λ maker. maker.told };
+    ghost log = { λ maker. maker.log };
 
     ghost faults = { λ maker. maker.failures.faults };
 
     fn open(&mut self, at: Addr) -> Result<(MemoryIn, MemoryOut), Failed>
-        requires { WhereTold self.old.told (λ calls. IsOpen calls at → ⊥) }
-        ensures told { Gains self.old.told self.new.told (PortCall.Open at (is_done result)) }
-        ensures receiving { IfOk result (λ ends. IsOpenedFor at ends.0.told) }
-        ensures sending { IfOk result (λ ends. IsOpenedFor at ends.1.told) }
+        requires { WhereLogged self.old.log (λ calls. IsOpen calls at → ⊥) }
+        ensures log { Gains self.old.log self.new.log (PortCall.Open at (is_done result)) }
+        ensures receiving { IfOk result (λ ends. IsOpenedFor at ends.0.log) }
+        ensures sending { IfOk result (λ ends. IsOpenedFor at ends.1.log) }
         ensures cause { HasCause self.old.failures.faults self.new.failures.faults result }
         ensures fails { next_fails self.old.failures ≡ not (is_done result) }
         ensures counted { self.new.failures ≡ after_call self.old.failures }
         ensures moved { MatchResult result (λ ends. MovesOut self.old.ports at ends.0 ends.1 self.new.ports) (λ _. self.new.ports ≡ self.old.ports) }
     {
         if self.failing.fails() {
-            self.told.note(Some(PortCall::Open { at, done: false }));
+            self.log.note(Some(PortCall::Open { at, done: false }));
             return Err(Failed);
         }
         let ends = ends_of(self.alloc, &mut self.ports, at);
-        self.told.note(Some(PortCall::Open { at, done: true }));
+        self.log.note(Some(PortCall::Open { at, done: true }));
         Ok(ends)
     }
 
     fn close(&mut self, at: Addr, receiving: MemoryIn, sending: MemoryOut)
-        requires open { WhereTold self.old.told (λ calls. IsOpen calls at) }
-        requires ends { (receiving.told.at ≡ at) × (sending.told.at ≡ at) }
-        ensures told { Gains self.old.told self.new.told (PortCall.Close at receiving.told.calls sending.told.calls) }
+        requires open { WhereLogged self.old.log (λ calls. IsOpen calls at) }
+        requires ends { (receiving.log.at ≡ at) × (sending.log.at ≡ at) }
+        ensures log { Gains self.old.log self.new.log (PortCall.Close at receiving.log.calls sending.log.calls) }
         ensures later { self.old.failures.faults ≤ self.new.failures.faults }
         ensures uncounted { self.new.failures ≡ self.old.failures }
         ensures back { MovesBack self.old.ports at receiving sending self.new.ports }
     {
         let (taken, receiving) = receiving.without_list(self.alloc);
         let (sent, sending) = sending.without_list(self.alloc);
-        self.told.note(Some(PortCall::Close { at, taken, sent }));
+        self.log.note(Some(PortCall::Close { at, taken, sent }));
         take_back(&mut self.ports, at, receiving, sending);
     }
 }

@@ -1,12 +1,12 @@
 ghost use Rattle.std.specs.Prelude.{◌≡◌, ◌↔◌, Some, [], IsTrue, IsSome, IsOk, IfOk, MatchResult, not};
-ghost use Rattle.relay_outside.specs.Told.{Gains, HasCause, is_done};
+ghost use Rattle.relay_outside.specs.DeviceLogs.{Gains, HasCause, is_done};
 ghost use Rattle.relay_outside.specs.Keys.{drawn_as};
 ghost use Rattle.relay_outside.specs.KeyTape.{draw_fails, after_draw, GivesKey};
 ghost use Rattle.relay_outside.specs.Failures.{uncalled};
 
 use crate::answers::Failed;
 use crate::calls::CallList;
-use crate::failing::Failing;
+use crate::failures::Failing;
 use crate::keys::{KeyAndSalt, KeyCall, KeySource};
 use std::alloc::Global;
 use std::marker::Model;
@@ -15,7 +15,7 @@ use std::marker::Model;
 /// and 22 zero bytes; at 2^64 - 1 the number stays. Keys for tests, never for calls.
 #[derive(Drop)]
 pub struct SteadyKeys {
-    told: CallList<KeyCall>,
+    log: CallList<KeyCall>,
     number: u64,
 }
 
@@ -24,41 +24,41 @@ impl Model for SteadyKeys {
 
     ghost Value = { KeyTape };
 
-    ghost view = { λ keys. record { told = keys.told; number = keys.number } };
+    ghost view = { λ keys. record { log = keys.log; number = keys.number } };
 }
 
 impl SteadyKeys {
     /// A source that has drawn nothing yet.
     pub fn new(alloc: Global) -> SteadyKeys
-        ensures { result ≡ record { told = Some []; number = 0 } }
+        ensures { result ≡ record { log = Some []; number = 0 } }
     {
         SteadyKeys {
-            told: CallList::new(alloc),
+            log: CallList::new(alloc),
             number: 0,
         }
     }
 
-    /// Whether the source still tells its list.
+    /// Whether the source still keeps its log.
     pub fn tells(&self) -> bool
-        ensures { IsTrue result ↔ IsSome self.now.told }
+        ensures { IsTrue result ↔ IsSome self.now.log }
     {
-        self.told.tells()
+        self.log.tells()
     }
 }
 
 impl KeySource for SteadyKeys {
     ghost use Rattle.std.specs.Prelude.{◌≡◌, IfOk, IsOk};
-    ghost use Rattle.relay_outside.specs.Told.{Gains, HasCause};
+    ghost use Rattle.relay_outside.specs.DeviceLogs.{Gains, HasCause};
     ghost use Rattle.relay_outside.specs.Keys.{drawn_as};
     ghost use Rattle.relay_outside.specs.KeyTape.{numbered_key};
     ghost use Rattle.relay_outside.specs.Failures.{next_count};
 
-    ghost told = { λ keys. keys.told };
+    ghost log = { λ keys. keys.log };
 
     ghost faults = { λ keys. 0 };
 
     fn draw(&mut self) -> Result<KeyAndSalt, Failed>
-        ensures told { Gains self.old.told self.new.told (drawn_as result) }
+        ensures log { Gains self.old.log self.new.log (drawn_as result) }
         ensures cause { HasCause 0 0 result }
         ensures done { IsOk result }
         ensures key { IfOk result (λ key. key ≡ numbered_key self.old.number) }
@@ -67,7 +67,7 @@ impl KeySource for SteadyKeys {
         let mut key = [0; 30];
         key[..8].copy_from_slice(&self.number.to_le_bytes());
         self.number = self.number.saturating_add(1);
-        self.told.note(Some(KeyCall::Drawn { key }));
+        self.log.note(Some(KeyCall::Drawn { key }));
         Ok(key)
     }
 }
@@ -79,7 +79,7 @@ impl KeySource for SteadyKeys {
 /// A draw that fails both by its number and since no key is left counts one fault.
 #[derive(Drop)]
 pub struct KeyList {
-    told: CallList<KeyCall>,
+    log: CallList<KeyCall>,
     keys: Vec<KeyAndSalt>,
     next: usize,
     failing: Failing,
@@ -91,58 +91,58 @@ impl Model for KeyList {
 
     ghost Value = { KeyState };
 
-    ghost view = { λ list. record { told = list.told; keys = drop list.next list.keys.items; failures = list.failing } };
+    ghost view = { λ list. record { log = list.log; keys = drop list.next list.keys.items; failures = list.failing } };
 }
 
 impl KeyList {
     /// A source of these keys, whose draws with these numbers fail.
     pub fn new(alloc: Global, keys: Vec<KeyAndSalt>, failing: Vec<u64>) -> KeyList
-        ensures { result ≡ record { told = Some []; keys = keys.items; failures = uncalled failing.items } }
+        ensures { result ≡ record { log = Some []; keys = keys.items; failures = uncalled failing.items } }
     {
         KeyList {
-            told: CallList::new(alloc),
+            log: CallList::new(alloc),
             keys,
             next: 0,
             failing: Failing::new(failing),
         }
     }
 
-    /// Whether the source still tells its list.
+    /// Whether the source still keeps its log.
     pub fn tells(&self) -> bool
-        ensures { IsTrue result ↔ IsSome self.now.told }
+        ensures { IsTrue result ↔ IsSome self.now.log }
     {
-        self.told.tells()
+        self.log.tells()
     }
 }
 
 impl KeySource for KeyList {
     ghost use Rattle.std.specs.Prelude.{◌≡◌, MatchResult, not};
-    ghost use Rattle.relay_outside.specs.Told.{Gains, HasCause, is_done};
+    ghost use Rattle.relay_outside.specs.DeviceLogs.{Gains, HasCause, is_done};
     ghost use Rattle.relay_outside.specs.Keys.{drawn_as};
     ghost use Rattle.relay_outside.specs.KeyTape.{draw_fails, after_draw, GivesKey};
 
-    ghost told = { λ list. list.told };
+    ghost log = { λ list. list.log };
 
     ghost faults = { λ list. list.failures.faults };
 
     fn draw(&mut self) -> Result<KeyAndSalt, Failed>
-        ensures told { Gains self.old.told self.new.told (drawn_as result) }
+        ensures log { Gains self.old.log self.new.log (drawn_as result) }
         ensures cause { HasCause self.old.failures.faults self.new.failures.faults result }
         ensures fails { draw_fails self.old.keys self.old.failures ≡ not (is_done result) }
         ensures counted { self.new.failures ≡ after_draw self.old.keys self.old.failures }
         ensures key { MatchResult result (λ key. GivesKey self.old.keys self.new.keys key) (λ _. self.new.keys ≡ self.old.keys) }
     {
         if self.failing.fails() {
-            self.told.note(Some(KeyCall::Failed));
+            self.log.note(Some(KeyCall::Failed));
             return Err(Failed);
         }
         let Some(key) = self.keys.get(self.next) else {
             self.failing.fault();
-            self.told.note(Some(KeyCall::Failed));
+            self.log.note(Some(KeyCall::Failed));
             return Err(Failed);
         };
         self.next += 1;
-        self.told.note(Some(KeyCall::Drawn { key: *key }));
+        self.log.note(Some(KeyCall::Drawn { key: *key }));
         Ok(*key)
     }
 }

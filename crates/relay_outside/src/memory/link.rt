@@ -1,5 +1,5 @@
 ghost use Rattle.std.specs.Prelude.{◌≡◌, ◌↔◌, ◌≤◌, ◌<◌, ℕ, List, Option, Some, None, Result, Ok, Err, [], IsTrue, IsSome, IfOk, MatchOption, MatchResult, length};
-ghost use Rattle.relay_outside.specs.Told.{Gains, HasCause, is_done};
+ghost use Rattle.relay_outside.specs.DeviceLogs.{Gains, HasCause, is_done};
 ghost use Rattle.relay_outside.specs.Link.{FitsRoom, link_given, sent_of, sent};
 ghost use Rattle.std.specs.List.{last_or};
 ghost use Rattle.relay_outside.specs.Failures.{next_fails, after_call};
@@ -8,7 +8,7 @@ use super::fill::fill;
 use crate::address::Addr;
 use crate::answers::{Failed, OutOfMemory, Taken};
 use crate::calls::{CallList, Copied};
-use crate::failing::Failing;
+use crate::failures::Failing;
 use crate::link::{ControlLink, LinkCall, LinkGiven};
 use std::alloc::Global;
 use std::marker::Model;
@@ -41,11 +41,11 @@ impl LinkGift {
     }
 }
 
-/// What the two links in memory share: what they tell, and what they give.
+/// What the two links in memory share: their log, and what they give.
 #[derive(Drop)]
 struct Tape {
     alloc: Global,
-    told: CallList<LinkCall>,
+    log: CallList<LinkCall>,
     gifts: Vec<LinkGift>,
     next: usize,
 }
@@ -56,55 +56,55 @@ impl Model for Tape {
 
     ghost Value = { LinkTape };
 
-    ghost view = { λ tape. record { told = tape.told; gifts = drop tape.next tape.gifts.items } };
+    ghost view = { λ tape. record { log = tape.log; gifts = drop tape.next tape.gifts.items } };
 }
 
 impl Tape {
     ghost use Rattle.relay_outside.specs.LinkTape.{GivesGift, last_sent};
 
     fn new(alloc: Global, gifts: Vec<LinkGift>) -> Tape
-        ensures { result ≡ record { told = Some []; gifts = gifts.items } }
+        ensures { result ≡ record { log = Some []; gifts = gifts.items } }
     {
         Tape {
             alloc,
-            told: CallList::new(alloc),
+            log: CallList::new(alloc),
             gifts,
             next: 0,
         }
     }
 
     fn note_bind(&mut self, at: Addr, done: bool)
-        ensures told { Gains self.old.told self.new.told (LinkCall.Bind at done) }
+        ensures log { Gains self.old.log self.new.log (LinkCall.Bind at done) }
         ensures gifts { self.new.gifts ≡ self.old.gifts }
     {
-        self.told.note(Some(LinkCall::Bind { at, done }));
+        self.log.note(Some(LinkCall::Bind { at, done }));
     }
 
     fn note_failed_take(&mut self, room: usize)
-        ensures told { Gains self.old.told self.new.told (LinkCall.Take room LinkGiven.Failed) }
+        ensures log { Gains self.old.log self.new.log (LinkCall.Take room LinkGiven.Failed) }
         ensures gifts { self.new.gifts ≡ self.old.gifts }
     {
         let given = LinkGiven::Failed;
-        self.told.note(Some(LinkCall::Take { room, given }));
+        self.log.note(Some(LinkCall::Take { room, given }));
     }
 
     fn note_send(&mut self, to: Addr, bytes: &[u8], done: bool)
-        ensures told { Gains self.old.told self.new.told (LinkCall.Send to bytes.now done) }
+        ensures log { Gains self.old.log self.new.log (LinkCall.Send to bytes.now done) }
         ensures gifts { self.new.gifts ≡ self.old.gifts }
     {
         let call = send_call(self.alloc, to, bytes, done);
-        self.told.note(call);
+        self.log.note(call);
     }
 
     fn take(&mut self, buf: &mut [u8]) -> Taken
         ensures within { FitsRoom (Ok result) (length buf.old) }
-        ensures told { Gains self.old.told self.new.told (LinkCall.Take (length buf.old) (link_given (Ok result) buf.new)) }
+        ensures log { Gains self.old.log self.new.log (LinkCall.Take (length buf.old) (link_given (Ok result) buf.new)) }
         ensures gift { GivesGift self.old.gifts self.new.gifts result buf.new }
     {
         let room = buf.len();
         let Some(gift) = self.gifts.get(self.next) else {
             let given = LinkGiven::End;
-            self.told.note(Some(LinkCall::Take { room, given }));
+            self.log.note(Some(LinkCall::Take { room, given }));
             return Taken::End;
         };
         self.next += 1;
@@ -112,27 +112,27 @@ impl Tape {
             LinkGift::Datagram { from, bytes } => {
                 let len = fill(buf, bytes.as_slice());
                 let call = datagram_call(self.alloc, room, *from, &buf[..len]);
-                self.told.note(call);
+                self.log.note(call);
                 Taken::Datagram { from: *from, len }
             }
             LinkGift::Nothing => {
                 let given = LinkGiven::Nothing;
-                self.told.note(Some(LinkCall::Take { room, given }));
+                self.log.note(Some(LinkCall::Take { room, given }));
                 Taken::Nothing
             }
             LinkGift::End => {
                 self.next = self.gifts.len();
                 let given = LinkGiven::End;
-                self.told.note(Some(LinkCall::Take { room, given }));
+                self.log.note(Some(LinkCall::Take { room, given }));
                 Taken::End
             }
         }
     }
 
     fn last_sent(&self) -> Option<(Addr, &[u8])>
-        ensures { MatchOption result (last_sent self.now.told ≡ None) (λ sent. last_sent self.now.told ≡ Some (sent.0, sent.1.now)) }
+        ensures { MatchOption result (last_sent self.now.log ≡ None) (λ sent. last_sent self.now.log ≡ Some (sent.0, sent.1.now)) }
     {
-        let calls = self.told.get()?;
+        let calls = self.log.get()?;
         last_sent_of(calls)
     }
 }
@@ -206,7 +206,7 @@ impl Model for MemoryLink {
 
     ghost Value = { LinkState };
 
-    ghost view = { λ link. record { told = link.tape.told; gifts = link.tape.gifts; failures = link.failing } };
+    ghost view = { λ link. record { log = link.tape.log; gifts = link.tape.gifts; failures = link.failing } };
 }
 
 impl MemoryLink {
@@ -214,7 +214,7 @@ impl MemoryLink {
 
     /// A link whose takes give these, and whose calls with these numbers fail.
     pub fn new(alloc: Global, gifts: Vec<LinkGift>, failing: Vec<u64>) -> MemoryLink
-        ensures { result ≡ record { told = Some []; gifts = gifts.items; failures = record { numbers = failing.items; calls = 0; faults = 0 } } }
+        ensures { result ≡ record { log = Some []; gifts = gifts.items; failures = record { numbers = failing.items; calls = 0; faults = 0 } } }
     {
         MemoryLink {
             tape: Tape::new(alloc, gifts),
@@ -222,16 +222,16 @@ impl MemoryLink {
         }
     }
 
-    /// Whether the link still tells its list.
+    /// Whether the link still keeps its log.
     pub fn tells(&self) -> bool
-        ensures { IsTrue result ↔ IsSome self.now.told }
+        ensures { IsTrue result ↔ IsSome self.now.log }
     {
-        self.tape.told.tells()
+        self.tape.log.tells()
     }
 
-    /// The last send that returned Ok: `None` where there was none, or the link tells nothing any more.
+    /// The last send that returned Ok: `None` where there was none, or the link keeps no log any more.
     pub fn last_sent(&self) -> Option<(Addr, &[u8])>
-        ensures { MatchOption result (last_sent self.now.told ≡ None) (λ sent. last_sent self.now.told ≡ Some (sent.0, sent.1.now)) }
+        ensures { MatchOption result (last_sent self.now.log ≡ None) (λ sent. last_sent self.now.log ≡ Some (sent.0, sent.1.now)) }
     {
         self.tape.last_sent()
     }
@@ -239,17 +239,17 @@ impl MemoryLink {
 
 impl ControlLink for MemoryLink {
     ghost use Rattle.std.specs.Prelude.{◌≡◌, ◌<◌, length, MatchResult, not};
-    ghost use Rattle.relay_outside.specs.Told.{Gains, HasCause, is_done};
+    ghost use Rattle.relay_outside.specs.DeviceLogs.{Gains, HasCause, is_done};
     ghost use Rattle.relay_outside.specs.Link.{FitsRoom, link_given};
     ghost use Rattle.relay_outside.specs.LinkTape.{GivesGift};
     ghost use Rattle.relay_outside.specs.Failures.{next_fails, after_call};
 
-    ghost told = { λ link. link.told };
+    ghost log = { λ link. link.log };
 
     ghost faults = { λ link. link.failures.faults };
 
     fn bind(&mut self, at: Addr) -> Result<(), Failed>
-        ensures told { Gains self.old.told self.new.told (LinkCall.Bind at (is_done result)) }
+        ensures log { Gains self.old.log self.new.log (LinkCall.Bind at (is_done result)) }
         ensures cause { HasCause self.old.failures.faults self.new.failures.faults result }
         ensures fails { next_fails self.old.failures ≡ not (is_done result) }
         ensures counted { self.new.failures ≡ after_call self.old.failures }
@@ -266,7 +266,7 @@ impl ControlLink for MemoryLink {
     fn take(&mut self, buf: &mut [u8]) -> Result<Taken, Failed>
         requires { 0 < length buf.old }
         ensures within { FitsRoom result (length buf.old) }
-        ensures told { Gains self.old.told self.new.told (LinkCall.Take (length buf.old) (link_given result buf.new)) }
+        ensures log { Gains self.old.log self.new.log (LinkCall.Take (length buf.old) (link_given result buf.new)) }
         ensures cause { HasCause self.old.failures.faults self.new.failures.faults result }
         ensures fails { next_fails self.old.failures ≡ not (is_done result) }
         ensures counted { self.new.failures ≡ after_call self.old.failures }
@@ -280,7 +280,7 @@ impl ControlLink for MemoryLink {
     }
 
     fn send(&mut self, to: Addr, bytes: &[u8]) -> Result<(), Failed>
-        ensures told { Gains self.old.told self.new.told (LinkCall.Send to bytes.now (is_done result)) }
+        ensures log { Gains self.old.log self.new.log (LinkCall.Send to bytes.now (is_done result)) }
         ensures cause { HasCause self.old.failures.faults self.new.failures.faults result }
         ensures fails { next_fails self.old.failures ≡ not (is_done result) }
         ensures counted { self.new.failures ≡ after_call self.old.failures }
@@ -315,23 +315,23 @@ impl SteadyLink {
 
     /// A link whose takes give these.
     pub fn new(alloc: Global, gifts: Vec<LinkGift>) -> SteadyLink
-        ensures { result ≡ record { told = Some []; gifts = gifts.items } }
+        ensures { result ≡ record { log = Some []; gifts = gifts.items } }
     {
         SteadyLink {
             tape: Tape::new(alloc, gifts),
         }
     }
 
-    /// Whether the link still tells its list.
+    /// Whether the link still keeps its log.
     pub fn tells(&self) -> bool
-        ensures { IsTrue result ↔ IsSome self.now.told }
+        ensures { IsTrue result ↔ IsSome self.now.log }
     {
-        self.tape.told.tells()
+        self.tape.log.tells()
     }
 
-    /// The last send: `None` where there was none, or the link tells nothing any more.
+    /// The last send: `None` where there was none, or the link keeps no log any more.
     pub fn last_sent(&self) -> Option<(Addr, &[u8])>
-        ensures { MatchOption result (last_sent self.now.told ≡ None) (λ sent. last_sent self.now.told ≡ Some (sent.0, sent.1.now)) }
+        ensures { MatchOption result (last_sent self.now.log ≡ None) (λ sent. last_sent self.now.log ≡ Some (sent.0, sent.1.now)) }
     {
         self.tape.last_sent()
     }
@@ -339,16 +339,16 @@ impl SteadyLink {
 
 impl ControlLink for SteadyLink {
     ghost use Rattle.std.specs.Prelude.{◌≡◌, ◌<◌, length, IfOk, IsOk};
-    ghost use Rattle.relay_outside.specs.Told.{Gains, HasCause, is_done};
+    ghost use Rattle.relay_outside.specs.DeviceLogs.{Gains, HasCause, is_done};
     ghost use Rattle.relay_outside.specs.Link.{FitsRoom, link_given};
     ghost use Rattle.relay_outside.specs.LinkTape.{GivesGift};
 
-    ghost told = { λ link. link.told };
+    ghost log = { λ link. link.log };
 
     ghost faults = { λ link. 0 };
 
     fn bind(&mut self, at: Addr) -> Result<(), Failed>
-        ensures told { Gains self.old.told self.new.told (LinkCall.Bind at (is_done result)) }
+        ensures log { Gains self.old.log self.new.log (LinkCall.Bind at (is_done result)) }
         ensures cause { HasCause 0 0 result }
         ensures done { IsOk result }
         ensures gifts { self.new.gifts ≡ self.old.gifts }
@@ -360,7 +360,7 @@ impl ControlLink for SteadyLink {
     fn take(&mut self, buf: &mut [u8]) -> Result<Taken, Failed>
         requires { 0 < length buf.old }
         ensures within { FitsRoom result (length buf.old) }
-        ensures told { Gains self.old.told self.new.told (LinkCall.Take (length buf.old) (link_given result buf.new)) }
+        ensures log { Gains self.old.log self.new.log (LinkCall.Take (length buf.old) (link_given result buf.new)) }
         ensures cause { HasCause 0 0 result }
         ensures done { IsOk result }
         ensures gift { IfOk result (λ taken. GivesGift self.old.gifts self.new.gifts taken buf.new) }
@@ -369,7 +369,7 @@ impl ControlLink for SteadyLink {
     }
 
     fn send(&mut self, to: Addr, bytes: &[u8]) -> Result<(), Failed>
-        ensures told { Gains self.old.told self.new.told (LinkCall.Send to bytes.now (is_done result)) }
+        ensures log { Gains self.old.log self.new.log (LinkCall.Send to bytes.now (is_done result)) }
         ensures cause { HasCause 0 0 result }
         ensures done { IsOk result }
         ensures gifts { self.new.gifts ≡ self.old.gifts }

@@ -1,5 +1,5 @@
 ghost use Rattle.std.specs.Prelude.{◌≡◌, ◌↔◌, ◌≤◌, ◌<◌, ℕ, true, Some, None, Ok, [], List, IsTrue, IsSome, IsOk, IfOk, MatchOption, position, drop, length};
-ghost use Rattle.relay_outside.specs.Told.{Gains, EndGains, opened_for};
+ghost use Rattle.relay_outside.specs.DeviceLogs.{Gains, EndGains, opened_for};
 ghost use Rattle.relay_outside.specs.Ports.{FitsTake, in_given, same_addr};
 ghost use Rattle.relay_outside.specs.PortTape.{GivesPacket, Moves, GoesBack};
 
@@ -67,7 +67,7 @@ fn departure_call(alloc: Global, to: Addr, bytes: &[u8], done: bool) -> Option<O
 pub struct SteadyIn {
     alloc: Global,
     at: Addr,
-    told: CallList<InCall>,
+    log: CallList<InCall>,
     packets: Vec<Packet>,
     next: usize,
 }
@@ -78,19 +78,19 @@ impl Model for SteadyIn {
 
     ghost Value = { InTape };
 
-    ghost view = { λ end. record { told = record { at = end.at; calls = end.told }; packets = drop end.next end.packets.items } };
+    ghost view = { λ end. record { log = record { at = end.at; calls = end.log }; packets = drop end.next end.packets.items } };
 }
 
 impl SteadyIn {
     /// An end for an address that was not called yet, with the packets from a place on.
     pub(super) fn with(alloc: Global, at: Addr, packets: Vec<Packet>, next: usize) -> SteadyIn
-        ensures told { result.told ≡ opened_for at }
+        ensures log { result.log ≡ opened_for at }
         ensures packets { result.packets ≡ drop next packets.items }
     {
         SteadyIn {
             alloc,
             at,
-            told: CallList::new(alloc),
+            log: CallList::new(alloc),
             packets,
             next,
         }
@@ -103,31 +103,31 @@ impl SteadyIn {
         self.next < self.packets.len()
     }
 
-    /// What the end told, and the end with a new list in its place.
+    /// The end's log, and the end with a new one in its place.
     pub(super) fn without_list(self, alloc: Global) -> (CallList<InCall>, SteadyIn)
-        ensures list { result.0 ≡ self.told.calls }
+        ensures list { result.0 ≡ self.log.calls }
         ensures packets { result.1.packets ≡ self.packets }
     {
         let SteadyIn {
             alloc: _,
             at,
-            told,
+            log,
             packets,
             next,
         } = self;
-        (told, SteadyIn::with(alloc, at, packets, next))
+        (log, SteadyIn::with(alloc, at, packets, next))
     }
 
-    /// Gives the next packet, if there is one, and tells of it.
+    /// Gives the next packet, if there is one, and logs it.
     pub(super) fn give(&mut self, buf: &mut [u8]) -> Option<(Addr, usize)>
         ensures within { FitsTake (Ok result) (length buf.old) }
-        ensures told { EndGains self.old.told self.new.told (InCall.Take (length buf.old) (in_given (Ok result) buf.new)) }
+        ensures log { EndGains self.old.log self.new.log (InCall.Take (length buf.old) (in_given (Ok result) buf.new)) }
         ensures packet { GivesPacket self.old.packets self.new.packets result buf.new }
     {
         let room = buf.len();
         let Some(packet) = self.packets.get(self.next) else {
             let given = InGiven::Nothing;
-            self.told.note(Some(InCall::Take { room, given }));
+            self.log.note(Some(InCall::Take { room, given }));
             return None;
         };
         self.next += 1;
@@ -135,12 +135,12 @@ impl SteadyIn {
             Packet::Datagram { from, bytes } => {
                 let len = fill(buf, bytes.as_slice());
                 let call = arrival_call(self.alloc, room, *from, &buf[..len]);
-                self.told.note(call);
+                self.log.note(call);
                 Some((*from, len))
             }
             Packet::Nothing => {
                 let given = InGiven::Nothing;
-                self.told.note(Some(InCall::Take { room, given }));
+                self.log.note(Some(InCall::Take { room, given }));
                 None
             }
         }
@@ -148,35 +148,35 @@ impl SteadyIn {
 
     /// Tells of a take that failed.
     pub(super) fn note_failed(&mut self, room: usize)
-        ensures told { EndGains self.old.told self.new.told (InCall.Take room InGiven.Failed) }
+        ensures log { EndGains self.old.log self.new.log (InCall.Take room InGiven.Failed) }
         ensures packets { self.new.packets ≡ self.old.packets }
     {
         let given = InGiven::Failed;
-        self.told.note(Some(InCall::Take { room, given }));
+        self.log.note(Some(InCall::Take { room, given }));
     }
 
-    /// Whether the end still tells its list.
+    /// Whether the end still keeps its log.
     pub fn tells(&self) -> bool
-        ensures { IsTrue result ↔ IsSome self.now.told.calls }
+        ensures { IsTrue result ↔ IsSome self.now.log.calls }
     {
-        self.told.tells()
+        self.log.tells()
     }
 }
 
 impl InEnd for SteadyIn {
     ghost use Rattle.std.specs.Prelude.{◌≡◌, ◌<◌, IfOk, IsOk, length};
-    ghost use Rattle.relay_outside.specs.Told.{EndGains, HasCause};
+    ghost use Rattle.relay_outside.specs.DeviceLogs.{EndGains, HasCause};
     ghost use Rattle.relay_outside.specs.Ports.{FitsTake, in_given};
     ghost use Rattle.relay_outside.specs.PortTape.{GivesPacket};
 
-    ghost told = { λ end. end.told };
+    ghost log = { λ end. end.log };
 
     ghost faults = { λ end. 0 };
 
     fn take(&mut self, buf: &mut [u8]) -> Result<Option<(Addr, usize)>, Failed>
         requires { 0 < length buf.old }
         ensures within { FitsTake result (length buf.old) }
-        ensures told { EndGains self.old.told self.new.told (InCall.Take (length buf.old) (in_given result buf.new)) }
+        ensures log { EndGains self.old.log self.new.log (InCall.Take (length buf.old) (in_given result buf.new)) }
         ensures cause { HasCause 0 0 result }
         ensures done { IsOk result }
         ensures packet { IfOk result (λ answer. GivesPacket self.old.packets self.new.packets answer buf.new) }
@@ -190,16 +190,16 @@ impl InEnd for SteadyIn {
 pub struct SteadyOut {
     alloc: Global,
     at: Addr,
-    told: CallList<OutCall>,
+    log: CallList<OutCall>,
 }
 
 impl Model for SteadyOut {
-    ghost use Rattle.relay_outside.specs.Told.{EndTold};
+    ghost use Rattle.relay_outside.specs.DeviceLogs.{EndLog};
     ghost use Rattle.relay_outside.specs.declared.ports.OutCall.{OutCall};
 
-    ghost Value = { EndTold OutCall };
+    ghost Value = { EndLog OutCall };
 
-    ghost view = { λ end. record { at = end.at; calls = end.told } };
+    ghost view = { λ end. record { at = end.at; calls = end.log } };
 }
 
 impl SteadyOut {
@@ -210,7 +210,7 @@ impl SteadyOut {
         SteadyOut {
             alloc,
             at,
-            told: CallList::new(alloc),
+            log: CallList::new(alloc),
         }
     }
 
@@ -219,7 +219,7 @@ impl SteadyOut {
         ensures { EndGains self.old self.new (OutCall.Send to bytes.now done) }
     {
         let call = departure_call(self.alloc, to, bytes, done);
-        self.told.note(call);
+        self.log.note(call);
     }
 
     /// The address that the end was opened for.
@@ -229,36 +229,36 @@ impl SteadyOut {
         self.at
     }
 
-    /// What the end told.
+    /// The end's log.
     pub(super) fn into_list(self) -> CallList<OutCall>
         ensures { result ≡ self.calls }
     {
         let SteadyOut {
             alloc: _,
             at: _,
-            told,
+            log,
         } = self;
-        told
+        log
     }
 
-    /// Whether the end still tells its list.
+    /// Whether the end still keeps its log.
     pub fn tells(&self) -> bool
         ensures { IsTrue result ↔ IsSome self.now.calls }
     {
-        self.told.tells()
+        self.log.tells()
     }
 }
 
 impl OutEnd for SteadyOut {
     ghost use Rattle.std.specs.Prelude.{◌≡◌, IsOk};
-    ghost use Rattle.relay_outside.specs.Told.{EndGains, HasCause, is_done};
+    ghost use Rattle.relay_outside.specs.DeviceLogs.{EndGains, HasCause, is_done};
 
-    ghost told = { λ end. end };
+    ghost log = { λ end. end };
 
     ghost faults = { λ end. 0 };
 
     fn send(&mut self, to: Addr, bytes: &[u8]) -> Result<(), Failed>
-        ensures told { EndGains self.old self.new (OutCall.Send to bytes.now (is_done result)) }
+        ensures log { EndGains self.old self.new (OutCall.Send to bytes.now (is_done result)) }
         ensures cause { HasCause 0 0 result }
         ensures done { IsOk result }
     {
@@ -303,7 +303,7 @@ impl Arrivals {
 
     /// An in end for an address with these packets, of which none are left here.
     pub(super) fn move_out(&mut self, alloc: Global, at: Addr) -> SteadyIn
-        ensures told { result.told ≡ opened_for at }
+        ensures log { result.log ≡ opened_for at }
         ensures packets { result.packets ≡ self.old.1 }
         ensures left { self.new ≡ (self.old.0, []) }
     {
@@ -320,7 +320,7 @@ impl Arrivals {
         let SteadyIn {
             alloc: _,
             at: _,
-            told: _,
+            log: _,
             packets,
             next,
         } = receiving;
@@ -352,7 +352,7 @@ fn find(arrivals: &[Arrivals], at: Addr) -> Option<usize>
 #[derive(Drop)]
 pub struct SteadyMaker {
     alloc: Global,
-    told: CallList<PortCall>,
+    log: CallList<PortCall>,
     arrivals: Vec<Arrivals>,
 }
 
@@ -361,32 +361,32 @@ impl Model for SteadyMaker {
 
     ghost Value = { MakerTape };
 
-    ghost view = { λ maker. record { told = maker.told; arrivals = maker.arrivals.items } };
+    ghost view = { λ maker. record { log = maker.log; arrivals = maker.arrivals.items } };
 }
 
 impl SteadyMaker {
     /// A maker whose ends are to give these packets.
     pub fn new(alloc: Global, arrivals: Vec<Arrivals>) -> SteadyMaker
-        ensures { result ≡ record { told = Some []; arrivals = arrivals.items } }
+        ensures { result ≡ record { log = Some []; arrivals = arrivals.items } }
     {
         SteadyMaker {
             alloc,
-            told: CallList::new(alloc),
+            log: CallList::new(alloc),
             arrivals,
         }
     }
 
-    /// Whether the maker still tells its list.
+    /// Whether the maker still keeps its log.
     pub fn tells(&self) -> bool
-        ensures { IsTrue result ↔ IsSome self.now.told }
+        ensures { IsTrue result ↔ IsSome self.now.log }
     {
-        self.told.tells()
+        self.log.tells()
     }
 }
 
 /// An in end with the packets of the first entry for its address, which is left without any.
 fn arriving(alloc: Global, arrivals: &mut Vec<Arrivals>, at: Addr) -> SteadyIn
-    ensures told { result.told ≡ opened_for at }
+    ensures log { result.log ≡ opened_for at }
     ensures moved { Moves arrivals.old.items at result.packets arrivals.new.items }
 {
     let Some(index) = find(arrivals.as_slice(), at) else {
@@ -416,18 +416,18 @@ impl PortMaker for SteadyMaker {
     type Out = SteadyOut;
 
     ghost use Rattle.std.specs.Prelude.{◌≡◌, ◌≤◌, IfOk, IsOk};
-    ghost use Rattle.relay_outside.specs.Told.{Gains, HasCause, IsOpenedFor, WhereTold, is_done};
+    ghost use Rattle.relay_outside.specs.DeviceLogs.{Gains, HasCause, IsOpenedFor, WhereLogged, is_done};
     ghost use Rattle.relay_outside.specs.Ports.{IsOpen};
     ghost use Rattle.relay_outside.specs.PortTape.{Moves, GoesBack};
 
-    ghost told = { λ maker. maker.told };
+    ghost log = { λ maker. maker.log };
 
     ghost faults = { λ maker. 0 };
 
     fn open(&mut self, at: Addr) -> Result<(SteadyIn, SteadyOut), Failed>
-        requires { WhereTold self.old.told (λ calls. IsOpen calls at → ⊥) }
-        ensures told { Gains self.old.told self.new.told (PortCall.Open at (is_done result)) }
-        ensures receiving { IfOk result (λ ends. IsOpenedFor at ends.0.told) }
+        requires { WhereLogged self.old.log (λ calls. IsOpen calls at → ⊥) }
+        ensures log { Gains self.old.log self.new.log (PortCall.Open at (is_done result)) }
+        ensures receiving { IfOk result (λ ends. IsOpenedFor at ends.0.log) }
         ensures sending { IfOk result (λ ends. IsOpenedFor at ends.1) }
         ensures cause { HasCause 0 0 result }
         ensures done { IsOk result }
@@ -435,20 +435,20 @@ impl PortMaker for SteadyMaker {
     {
         let receiving = arriving(self.alloc, &mut self.arrivals, at);
         let sending = SteadyOut::new(self.alloc, at);
-        self.told.note(Some(PortCall::Open { at, done: true }));
+        self.log.note(Some(PortCall::Open { at, done: true }));
         Ok((receiving, sending))
     }
 
     fn close(&mut self, at: Addr, receiving: SteadyIn, sending: SteadyOut)
-        requires open { WhereTold self.old.told (λ calls. IsOpen calls at) }
-        requires ends { (receiving.told.at ≡ at) × (sending.at ≡ at) }
-        ensures told { Gains self.old.told self.new.told (PortCall.Close at receiving.told.calls sending.calls) }
+        requires open { WhereLogged self.old.log (λ calls. IsOpen calls at) }
+        requires ends { (receiving.log.at ≡ at) × (sending.at ≡ at) }
+        ensures log { Gains self.old.log self.new.log (PortCall.Close at receiving.log.calls sending.calls) }
         ensures later { 0 ≤ 0 }
         ensures back { GoesBack self.old.arrivals at receiving.packets self.new.arrivals }
     {
         let sent = sending.into_list();
         let (taken, receiving) = receiving.without_list(self.alloc);
-        self.told.note(Some(PortCall::Close { at, taken, sent }));
+        self.log.note(Some(PortCall::Close { at, taken, sent }));
         give_back(&mut self.arrivals, at, receiving);
     }
 }

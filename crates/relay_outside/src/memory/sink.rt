@@ -1,10 +1,10 @@
 ghost use Rattle.std.specs.Prelude.{◌≡◌, ◌↔◌, Some, [], not, IsTrue, IsSome, IsOk, MatchOption};
-ghost use Rattle.relay_outside.specs.Told.{Gains, HasCause, is_done};
+ghost use Rattle.relay_outside.specs.DeviceLogs.{Gains, HasCause, is_done};
 ghost use Rattle.relay_outside.specs.Failures.{next_fails, after_call};
 
 use crate::answers::Failed;
 use crate::calls::{CallList, Copied};
-use crate::failing::Failing;
+use crate::failures::Failing;
 use crate::lines::{LineSink, WriteCall};
 use std::alloc::Global;
 use std::marker::Model;
@@ -24,7 +24,7 @@ fn write_call(alloc: Global, line: &[u8], done: bool) -> Option<WriteCall>
 #[derive(Drop)]
 pub struct MemorySink {
     alloc: Global,
-    told: CallList<WriteCall>,
+    log: CallList<WriteCall>,
     failing: Failing,
 }
 
@@ -33,54 +33,54 @@ impl Model for MemorySink {
 
     ghost Value = { SinkState };
 
-    ghost view = { λ sink. record { told = sink.told; failures = sink.failing } };
+    ghost view = { λ sink. record { log = sink.log; failures = sink.failing } };
 }
 
 impl MemorySink {
     /// A sink whose writes with these numbers fail.
     pub fn new(alloc: Global, failing: Vec<u64>) -> MemorySink
-        ensures { result ≡ record { told = Some []; failures = record { numbers = failing.items; calls = 0; faults = 0 } } }
+        ensures { result ≡ record { log = Some []; failures = record { numbers = failing.items; calls = 0; faults = 0 } } }
     {
         MemorySink {
             alloc,
-            told: CallList::new(alloc),
+            log: CallList::new(alloc),
             failing: Failing::new(failing),
         }
     }
 
-    /// Whether the sink still tells its list.
+    /// Whether the sink still keeps its log.
     pub fn tells(&self) -> bool
-        ensures { IsTrue result ↔ IsSome self.now.told }
+        ensures { IsTrue result ↔ IsSome self.now.log }
     {
-        self.told.tells()
+        self.log.tells()
     }
 
-    /// The writes in their order, where they are told.
+    /// The writes in their order, where they are logged.
     pub fn calls(&self) -> Option<&[WriteCall]>
-        ensures { MatchOption result (self.now.told ≡ None) (λ calls. self.now.told ≡ Some calls.now) }
+        ensures { MatchOption result (self.now.log ≡ None) (λ calls. self.now.log ≡ Some calls.now) }
     {
-        self.told.get()
+        self.log.get()
     }
 }
 
 impl LineSink for MemorySink {
     ghost use Rattle.std.specs.Prelude.{◌≡◌, not};
-    ghost use Rattle.relay_outside.specs.Told.{Gains, HasCause, is_done};
+    ghost use Rattle.relay_outside.specs.DeviceLogs.{Gains, HasCause, is_done};
     ghost use Rattle.relay_outside.specs.Failures.{next_fails, after_call};
 
-    ghost told = { λ sink. sink.told };
+    ghost log = { λ sink. sink.log };
 
     ghost faults = { λ sink. sink.failures.faults };
 
     fn write(&mut self, line: &[u8]) -> Result<(), Failed>
-        ensures told { Gains self.old.told self.new.told (WriteCall.Write line.now (is_done result)) }
+        ensures log { Gains self.old.log self.new.log (WriteCall.Write line.now (is_done result)) }
         ensures cause { HasCause self.old.failures.faults self.new.failures.faults result }
         ensures fails { next_fails self.old.failures ≡ not (is_done result) }
         ensures counted { self.new.failures ≡ after_call self.old.failures }
     {
         let fails = self.failing.fails();
         let call = write_call(self.alloc, line, !fails);
-        self.told.note(call);
+        self.log.note(call);
         if fails {
             return Err(Failed);
         }
@@ -92,7 +92,7 @@ impl LineSink for MemorySink {
 #[derive(Drop)]
 pub struct SteadySink {
     alloc: Global,
-    told: CallList<WriteCall>,
+    log: CallList<WriteCall>,
 }
 
 impl Model for SteadySink {
@@ -101,7 +101,7 @@ impl Model for SteadySink {
 
     ghost Value = { Option (List WriteCall) };
 
-    ghost view = { λ sink. sink.told };
+    ghost view = { λ sink. sink.log };
 }
 
 impl SteadySink {
@@ -111,40 +111,40 @@ impl SteadySink {
     {
         SteadySink {
             alloc,
-            told: CallList::new(alloc),
+            log: CallList::new(alloc),
         }
     }
 
-    /// Whether the sink still tells its list.
+    /// Whether the sink still keeps its log.
     pub fn tells(&self) -> bool
         ensures { IsTrue result ↔ IsSome self.now }
     {
-        self.told.tells()
+        self.log.tells()
     }
 
-    /// The writes in their order, where they are told.
+    /// The writes in their order, where they are logged.
     pub fn calls(&self) -> Option<&[WriteCall]>
         ensures { MatchOption result (self.now ≡ None) (λ calls. self.now ≡ Some calls.now) }
     {
-        self.told.get()
+        self.log.get()
     }
 }
 
 impl LineSink for SteadySink {
     ghost use Rattle.std.specs.Prelude.{◌≡◌, IsOk};
-    ghost use Rattle.relay_outside.specs.Told.{Gains, HasCause, is_done};
+    ghost use Rattle.relay_outside.specs.DeviceLogs.{Gains, HasCause, is_done};
 
-    ghost told = { λ sink. sink };
+    ghost log = { λ sink. sink };
 
     ghost faults = { λ sink. 0 };
 
     fn write(&mut self, line: &[u8]) -> Result<(), Failed>
-        ensures told { Gains self.old self.new (WriteCall.Write line.now (is_done result)) }
+        ensures log { Gains self.old self.new (WriteCall.Write line.now (is_done result)) }
         ensures cause { HasCause 0 0 result }
         ensures done { IsOk result }
     {
         let call = write_call(self.alloc, line, true);
-        self.told.note(call);
+        self.log.note(call);
         Ok(())
     }
 }

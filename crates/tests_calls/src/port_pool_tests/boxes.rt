@@ -118,7 +118,7 @@ fn broken(at: Addr) -> BrokenIn {
 }
 
 impl InEnd for BrokenIn {
-    ghost told = { λ end. record { at = end.at; calls = None } };
+    ghost log = { λ end. record { at = end.at; calls = None } };
 
     ghost faults = { λ end. end.faults };
 

@@ -2,7 +2,7 @@ use crate::two_pairs::two_pairs;
 use port_pool::{Lease, Leases, Pool};
 
 /// The pair, the port and the generation of a lease.
-fn told(lease: &Lease) -> (u32, u16, u64) {
+fn log(lease: &Lease) -> (u32, u16, u64) {
     (lease.pair(), lease.rtp_port(), lease.generation())
 }
 
@@ -13,7 +13,7 @@ fn pairs_are_leased_in_the_order_in_which_they_became_free(rt: HostRuntime) {
     let (Some(first), Some(second)) = (pool.lease(), pool.lease()) else {
         panic!(rt; "two pairs are free");
     };
-    assert!(rt; told(&first) == (0, 30_000, 1) && told(&second) == (1, 30_002, 1));
+    assert!(rt; log(&first) == (0, 30_000, 1) && log(&second) == (1, 30_002, 1));
     assert!(rt; pool.lease().is_none(), "none is free");
     pool.give_back(second);
     pool.give_back(first);
@@ -21,7 +21,7 @@ fn pairs_are_leased_in_the_order_in_which_they_became_free(rt: HostRuntime) {
     let Some(again) = pool.lease() else {
         panic!(rt; "two pairs are free again");
     };
-    assert!(rt; told(&again) == (1, 30_002, 2));
+    assert!(rt; log(&again) == (1, 30_002, 2));
 }
 
 #[test]

@@ -19,13 +19,13 @@ fn report(side: Side, port: u16) -> LegReport {
 
 #[test]
 fn reports_stand_in_the_order_in_which_they_came(rt: HostRuntime) {
-    let Ok(mut told) = LegReports::new(rt.alloc()) else {
+    let Ok(mut log) = LegReports::new(rt.alloc()) else {
         panic!(rt; "no memory");
     };
-    told.push(report(Side::A, 30_000));
-    told.push(report(Side::B, 30_002));
-    assert!(rt; told.len() == 2 && told.get(0) == report(Side::A, 30_000));
-    assert!(rt; told.get(1) == report(Side::B, 30_002));
-    told.clear();
-    assert!(rt; told.len() == 0);
+    log.push(report(Side::A, 30_000));
+    log.push(report(Side::B, 30_002));
+    assert!(rt; log.len() == 2 && log.get(0) == report(Side::A, 30_000));
+    assert!(rt; log.get(1) == report(Side::B, 30_002));
+    log.clear();
+    assert!(rt; log.len() == 0);
 }

@@ -1,14 +1,14 @@
 //! What a lane returns while another hand has the turn of a place.
 ghost use Rattle.std.specs.Prelude.{◌≡◌, ◌≤◌};
 ghost use Rattle.turn_table.specs.Hands.{IsHandOf, HasNoTurn, HasTurn, IsSameHand, EndsTurn, starts, place_of, front_of, state_of, taken_of};
-ghost use Rattle.call_cell.specs.Standing.{receipt_of};
-ghost use Rattle.relay_core.specs.Standing.{IsCellPart};
+ghost use Rattle.call_cell.specs.LegHistories.{receipt_of};
+ghost use Rattle.relay_core.specs.PlaceHistories.{IsCellPart};
 ghost use Rattle.relay_core.specs.Steps.{Relates};
-ghost use Rattle.media_lane.specs.Starts.{IsPair, HasLaneStarts};
-ghost use Rattle.media_lane.specs.Lanes.{hand_of, list_of, config_of, sent_of, packet_of, pair_of, IsSameLane};
+ghost use Rattle.media_lane.specs.Starts.{IsPairPart, HasLaneStarts};
+ghost use Rattle.media_lane.specs.Lanes.{hand_of, list_of_lane, lane_config, sent_last, packet_of, pair_of, IsSameLane};
 ghost use Rattle.media_lane.specs.Receipts.{IsReceiptOf};
-ghost use Rattle.media_lane.specs.Taking.{box_take_made};
-ghost use Rattle.media_lane.specs.Relaying.{relay_by, RelaysPart, RelaysBy};
+ghost use Rattle.media_lane.specs.Takes.{box_take_made};
+ghost use Rattle.media_lane.specs.Relays.{relay_by, RelaysPart, RelaysByResult};
 
 use super::{CONFIG, HOLDER, SOURCE};
 use call_cell::{Incoming, Outcome};
@@ -27,8 +27,8 @@ fn take_from<I: InEnd, O: OutEnd>(
     half: Half,
     buf: &mut [u8; 2001],
 ) -> BoxTake
-    requires { IsPair part.old }
-    ensures { Relates I.told I.faults O.told O.faults part.old (box_take_made half result buf.new) part.new }
+    requires { IsPairPart part.old }
+    ensures { Relates I.log I.faults O.log O.faults part.old (box_take_made half result buf.new) part.new }
 {
     match part {
         Part::Pair(held) => held.take(half, buf),
@@ -48,7 +48,7 @@ fn put_take<I: InEnd, O: OutEnd, X: Says>(
 )
     requires table { IsHandOf turns.now hand.old }
     requires turn { HasTurn hand.old turn }
-    requires step { Relates I.told I.faults O.told O.faults (taken_of turn) (box_take_made half given.now buf.now) (state_of turn) }
+    requires step { Relates I.log I.faults O.log O.faults (taken_of turn) (box_take_made half given.now buf.now) (state_of turn) }
     requires said { X.made ≡ box_take_made half given.now buf.now }
     ensures same { IsSameHand hand.old hand.new }
     ensures entry { EndsTurn (place_of turn) (front_of turn) (box_take_made half given.now buf.now) tt hand.old hand.new }
@@ -66,7 +66,7 @@ pub(super) fn receive_beside<I: InEnd, O: OutEnd, R: Wait>(
 ) -> Received
     requires tables { IsHandOf turns.now hand.old × IsHandOf turns.now (hand_of lane.old) }
     requires idle { HasNoTurn hand.old }
-    requires begins { HasLaneStarts CONFIG (starts hand.old) × (config_of lane.old ≡ CONFIG) }
+    requires begins { HasLaneStarts CONFIG (starts hand.old) × (lane_config lane.old ≡ CONFIG) }
     ensures same { IsSameHand hand.old hand.new × IsSameLane lane.old lane.new }
     ensures over { HasNoTurn hand.new }
 {
@@ -89,7 +89,7 @@ fn relay_in<I: InEnd, O: OutEnd>(
 ) -> Outcome
     requires cell { IsCellPart part.old }
     requires short { packet.now.len ≤ 2000 }
-    ensures { RelaysPart O.told O.faults (receipt_of take packet.now bytes.now) now part.old buf.new result part.new }
+    ensures { RelaysPart O.log O.faults (receipt_of take packet.now bytes.now) now part.old buf.new result part.new }
 {
     let len = packet.len;
     buf[..len].copy_from_slice(&bytes[..len]);
@@ -113,7 +113,7 @@ fn put_relay<I: InEnd, O: OutEnd, X: Says>(
 )
     requires table { IsHandOf turns.now hand.old }
     requires turn { HasTurn hand.old turn }
-    requires step { Relates I.told I.faults O.told O.faults (taken_of turn) (relay_by (taken_of turn) (receipt_of take packet.now bytes.now) now outcome) (state_of turn) }
+    requires step { Relates I.log I.faults O.log O.faults (taken_of turn) (relay_by (taken_of turn) (receipt_of take packet.now bytes.now) now outcome) (state_of turn) }
     requires said { X.made ≡ relay_by (taken_of turn) (receipt_of take packet.now bytes.now) now outcome }
     ensures same { IsSameHand hand.old hand.new }
     ensures entry { EndsTurn (place_of turn) (front_of turn) (relay_by (taken_of turn) (receipt_of take packet.now bytes.now) now outcome) tt hand.old hand.new }
@@ -132,10 +132,10 @@ pub(super) fn relay_beside<I: InEnd, O: OutEnd, R: Wait>(
     requires tables { IsHandOf turns.now hand.old × IsHandOf turns.now (hand_of lane.old) }
     requires idle { HasNoTurn hand.old }
     requires begins { HasLaneStarts CONFIG (starts hand.old) }
-    requires receipt { IsReceiptOf (config_of lane.old) (list_of lane.old) (pair_of receipt) (packet_of receipt) }
+    requires receipt { IsReceiptOf (lane_config lane.old) (list_of_lane lane.old) (pair_of receipt) (packet_of receipt) }
     ensures same { IsSameHand hand.old hand.new × IsSameLane lane.old lane.new }
     ensures over { HasNoTurn hand.new }
-    ensures relayed { RelaysBy I.told I.faults O.told O.faults receipt 5 result (sent_of lane.old) (sent_of lane.new) (hand_of lane.old) (hand_of lane.new) }
+    ensures relayed { RelaysByResult I.log I.faults O.log O.faults receipt 5 result (sent_last lane.old) (sent_last lane.new) (hand_of lane.old) (hand_of lane.new) }
 {
     let mut turn = turns.turn(rt, hand, 1);
     let relayed = lane.relay_try(turns, &OpenGate::new(), receipt, 5);

@@ -1,6 +1,6 @@
 ghost use Rattle.std.specs.Prelude.{◌≡◌, ◌∷◌, [], IfOk};
 ghost use Rattle.port_pool.specs.Signals.{NewKey};
-ghost use Rattle.call_cell.specs.Preparing.{IsReady, PrepareFor, added, keys_of, drops_of};
+ghost use Rattle.call_cell.specs.Preparations.{IsReady, PrepareFor, added, prepared_keys, drops_of};
 
 use crate::first_relay::{CONFIG, begin};
 use crate::quiet_devices::Mute;
@@ -16,9 +16,9 @@ use std::alloc::Global;
 
 // An offer without a leg: a key, and a section that is dropped.
 fn offer(alloc: Global) -> Result<Prepare<Mute>, OutOfMemory>
-    ensures tells { IfOk result (λ signal. PrepareFor signal (keys_of signal) (drops_of signal)) }
+    ensures tells { IfOk result (λ signal. PrepareFor signal (prepared_keys signal) (drops_of signal)) }
     ensures ready { IfOk result (λ signal. IsReady signal × (added signal ≡ [])) }
-    ensures keys { IfOk result (λ signal. (key : NewKey) × (keys_of signal ≡ key ∷ [])) }
+    ensures keys { IfOk result (λ signal. (key : NewKey) × (prepared_keys signal ≡ key ∷ [])) }
 {
     let mut signal = Prepare::reserve(alloc, 0, 1)?;
     let key = DrawnKey::from_draw(7, [9; 30]);
@@ -136,7 +136,7 @@ fn a_committed_call_is_due_by_its_last_answer(rt: HostRuntime) {
 #[test]
 fn a_cell_without_a_leg_tells_of_none(rt: HostRuntime) {
     let alloc = rt.alloc();
-    let Ok(mut told) = LegReports::new(alloc) else {
+    let Ok(mut log) = LegReports::new(alloc) else {
         panic!(rt; "no memory");
     };
     let Some((turns, mut hand)) = begin(alloc) else {
@@ -148,7 +148,7 @@ fn a_cell_without_a_leg_tells_of_none(rt: HostRuntime) {
         hand: &mut hand,
         entry_id: at(0, 5),
     };
-    read_cell(&rt, &mut main, 1, &mut told);
+    read_cell(&rt, &mut main, 1, &mut log);
     drop(turns.close(hand));
-    assert!(rt; told.len() == 0);
+    assert!(rt; log.len() == 0);
 }

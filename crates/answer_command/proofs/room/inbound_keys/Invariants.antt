@@ -1,5 +1,5 @@
 use Rattle.std.proofs.Common.{◌≡◌, ◌+◌, drop}
-use Rattle.call_cell.specs.Committing.{inbound_keys}
+use Rattle.call_cell.specs.Commits.{inbound_keys}
 use Rattle.answer_command.proofs.room.inbound_keys.Given as goal
 
 -- the keys of the sections so far, and those of the sections that are left

@@ -1,9 +1,9 @@
 use Rattle.std.proofs.Common.{refl, arith, ◌∙◌, sym, subst}
 use Rattle.call_cell.specs.Cells.{End}
 use Rattle.relay_core.specs.Entries.{Cell}
-use Rattle.board_turns.specs.Nesting.{gone_left, leaving}
-use Rattle.board_turns.specs.InCells.{moment_in}
-use Rattle.relay_core.specs.Standing.{IsCellPart}
+use Rattle.board_turns.specs.NestedSteps.{gone_left, leaving}
+use Rattle.board_turns.specs.InCells.{moment_of_cell}
+use Rattle.relay_core.specs.PlaceHistories.{IsCellPart}
 use Rattle.relay_core.specs.declared.part.Part.TheVariants as part
 use Rattle.board_turns.proofs.Nesting.{above_rows, turn_gained, turn_row, turn_may, may_turn, turn_same}
 use Rattle.board_turns.proofs.Celling.{is_cell, cell_given, ends_by, end_relates, ends_part}
@@ -14,32 +14,32 @@ use Rattle.board_turns.proofs.cells.end_cell.Goals as goal
 pub returns-clause-gained : goal.returns-clause-gained
 returns-clause-gained g c =
     let given = c.turn-step.ensures.turn.1 in
-    turn_gained c.args.main.now.entry_id.number c.args.main.now.entry_id.moment (moment_in c.turn-step.result.taken.value) c.args.cell c.cell_place.result (Cell End)
-    (gone_left g.O.OutEnd.told c.end.new.gone) tt c.args.main.now.hand.now
+    turn_gained c.args.main.now.entry_id.number c.args.main.now.entry_id.moment (moment_of_cell c.turn-step.result.taken.value) c.args.cell c.cell_place.result (Cell End)
+    (gone_left g.O.OutEnd.log c.end.new.gone) tt c.args.main.now.hand.now
     c.turn-step.new.hand c.put_step.new.hand c.turn-step.result c.cell_place.ensures (above_rows _ _ _ given.above) c.turn-step.ensures.same
     c.turn-step.ensures.turn.0 c.put_step.ensures.entry
 
 pub returns-clause-row : goal.returns-clause-row
 returns-clause-row g c =
-    turn_row c.args.main.now.entry_id.number c.args.main.now.entry_id.moment (moment_in c.turn-step.result.taken.value) c.args.cell c.cell_place.result (Cell End)
-    (gone_left g.O.OutEnd.told c.end.new.gone) tt c.args.main.now.hand.now c.turn-step.new.hand c.put_step.new.hand c.turn-step.result c.cell_place.ensures
+    turn_row c.args.main.now.entry_id.number c.args.main.now.entry_id.moment (moment_of_cell c.turn-step.result.taken.value) c.args.cell c.cell_place.result (Cell End)
+    (gone_left g.O.OutEnd.log c.end.new.gone) tt c.args.main.now.hand.now c.turn-step.new.hand c.put_step.new.hand c.turn-step.result c.cell_place.ensures
     c.turn-step.ensures.same c.turn-step.ensures.turn.0 c.put_step.ensures.entry
 
 pub returns-clause-ended : goal.returns-clause-ended
 returns-clause-ended g c =
-    ends_by g.I.InEnd.told g.I.InEnd.faults g.O.OutEnd.told g.O.OutEnd.faults c.args.main.now.config.now c.args.main.now.hand.now c.args.cell c.turn-step.result.front c.turn-step.result.taken.value
+    ends_by g.I.InEnd.log g.I.InEnd.faults g.O.OutEnd.log g.O.OutEnd.faults c.args.main.now.config.now c.args.main.now.hand.now c.args.cell c.turn-step.result.front c.turn-step.result.taken.value
     (part.Cell c.end.new.self) c.end.new.gone
-    (cell_given g.I.InEnd.told g.I.InEnd.faults g.O.OutEnd.told g.O.OutEnd.faults c.args.main.now.config.now c.args.main.now.turns.now c.args.main.now.hand.now c.args.cell c.cell_place.result
+    (cell_given g.I.InEnd.log g.I.InEnd.faults g.O.OutEnd.log g.O.OutEnd.faults c.args.main.now.config.now c.args.main.now.turns.now c.args.main.now.hand.now c.args.cell c.cell_place.result
     c.turn-step.result.front _ c.turn-step.result.taken.value c.requires.may c.requires.cell.0 c.requires.cell.1 c.requires.keys c.cell_place.ensures c.turn-step.ensures.turn.0.1
     c.turn-step.ensures.turn.1)
     (ends_part c.turn-step.result.taken.value c.in-Cell.held c.end.new.self c.end.new.gone (c.turn-step.ensures.turn.0.1 ∙ sym c.state.ensures.value ∙ c.in-Cell.is) c.end.ensures)
 
 pub returns-clause-went : goal.returns-clause-went
-returns-clause-went g c = ended_went g.I.InEnd.told g.I.InEnd.faults g.O.OutEnd.told g.O.OutEnd.faults c.args.main.now.config.now c.args.main.now.hand.now c.args.cell c.end.new.gone (returns-clause-ended g c)
+returns-clause-went g c = ended_went g.I.InEnd.log g.I.InEnd.faults g.O.OutEnd.log g.O.OutEnd.faults c.args.main.now.config.now c.args.main.now.hand.now c.args.cell c.end.new.gone (returns-clause-ended g c)
 
 pub returns-clause-home : goal.returns-clause-home
 returns-clause-home g c =
-    ended_home g.I.InEnd.told g.I.InEnd.faults g.O.OutEnd.told g.O.OutEnd.faults c.args.main.now.config.now c.args.main.now.turns.now c.args.main.now.hand.now c.args.cell c.end.new.gone c.requires.may c.requires.cell.0 c.requires.cell.1
+    ended_home g.I.InEnd.log g.I.InEnd.faults g.O.OutEnd.log g.O.OutEnd.faults c.args.main.now.config.now c.args.main.now.turns.now c.args.main.now.hand.now c.args.cell c.end.new.gone c.requires.may c.requires.cell.0 c.requires.cell.1
     c.requires.keys (returns-clause-ended g c)
 
 pub cell_place-requires : goal.cell_place-requires
@@ -59,14 +59,14 @@ turn-step-requires-clause-place g c =
 
 pub unreachable-requires : goal.unreachable-requires
 unreachable-requires g c =
-    let is = cell_given g.I.InEnd.told g.I.InEnd.faults g.O.OutEnd.told g.O.OutEnd.faults c.args.main.now.config.now c.args.main.now.turns.now c.args.main.now.hand.now c.args.cell c.cell_place.result
+    let is = cell_given g.I.InEnd.log g.I.InEnd.faults g.O.OutEnd.log g.O.OutEnd.faults c.args.main.now.config.now c.args.main.now.turns.now c.args.main.now.hand.now c.args.cell c.cell_place.result
     c.turn-step.result.front _ c.state.result.now c.requires.may c.requires.cell.0 c.requires.cell.1 c.requires.keys c.cell_place.ensures c.state.ensures.value
     c.turn-step.ensures.turn.1 in
     subst IsCellPart c.in-Board.is (is_cell c.args.main.now.config.now c.state.result.now _ is.1)
 
 pub unreachable-requires-in-Pair : goal.unreachable-requires-in-Pair
 unreachable-requires-in-Pair g c =
-    let is = cell_given g.I.InEnd.told g.I.InEnd.faults g.O.OutEnd.told g.O.OutEnd.faults c.args.main.now.config.now c.args.main.now.turns.now c.args.main.now.hand.now c.args.cell c.cell_place.result
+    let is = cell_given g.I.InEnd.log g.I.InEnd.faults g.O.OutEnd.log g.O.OutEnd.faults c.args.main.now.config.now c.args.main.now.turns.now c.args.main.now.hand.now c.args.cell c.cell_place.result
     c.turn-step.result.front _ c.state.result.now c.requires.may c.requires.cell.0 c.requires.cell.1 c.requires.keys c.cell_place.ensures c.state.ensures.value
     c.turn-step.ensures.turn.1 in
     subst IsCellPart c.in-Pair.is (is_cell c.args.main.now.config.now c.state.result.now _ is.1)
@@ -81,7 +81,7 @@ put_step-requires-clause-turn g c =
 
 pub put_step-requires-clause-step : goal.put_step-requires-clause-step
 put_step-requires-clause-step g c =
-    end_relates g.I.InEnd.told g.I.InEnd.faults g.O.OutEnd.told g.O.OutEnd.faults c.turn-step.result.taken.value c.in-Cell.held c.end.new.self c.end.new.gone
+    end_relates g.I.InEnd.log g.I.InEnd.faults g.O.OutEnd.log g.O.OutEnd.faults c.turn-step.result.taken.value c.in-Cell.held c.end.new.self c.end.new.gone
     c.args.main.now.entry_id.number c.args.main.now.entry_id.moment (c.turn-step.ensures.turn.0.1 ∙ sym c.state.ensures.value ∙ c.in-Cell.is) c.end.ensures
 
 pub returns-clause-nests : goal.returns-clause-nests
@@ -89,7 +89,7 @@ returns-clause-nests g c =
     let at = c.cell_place.ensures in
     let low = c.requires.cell.0 in
     let same = turn_same c.args.main.now.config.now c.args.main.now.turns.now c.cell_place.result
-    (leaving c.args.main.now.entry_id.number c.args.main.now.entry_id.moment (moment_in c.turn-step.result.taken.value) (Cell End) (gone_left g.O.OutEnd.told c.end.new.gone)) tt c.args.main.now.hand.now c.turn-step.new.hand c.put_step.new.hand c.turn-step.result c.requires.may
+    (leaving c.args.main.now.entry_id.number c.args.main.now.entry_id.moment (moment_of_cell c.turn-step.result.taken.value) (Cell End) (gone_left g.O.OutEnd.log c.end.new.gone)) tt c.args.main.now.hand.now c.turn-step.new.hand c.put_step.new.hand c.turn-step.result c.requires.may
     (omega (arith, at, low)) c.turn-step.ensures.same c.turn-step.ensures.turn.0 c.put_step.ensures.same c.put_step.ensures.entry in
     record {
       turns_are = refl;
@@ -98,8 +98,8 @@ returns-clause-nests g c =
       hand_is = refl;
       same = same.0;
       same_turns = same.1;
-      may = turn_may c.args.main.now.config.now c.args.main.now.turns.now c.args.main.now.entry_id.number c.args.main.now.entry_id.moment (moment_in c.turn-step.result.taken.value) c.args.cell c.cell_place.result (Cell End)
-          (gone_left g.O.OutEnd.told c.end.new.gone) tt
+      may = turn_may c.args.main.now.config.now c.args.main.now.turns.now c.args.main.now.entry_id.number c.args.main.now.entry_id.moment (moment_of_cell c.turn-step.result.taken.value) c.args.cell c.cell_place.result (Cell End)
+          (gone_left g.O.OutEnd.log c.end.new.gone) tt
           c.args.main.now.hand.now c.turn-step.new.hand c.put_step.new.hand c.turn-step.result c.requires.may (omega (arith, at, low)) c.turn-step.ensures.same c.turn-step.ensures.turn.0
           c.put_step.ensures.same c.put_step.ensures.entry (returns-clause-gained g c);
     }

@@ -1,10 +1,10 @@
 use Rattle.std.proofs.Common.{refl, arith, max, ◌∙◌, sym, subst}
 use Rattle.call_cell.specs.Cells.{Expire}
 use Rattle.relay_core.specs.Entries.{Cell}
-use Rattle.relay_core.specs.Made.{nothing_left}
-use Rattle.board_turns.specs.InCells.{moment_in}
-use Rattle.relay_core.specs.Standing.{IsCellPart}
-use Rattle.board_turns.specs.Nesting.{nested}
+use Rattle.relay_core.specs.Records.{nothing_left}
+use Rattle.board_turns.specs.InCells.{moment_of_cell}
+use Rattle.relay_core.specs.PlaceHistories.{IsCellPart}
+use Rattle.board_turns.specs.NestedSteps.{nested}
 use Rattle.relay_core.specs.declared.part.Part.TheVariants as part
 use Rattle.board_turns.proofs.Nesting.{above_rows, turn_gained, turn_may, may_turn, turn_same}
 use Rattle.board_turns.proofs.Celling.{is_cell, cell_given, expires_by, expire_relates, expires_part}
@@ -13,16 +13,16 @@ use Rattle.board_turns.proofs.cells.expire_cell.Goals as goal
 pub returns-clause-gained : goal.returns-clause-gained
 returns-clause-gained g c =
     let given = c.turn-step.ensures.turn.1 in
-    turn_gained c.args.main.now.entry_id.number c.args.main.now.entry_id.moment (max c.args.main.now.entry_id.moment (moment_in c.turn-step.result.taken.value)) c.args.cell c.cell_place.result
+    turn_gained c.args.main.now.entry_id.number c.args.main.now.entry_id.moment (max c.args.main.now.entry_id.moment (moment_of_cell c.turn-step.result.taken.value)) c.args.cell c.cell_place.result
     (Cell (Expire c.expire-due.result)) nothing_left tt c.args.main.now.hand.now
     c.turn-step.new.hand c.put_step.new.hand c.turn-step.result c.cell_place.ensures (above_rows _ _ _ given.above) c.turn-step.ensures.same
     c.turn-step.ensures.turn.0 c.put_step.ensures.entry
 
 pub returns-clause-asked : goal.returns-clause-asked
 returns-clause-asked g c =
-    expires_by g.I.InEnd.told g.I.InEnd.faults g.O.OutEnd.told g.O.OutEnd.faults c.args.main.now.config.now c.args.main.now.hand.now c.args.cell c.turn-step.result.front c.args.main.now.entry_id.moment c.turn-step.result.taken.value
+    expires_by g.I.InEnd.log g.I.InEnd.faults g.O.OutEnd.log g.O.OutEnd.faults c.args.main.now.config.now c.args.main.now.hand.now c.args.cell c.turn-step.result.front c.args.main.now.entry_id.moment c.turn-step.result.taken.value
     (part.Cell c.expire-due.new.self) c.expire-due.result
-    (cell_given g.I.InEnd.told g.I.InEnd.faults g.O.OutEnd.told g.O.OutEnd.faults c.args.main.now.config.now c.args.main.now.turns.now c.args.main.now.hand.now c.args.cell c.cell_place.result
+    (cell_given g.I.InEnd.log g.I.InEnd.faults g.O.OutEnd.log g.O.OutEnd.faults c.args.main.now.config.now c.args.main.now.turns.now c.args.main.now.hand.now c.args.cell c.cell_place.result
     c.turn-step.result.front _ c.turn-step.result.taken.value c.requires.may c.requires.cell.0 c.requires.cell.1 c.requires.keys c.cell_place.ensures c.turn-step.ensures.turn.0.1
     c.turn-step.ensures.turn.1)
     (expires_part c.turn-step.result.taken.value c.in-Cell.held c.expire-due.new.self c.args.main.now.entry_id.moment c.expire-due.result (c.turn-step.ensures.turn.0.1 ∙ sym c.state.ensures.value ∙ c.in-Cell.is) c.expire-due.ensures)
@@ -44,14 +44,14 @@ turn-step-requires-clause-place g c =
 
 pub unreachable-requires : goal.unreachable-requires
 unreachable-requires g c =
-    let is = cell_given g.I.InEnd.told g.I.InEnd.faults g.O.OutEnd.told g.O.OutEnd.faults c.args.main.now.config.now c.args.main.now.turns.now c.args.main.now.hand.now c.args.cell c.cell_place.result
+    let is = cell_given g.I.InEnd.log g.I.InEnd.faults g.O.OutEnd.log g.O.OutEnd.faults c.args.main.now.config.now c.args.main.now.turns.now c.args.main.now.hand.now c.args.cell c.cell_place.result
     c.turn-step.result.front _ c.state.result.now c.requires.may c.requires.cell.0 c.requires.cell.1 c.requires.keys c.cell_place.ensures c.state.ensures.value
     c.turn-step.ensures.turn.1 in
     subst IsCellPart c.in-Board.is (is_cell c.args.main.now.config.now c.state.result.now _ is.1)
 
 pub unreachable-requires-in-Pair : goal.unreachable-requires-in-Pair
 unreachable-requires-in-Pair g c =
-    let is = cell_given g.I.InEnd.told g.I.InEnd.faults g.O.OutEnd.told g.O.OutEnd.faults c.args.main.now.config.now c.args.main.now.turns.now c.args.main.now.hand.now c.args.cell c.cell_place.result
+    let is = cell_given g.I.InEnd.log g.I.InEnd.faults g.O.OutEnd.log g.O.OutEnd.faults c.args.main.now.config.now c.args.main.now.turns.now c.args.main.now.hand.now c.args.cell c.cell_place.result
     c.turn-step.result.front _ c.state.result.now c.requires.may c.requires.cell.0 c.requires.cell.1 c.requires.keys c.cell_place.ensures c.state.ensures.value
     c.turn-step.ensures.turn.1 in
     subst IsCellPart c.in-Pair.is (is_cell c.args.main.now.config.now c.state.result.now _ is.1)
@@ -66,7 +66,7 @@ put_step-requires-clause-turn g c =
 
 pub put_step-requires-clause-step : goal.put_step-requires-clause-step
 put_step-requires-clause-step g c =
-    expire_relates g.I.InEnd.told g.I.InEnd.faults g.O.OutEnd.told g.O.OutEnd.faults c.turn-step.result.taken.value c.in-Cell.held c.expire-due.new.self
+    expire_relates g.I.InEnd.log g.I.InEnd.faults g.O.OutEnd.log g.O.OutEnd.faults c.turn-step.result.taken.value c.in-Cell.held c.expire-due.new.self
     c.args.main.now.entry_id.number c.args.main.now.entry_id.moment c.expire-due.result (c.turn-step.ensures.turn.0.1 ∙ sym c.state.ensures.value ∙ c.in-Cell.is) c.expire-due.ensures
 
 pub returns-clause-nests : goal.returns-clause-nests
@@ -74,7 +74,7 @@ returns-clause-nests g c =
     let at = c.cell_place.ensures in
     let low = c.requires.cell.0 in
     let same = turn_same c.args.main.now.config.now c.args.main.now.turns.now c.cell_place.result
-    (nested c.args.main.now.entry_id.number c.args.main.now.entry_id.moment (max c.args.main.now.entry_id.moment (moment_in c.turn-step.result.taken.value)) (Cell (Expire c.expire-due.result))) tt c.args.main.now.hand.now c.turn-step.new.hand c.put_step.new.hand c.turn-step.result c.requires.may
+    (nested c.args.main.now.entry_id.number c.args.main.now.entry_id.moment (max c.args.main.now.entry_id.moment (moment_of_cell c.turn-step.result.taken.value)) (Cell (Expire c.expire-due.result))) tt c.args.main.now.hand.now c.turn-step.new.hand c.put_step.new.hand c.turn-step.result c.requires.may
     (omega (arith, at, low)) c.turn-step.ensures.same c.turn-step.ensures.turn.0 c.put_step.ensures.same c.put_step.ensures.entry in
     record {
       turns_are = refl;
@@ -83,7 +83,7 @@ returns-clause-nests g c =
       hand_is = refl;
       same = same.0;
       same_turns = same.1;
-      may = turn_may c.args.main.now.config.now c.args.main.now.turns.now c.args.main.now.entry_id.number c.args.main.now.entry_id.moment (max c.args.main.now.entry_id.moment (moment_in c.turn-step.result.taken.value)) c.args.cell
+      may = turn_may c.args.main.now.config.now c.args.main.now.turns.now c.args.main.now.entry_id.number c.args.main.now.entry_id.moment (max c.args.main.now.entry_id.moment (moment_of_cell c.turn-step.result.taken.value)) c.args.cell
           c.cell_place.result (Cell (Expire c.expire-due.result)) nothing_left tt
           c.args.main.now.hand.now c.turn-step.new.hand c.put_step.new.hand c.turn-step.result c.requires.may (omega (arith, at, low)) c.turn-step.ensures.same c.turn-step.ensures.turn.0
           c.put_step.ensures.same c.put_step.ensures.entry (returns-clause-gained g c);

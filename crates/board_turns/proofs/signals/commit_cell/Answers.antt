@@ -1,10 +1,10 @@
 use Rattle.std.proofs.Common.{refl, arith, max, ◌∙◌, sym, subst}
 use Rattle.call_cell.specs.Cells.{Commit}
 use Rattle.relay_core.specs.Entries.{Cell, cell_history}
-use Rattle.relay_core.specs.Turning.{made_by}
-use Rattle.board_turns.specs.Nesting.{gone_left, leaving}
-use Rattle.board_turns.specs.InCells.{moment_in}
-use Rattle.relay_core.specs.Standing.{IsCellPart}
+use Rattle.relay_core.specs.Turns.{made_by}
+use Rattle.board_turns.specs.NestedSteps.{gone_left, leaving}
+use Rattle.board_turns.specs.InCells.{moment_of_cell}
+use Rattle.relay_core.specs.PlaceHistories.{IsCellPart}
 use Rattle.relay_core.specs.declared.part.Part.TheVariants as part
 use Rattle.board_turns.proofs.Nesting.{above_rows, turn_gained, turn_row, turn_may, may_turn, turn_same}
 use Rattle.board_turns.proofs.Celling.{cell_given, is_cell}
@@ -16,33 +16,33 @@ use Rattle.board_turns.proofs.signals.commit_cell.Goals as goal
 pub returns-clause-gained : goal.returns-clause-gained
 returns-clause-gained g c =
     let given = c.turn-step.ensures.turn.1 in
-    turn_gained c.args.main.now.entry_id.number c.args.main.now.entry_id.moment (max c.args.main.now.entry_id.moment (moment_in c.turn-step.result.taken.value)) c.args.cell c.cell_place.result
-    (Cell (Commit c.args.signal.now)) (gone_left g.O.OutEnd.told c.commit.new.gone) tt c.args.main.now.hand.now
+    turn_gained c.args.main.now.entry_id.number c.args.main.now.entry_id.moment (max c.args.main.now.entry_id.moment (moment_of_cell c.turn-step.result.taken.value)) c.args.cell c.cell_place.result
+    (Cell (Commit c.args.signal.now)) (gone_left g.O.OutEnd.log c.commit.new.gone) tt c.args.main.now.hand.now
     c.turn-step.new.hand c.put_step.new.hand c.turn-step.result c.cell_place.ensures (above_rows _ _ _ given.above) c.turn-step.ensures.same
     c.turn-step.ensures.turn.0 c.put_step.ensures.entry
 
 pub returns-clause-row : goal.returns-clause-row
 returns-clause-row g c =
-    turn_row c.args.main.now.entry_id.number c.args.main.now.entry_id.moment (max c.args.main.now.entry_id.moment (moment_in c.turn-step.result.taken.value)) c.args.cell c.cell_place.result
-    (Cell (Commit c.args.signal.now)) (gone_left g.O.OutEnd.told c.commit.new.gone) tt c.args.main.now.hand.now c.turn-step.new.hand c.put_step.new.hand c.turn-step.result
+    turn_row c.args.main.now.entry_id.number c.args.main.now.entry_id.moment (max c.args.main.now.entry_id.moment (moment_of_cell c.turn-step.result.taken.value)) c.args.cell c.cell_place.result
+    (Cell (Commit c.args.signal.now)) (gone_left g.O.OutEnd.log c.commit.new.gone) tt c.args.main.now.hand.now c.turn-step.new.hand c.put_step.new.hand c.turn-step.result
     c.cell_place.ensures c.turn-step.ensures.same c.turn-step.ensures.turn.0 c.put_step.ensures.entry
 
 pub returns-clause-committed : goal.returns-clause-committed
 returns-clause-committed g c =
-    let is = cell_given g.I.InEnd.told g.I.InEnd.faults g.O.OutEnd.told g.O.OutEnd.faults c.args.main.now.config.now c.args.main.now.turns.now c.args.main.now.hand.now c.args.cell c.cell_place.result
+    let is = cell_given g.I.InEnd.log g.I.InEnd.faults g.O.OutEnd.log g.O.OutEnd.faults c.args.main.now.config.now c.args.main.now.turns.now c.args.main.now.hand.now c.args.cell c.cell_place.result
     c.turn-step.result.front _ c.turn-step.result.taken.value c.requires.may c.requires.cell.0 c.requires.cell.1 c.requires.keys c.cell_place.ensures c.turn-step.ensures.turn.0.1
     c.turn-step.ensures.turn.1 in
     let above = above_rows _ c.args.cell c.turn-step.result.front is.0.above in
-    commits_by g.I.InEnd.told g.I.InEnd.faults g.O.OutEnd.told g.O.OutEnd.faults c.args.main.now.config.now c.args.main.now.hand.now c.args.cell c.turn-step.result.front c.args.signal.now
+    commits_by g.I.InEnd.log g.I.InEnd.faults g.O.OutEnd.log g.O.OutEnd.faults c.args.main.now.config.now c.args.main.now.hand.now c.args.cell c.turn-step.result.front c.args.signal.now
     c.args.main.now.entry_id.moment c.turn-step.result.taken.value (part.Cell c.commit.new.self) c.commit.new.gone is (c.requires.names c.turn-step.result.front above)
     (commits_part c.turn-step.result.taken.value c.in-Cell.held c.commit.new.self c.args.signal.now c.args.main.now.entry_id.moment c.commit.new.gone (c.turn-step.ensures.turn.0.1 ∙ sym c.state.ensures.value ∙ c.in-Cell.is) c.commit.ensures)
 
 pub returns-clause-went : goal.returns-clause-went
-returns-clause-went g c = committed_went g.I.InEnd.told g.I.InEnd.faults g.O.OutEnd.told g.O.OutEnd.faults c.args.main.now.config.now c.args.main.now.hand.now c.args.cell c.args.signal.now c.args.main.now.entry_id.moment c.commit.new.gone (returns-clause-committed g c)
+returns-clause-went g c = committed_went g.I.InEnd.log g.I.InEnd.faults g.O.OutEnd.log g.O.OutEnd.faults c.args.main.now.config.now c.args.main.now.hand.now c.args.cell c.args.signal.now c.args.main.now.entry_id.moment c.commit.new.gone (returns-clause-committed g c)
 
 pub returns-clause-home : goal.returns-clause-home
 returns-clause-home g c =
-    committed_home g.I.InEnd.told g.I.InEnd.faults g.O.OutEnd.told g.O.OutEnd.faults c.args.main.now.config.now c.args.main.now.turns.now c.args.main.now.hand.now c.args.cell c.args.signal.now c.args.main.now.entry_id.moment c.commit.new.gone c.requires.may
+    committed_home g.I.InEnd.log g.I.InEnd.faults g.O.OutEnd.log g.O.OutEnd.faults c.args.main.now.config.now c.args.main.now.turns.now c.args.main.now.hand.now c.args.cell c.args.signal.now c.args.main.now.entry_id.moment c.commit.new.gone c.requires.may
     c.requires.cell.0 c.requires.cell.1 c.requires.keys (returns-clause-committed g c)
 
 pub cell_place-requires : goal.cell_place-requires
@@ -62,14 +62,14 @@ turn-step-requires-clause-place g c =
 
 pub unreachable-requires : goal.unreachable-requires
 unreachable-requires g c =
-    let is = cell_given g.I.InEnd.told g.I.InEnd.faults g.O.OutEnd.told g.O.OutEnd.faults c.args.main.now.config.now c.args.main.now.turns.now c.args.main.now.hand.now c.args.cell c.cell_place.result
+    let is = cell_given g.I.InEnd.log g.I.InEnd.faults g.O.OutEnd.log g.O.OutEnd.faults c.args.main.now.config.now c.args.main.now.turns.now c.args.main.now.hand.now c.args.cell c.cell_place.result
     c.turn-step.result.front _ c.state.result.now c.requires.may c.requires.cell.0 c.requires.cell.1 c.requires.keys c.cell_place.ensures c.state.ensures.value
     c.turn-step.ensures.turn.1 in
     subst IsCellPart c.in-Board.is (is_cell c.args.main.now.config.now c.state.result.now _ is.1)
 
 pub unreachable-requires-in-Pair : goal.unreachable-requires-in-Pair
 unreachable-requires-in-Pair g c =
-    let is = cell_given g.I.InEnd.told g.I.InEnd.faults g.O.OutEnd.told g.O.OutEnd.faults c.args.main.now.config.now c.args.main.now.turns.now c.args.main.now.hand.now c.args.cell c.cell_place.result
+    let is = cell_given g.I.InEnd.log g.I.InEnd.faults g.O.OutEnd.log g.O.OutEnd.faults c.args.main.now.config.now c.args.main.now.turns.now c.args.main.now.hand.now c.args.cell c.cell_place.result
     c.turn-step.result.front _ c.state.result.now c.requires.may c.requires.cell.0 c.requires.cell.1 c.requires.keys c.cell_place.ensures c.state.ensures.value
     c.turn-step.ensures.turn.1 in
     subst IsCellPart c.in-Pair.is (is_cell c.args.main.now.config.now c.state.result.now _ is.1)
@@ -85,7 +85,7 @@ put_step-requires-clause-turn g c =
 pub commit-requires-clause-room : goal.commit-requires-clause-room
 commit-requires-clause-room g c =
     let own = cell_history (made_by c.args.main.now.hand.now) c.args.cell c.turn-step.result.front in
-    let is = cell_given g.I.InEnd.told g.I.InEnd.faults g.O.OutEnd.told g.O.OutEnd.faults c.args.main.now.config.now c.args.main.now.turns.now c.args.main.now.hand.now c.args.cell c.cell_place.result
+    let is = cell_given g.I.InEnd.log g.I.InEnd.faults g.O.OutEnd.log g.O.OutEnd.faults c.args.main.now.config.now c.args.main.now.turns.now c.args.main.now.hand.now c.args.cell c.cell_place.result
     c.turn-step.result.front _ c.turn-step.result.taken.value c.requires.may c.requires.cell.0 c.requires.cell.1 c.requires.keys c.cell_place.ensures c.turn-step.ensures.turn.0.1
     c.turn-step.ensures.turn.1 in
     let above = above_rows _ c.args.cell c.turn-step.result.front is.0.above in
@@ -96,13 +96,13 @@ commit-requires-clause-room g c =
 pub put_step-requires-clause-step : goal.put_step-requires-clause-step
 put_step-requires-clause-step g c =
     let own = cell_history (made_by c.args.main.now.hand.now) c.args.cell c.turn-step.result.front in
-    let is = cell_given g.I.InEnd.told g.I.InEnd.faults g.O.OutEnd.told g.O.OutEnd.faults c.args.main.now.config.now c.args.main.now.turns.now c.args.main.now.hand.now c.args.cell c.cell_place.result
+    let is = cell_given g.I.InEnd.log g.I.InEnd.faults g.O.OutEnd.log g.O.OutEnd.faults c.args.main.now.config.now c.args.main.now.turns.now c.args.main.now.hand.now c.args.cell c.cell_place.result
     c.turn-step.result.front _ c.turn-step.result.taken.value c.requires.may c.requires.cell.0 c.requires.cell.1 c.requires.keys c.cell_place.ensures c.turn-step.ensures.turn.0.1
     c.turn-step.ensures.turn.1 in
     let above = above_rows _ c.args.cell c.turn-step.result.front is.0.above in
     let takes = takes_answer c.args.main.now.config.now c.turn-step.result.taken.value own c.args.signal.now c.args.contexts is.1 (c.requires.names c.turn-step.result.front above)
     (space_is c.args.main.now.config.now c.turn-step.result.taken.value (made_by c.args.main.now.hand.now) c.args.cell c.turn-step.result.front c.args.signal.now c.args.contexts is.1 above c.requires.room) in
-    commit_relates g.I.InEnd.told g.I.InEnd.faults g.O.OutEnd.told g.O.OutEnd.faults c.turn-step.result.taken.value c.in-Cell.held c.commit.new.self c.args.signal.now c.args.contexts
+    commit_relates g.I.InEnd.log g.I.InEnd.faults g.O.OutEnd.log g.O.OutEnd.faults c.turn-step.result.taken.value c.in-Cell.held c.commit.new.self c.args.signal.now c.args.contexts
     c.args.main.now.entry_id.moment c.commit.new.gone c.args.main.now.entry_id.number (c.turn-step.ensures.turn.0.1 ∙ sym c.state.ensures.value ∙ c.in-Cell.is) takes c.commit.ensures
 
 pub returns-clause-nests : goal.returns-clause-nests
@@ -110,7 +110,7 @@ returns-clause-nests g c =
     let at = c.cell_place.ensures in
     let low = c.requires.cell.0 in
     let same = turn_same c.args.main.now.config.now c.args.main.now.turns.now c.cell_place.result
-    (leaving c.args.main.now.entry_id.number c.args.main.now.entry_id.moment (max c.args.main.now.entry_id.moment (moment_in c.turn-step.result.taken.value)) (Cell (Commit c.args.signal.now)) (gone_left g.O.OutEnd.told c.commit.new.gone)) tt c.args.main.now.hand.now c.turn-step.new.hand c.put_step.new.hand c.turn-step.result c.requires.may
+    (leaving c.args.main.now.entry_id.number c.args.main.now.entry_id.moment (max c.args.main.now.entry_id.moment (moment_of_cell c.turn-step.result.taken.value)) (Cell (Commit c.args.signal.now)) (gone_left g.O.OutEnd.log c.commit.new.gone)) tt c.args.main.now.hand.now c.turn-step.new.hand c.put_step.new.hand c.turn-step.result c.requires.may
     (omega (arith, at, low)) c.turn-step.ensures.same c.turn-step.ensures.turn.0 c.put_step.ensures.same c.put_step.ensures.entry in
     record {
       turns_are = refl;
@@ -119,8 +119,8 @@ returns-clause-nests g c =
       hand_is = refl;
       same = same.0;
       same_turns = same.1;
-      may = turn_may c.args.main.now.config.now c.args.main.now.turns.now c.args.main.now.entry_id.number c.args.main.now.entry_id.moment (max c.args.main.now.entry_id.moment (moment_in c.turn-step.result.taken.value)) c.args.cell
-          c.cell_place.result (Cell (Commit c.args.signal.now)) (gone_left g.O.OutEnd.told c.commit.new.gone) tt
+      may = turn_may c.args.main.now.config.now c.args.main.now.turns.now c.args.main.now.entry_id.number c.args.main.now.entry_id.moment (max c.args.main.now.entry_id.moment (moment_of_cell c.turn-step.result.taken.value)) c.args.cell
+          c.cell_place.result (Cell (Commit c.args.signal.now)) (gone_left g.O.OutEnd.log c.commit.new.gone) tt
           c.args.main.now.hand.now c.turn-step.new.hand c.put_step.new.hand c.turn-step.result c.requires.may (omega (arith, at, low)) c.turn-step.ensures.same c.turn-step.ensures.turn.0
           c.put_step.ensures.same c.put_step.ensures.entry (returns-clause-gained g c);
     }

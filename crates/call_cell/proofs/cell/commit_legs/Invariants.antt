@@ -1,6 +1,6 @@
 use Rattle.std.proofs.Common.{ℕ, ◌≡◌, ◌≤◌, ◌<◌, ◌+◌, take, get_or}
 use Rattle.call_cell.specs.declared.leg.Leg.{Leg}
-use Rattle.call_cell.specs.Committing.{LegCommitsBy, contexts_due, said_of}
+use Rattle.call_cell.specs.Commits.{LegCommitsBy, contexts_due, said_of}
 use Rattle.call_cell.proofs.cell.commit_legs.Given as goal
 
 abbrev pub invariant-loop-leg : goal.invariant-loop-leg

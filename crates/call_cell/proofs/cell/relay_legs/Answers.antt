@@ -4,9 +4,9 @@ use Rattle.port_pool.specs.declared.holder.Holder.{Holder}
 use Rattle.port_pool.specs.Signals.{same_leg}
 use Rattle.call_cell.specs.declared.leg.Leg.{Leg}
 use Rattle.call_cell.specs.Cells.{is_opposite}
-use Rattle.call_cell.specs.Keyed.{accepted}
-use Rattle.call_cell.specs.Learning.{learned}
-use Rattle.call_cell.specs.Standing.{receipt_of}
+use Rattle.call_cell.specs.Protection.{accepted}
+use Rattle.call_cell.specs.Lessons.{learned}
+use Rattle.call_cell.specs.LegHistories.{receipt_of}
 use Rattle.call_cell.proofs.Placing.{IsPlace, holders_of, place_is, no_place, at_set}
 use Rattle.call_cell.proofs.Relaying.{judges, judges_so, relays_stale, relays_refused}
 use Rattle.call_cell.proofs.Crossing.{takes_it, same_holder, relays_unopposed}
@@ -17,7 +17,7 @@ pub returns-in_default : goal.returns-in_default
 returns-in_default g c = record {
   relays = λ config h number for.
       let p = receipt_of number c.args.packet.now c.args.buf.now in
-      relays_stale g.O.OutEnd.told g.O.OutEnd.faults config h p c.args.legs.now c.args.buf.now for
+      relays_stale g.O.OutEnd.log g.O.OutEnd.faults config h p c.args.legs.now c.args.buf.now for
       (no_place (same_leg p.holder) c.args.legs.now (sym c.place_of.ensures.place ∙ c.in_default.is));
 }
 
@@ -27,7 +27,7 @@ returns-in-Err g c = record {
       let p = receipt_of number c.args.packet.now c.args.buf.now in
       let place = place_is (same_leg p.holder) c.args.legs.now c.in-Some.at c.index-legs-at.result (sym c.place_of.ensures.place ∙ c.in-Some.is) in
       let leg = get_or c.args.legs.now c.in-Some.at c.index-legs-at.result in
-      relays_refused g.O.OutEnd.told g.O.OutEnd.faults config h p c.args.legs.now c.in-Some.at c.index-legs-at.result c.accept.new.self c.accept.new.buf
+      relays_refused g.O.OutEnd.log g.O.OutEnd.faults config h p c.args.legs.now c.in-Some.at c.index-legs-at.result c.accept.new.self c.accept.new.buf
       c.accept.new.buf c.in-Err.cause for place
       (c.in-Err.ensures.accepts (learned h leg.holder) (accepted h leg.holder) (for.each c.in-Some.at c.index-legs-at.result place.below).receiving);
 }
@@ -47,7 +47,7 @@ returns-in_default-place_of_opposite g c = record {
       let back = get_or mid c.in-Some.at c.index-legs-at-2.result in
       let same : back.holder ≡ leg.holder = ap (λ (l : Leg _). l.holder) (at_set those c.in-Some.at c.accept.new.self c.index-legs-at-2.result place.below)
       ∙ same_holder config h p those c.in-Some.at x c.accept.new.self t.0 t.1 c.accept.new.buf c.in-Ok.len t.2 in
-      relays_unopposed g.O.OutEnd.told g.O.OutEnd.faults config h p those c.in-Some.at x c.accept.new.self t.0 t.1 c.accept.new.buf c.accept.new.buf c.in-Ok.len t.2
+      relays_unopposed g.O.OutEnd.log g.O.OutEnd.faults config h p those c.in-Some.at x c.accept.new.self t.0 t.1 c.accept.new.buf c.accept.new.buf c.in-Ok.len t.2
       (subst (λ (a : Holder). first (filter (is_opposite a) (holders_of mid)) ≡ None) same
       (no_place (is_opposite back.holder) mid (sym c.place_of_opposite.ensures.place ∙ c.in_default-place_of_opposite.is)));
 }
@@ -68,7 +68,7 @@ returns g c = record {
       let back = get_or mid c.in-Some.at c.index-legs-at-2.result in
       let same : back.holder ≡ leg.holder = ap (λ (l : Leg _). l.holder) (at_set those c.in-Some.at c.accept.new.self c.index-legs-at-2.result place.below)
       ∙ same_holder config h p those c.in-Some.at x c.accept.new.self t.0 t.1 c.accept.new.buf c.in-Ok.len t.2 in
-      relays_towards g.O.OutEnd.told g.O.OutEnd.faults config h p those c.in-Some.at x c.accept.new.self t.0 t.1 c.accept.new.buf c.in-Ok.len
+      relays_towards g.O.OutEnd.log g.O.OutEnd.faults config h p those c.in-Some.at x c.accept.new.self t.0 t.1 c.accept.new.buf c.in-Ok.len
       c.in-Some-place_of_opposite.to z c.forward.new.self c.forward.new.buf c.forward.result t.2
       (subst (λ (a : Holder). IsPlace (is_opposite a) mid c.in-Some-place_of_opposite.to z) same
       (place_is (is_opposite back.holder) mid c.in-Some-place_of_opposite.to z (sym c.place_of_opposite.ensures.place ∙ c.in-Some-place_of_opposite.is)))

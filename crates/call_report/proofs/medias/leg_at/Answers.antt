@@ -4,8 +4,8 @@ use Rattle.call_report.proofs.medias.leg_at.Goals as goal
 
 pub returns-then-is_of : goal.returns-then-is_of
 returns-then-is_of c =
-    sym (c.legs.invariant ∙ leg_found c.args.legs.now c.args.side c.args.section c.legs.index c.get-told.result c.get-told.ensures (sym c.is_of.ensures ∙ c.if-is_of.true))
+    sym (c.legs.invariant ∙ leg_found c.args.legs.now c.args.side c.args.section c.legs.index c.get-report.result c.get-report.ensures (sym c.is_of.ensures ∙ c.if-is_of.true))
 
 pub legs-preserved : goal.legs-preserved
 legs-preserved c =
-    c.legs.invariant ∙ leg_passed c.args.legs.now c.args.side c.args.section c.legs.index c.get-told.result c.get-told.ensures (sym c.is_of.ensures ∙ c.if-is_of.false)
+    c.legs.invariant ∙ leg_passed c.args.legs.now c.args.side c.args.section c.legs.index c.get-report.result c.get-report.ensures (sym c.is_of.ensures ∙ c.if-is_of.false)

@@ -13,14 +13,14 @@ sections-preserved-in_default c = λ config rounds d.
     (c.sections.invariant config rounds d)
 
 pub leg_value-requires : goal.leg_value-requires
-leg_value-requires c = found_fits c.args.legs.now c.args.side c.sections.section c.in-Some.told c.in-Some.ensures c.requires
+leg_value-requires c = found_fits c.args.legs.now c.args.side c.sections.section c.in-Some.report c.in-Some.ensures c.requires
 
 pub sections-preserved : goal.sections-preserved
 sections-preserved c = λ config rounds d.
-    section_told rounds c.args.legs.now c.args.side c.sections.section (map tree_of (list_in c.sections.medias)) (map tree_of (list_in c.put_item.new.values)) c.in-Some.told
+    section_told rounds c.args.legs.now c.args.side c.sections.section (map tree_of (list_in c.sections.medias)) (map tree_of (list_in c.put_item.new.values)) c.in-Some.report
     c.sections-test.true c.in-Some.ensures
     (ap (map tree_of) c.in_ok-put_item.ensures
-    ∙ item_pushed (list_in c.sections.medias) c.in_ok-leg.leg (leg_value rounds c.in-Some.told) (c.in_ok-leg.ensures rounds (c.protocol-profile.ensures config rounds d)))
+    ∙ item_pushed (list_in c.sections.medias) c.in_ok-leg.leg (leg_value rounds c.in-Some.report) (c.in_ok-leg.ensures rounds (c.protocol-profile.ensures config rounds d)))
     (c.sections.invariant config rounds d)
 
 pub returns : goal.returns

@@ -2,7 +2,7 @@ use Rattle.std.proofs.Common.{◌∙◌, sym, ap}
 use Rattle.std.proofs.lemmas.Result.{err_from_is_err_and}
 use Rattle.sdp_text.specs.Lines.{lines_of}
 use Rattle.sdp_text.proofs.Served.{sections_few}
-use Rattle.call_board.specs.Asked.{v6_error}
+use Rattle.call_board.specs.Requests.{v6_error}
 use Rattle.control_messages.proofs.Described.{error-faulty, error-sound}
 use Rattle.control_messages.proofs.description.read_description.Goals as goal
 

@@ -1,7 +1,7 @@
 use Rattle.turn_table.specs.Steps.{entry}
-use Rattle.relay_core.specs.Turning.{IsOfLane}
-use Rattle.media_lane.specs.Relaying.{relay_made}
-use Rattle.media_lane.specs.Taking.{take_made}
+use Rattle.relay_core.specs.Turns.{IsOfLane}
+use Rattle.media_lane.specs.Relays.{relay_made}
+use Rattle.media_lane.specs.Takes.{take_made}
 use Rattle.media_lane.specs.Visits.{Row}
 use Rattle.media_lane.proofs.Between.{one_row}
 use Rattle.media_lane.proofs.Sweeps.{rows_in}

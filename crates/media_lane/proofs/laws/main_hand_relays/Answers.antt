@@ -1,6 +1,6 @@
 use Rattle.std.proofs.Common.{ap, ◌∙◌}
 use Rattle.turn_table.specs.Hands.{entries}
-use Rattle.relay_core.specs.Made.{list_of}
+use Rattle.relay_core.specs.Records.{list_of}
 use Rattle.relay_core.proofs.Recording.{lane_no_boards}
 use Rattle.board_turns.specs.Between.{board_of}
 use Rattle.media_lane.proofs.Between.{stepped_between, lanes_board}

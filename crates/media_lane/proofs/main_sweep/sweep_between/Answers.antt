@@ -1,10 +1,10 @@
 use Rattle.std.proofs.Common.{sym, subst}
 use Rattle.turn_table.specs.Hands.{starts}
-use Rattle.relay_core.specs.Turning.{made_by}
-use Rattle.media_lane.specs.Lanes.{config_of, hand_of, index_of, lanes_of}
+use Rattle.relay_core.specs.Turns.{made_by}
+use Rattle.media_lane.specs.Lanes.{lane_config, hand_of, index_of, lanes_of}
 use Rattle.media_lane.proofs.Places.{parts_begin}
 use Rattle.media_lane.specs.Visits.{all_rows}
-use Rattle.media_lane.specs.Gated.{GainsGated}
+use Rattle.media_lane.specs.Gates.{GainsGated}
 use Rattle.media_lane.proofs.Between.{StepsBy, stepped_between, stepped_board}
 use Rattle.media_lane.proofs.Sweeps.{SweptBy, swept_at, swept_by_lane, swept_totals}
 use Rattle.media_lane.proofs.main_sweep.sweep_between.Goals as goal
@@ -16,7 +16,7 @@ new-lane-requires-clause-begins g c = parts_begin c.args.config.now (starts c.ar
 swept : (g : _) (c : goal.After-into_hand g) → SweptBy c.args.config.now (g.C.Clock.range c.args.clock.now) c.args.hand c.into_hand.result c.sweep-swept.result
 swept g c =
     let lane = c.new-lane.result in
-    swept_at c.args.config.now (config_of lane) (g.C.Clock.range c.args.clock.now) (index_of lane) (lanes_of lane) c.args.hand (hand_of lane)
+    swept_at c.args.config.now (lane_config lane) (g.C.Clock.range c.args.clock.now) (index_of lane) (lanes_of lane) c.args.hand (hand_of lane)
     (hand_of c.sweep-swept.new.self) c.into_hand.result c.sweep-swept.result c.new-lane.ensures.hand c.into_hand.ensures.hand c.new-lane.ensures.config
     c.new-lane.ensures.number.0 c.new-lane.ensures.number.1 c.sweep-swept.ensures.same.hand c.into_hand.ensures.idle c.sweep-swept.ensures.list c.sweep-swept.ensures.swept
 

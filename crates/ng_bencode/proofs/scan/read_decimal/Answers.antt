@@ -15,7 +15,7 @@ returns-in_default-parse c n small e =
 pub returns-else-eq : goal.returns-else-eq
 returns-else-eq c n small e =
     let read = parse-decimal 64 n c.in-Ok.text.now c.parse.result small small (c.in-Ok.ensures.cases.0 ∙ e) c.parse.ensures.value.0 in
-    let told = c.in-Ok-parse.is in
+    let shown = c.in-Ok-parse.is in
     let number : c.in-Ok-parse.value ≡ n = cc in
     let written = c.format.ensures.text in
     false_true ((slice_eq-Decides Decides-eqb c.as_bytes.result.now c.args.digits.now false c.if-eq.ensures).1

@@ -18,7 +18,7 @@ returns-in_default-parse-clause-number c z fits e =
 pub returns-else-eq-clause-number : goal.returns-else-eq-clause-number
 returns-else-eq-clause-number c z fits e =
     let read = parse-signed_decimal w64 z c.in-Ok.text.now c.parse.result fits fits.sfits (c.in-Ok.ensures.cases.0 ∙ e) c.parse.ensures.value.0 in
-    let told = c.in-Ok-parse.is in
+    let shown = c.in-Ok-parse.is in
     let number : c.in-Ok-parse.number ≡ z = cc in
     let again : ℤ → List ℕ = λ m. signed_decimal (to_z w64 (of_z w64 m)) in
     let written = c.format.ensures.text in

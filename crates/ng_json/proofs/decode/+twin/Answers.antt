@@ -4,14 +4,14 @@ use Rattle.serde_json.specs.View.{view, items_view, members_view}
 use Rattle.ng_bencode.specs.Row.{list_in}
 use Rattle.ng_bencode.specs.Tree.{Tree, pairs_of}
 use Rattle.ng_json.specs.Strings.{bytes_of_string}
-use Rattle.ng_json.specs.Twins.{trees_in, pairs_in, with_pair}
+use Rattle.ng_json.specs.Twins.{trees_in, pairs_in, with_pair_in_order}
 use Rattle.ng_json.proofs.Trees.{next_item, items_more, items_end, stuck_pair}
 use Rattle.ng_json.proofs.decode.+twin.Goals as goal
 
 pub pairs_in-returns-in_default-clause-no_twin : goal.pairs_in-returns-in_default-clause-no_twin
 pairs_in-returns-in_default-clause-no_twin t c is deep =
     let key : c.as_slice.result.now ≡ bytes_of_string (string_bytes c.in-Some.text.now) = c.as_slice.ensures ∙ c.in_ok-key.ensures ∙ ap bytes_of_string c.as_bytes.ensures.value in
-    let there = λ (tree : Tree). ap (λ (k : _). with_pair k tree (pairs_of c.loop-text.found.items)) (sym key) ∙ ap (λ (ps : _). with_pair c.as_slice.result.now tree (pairs_of ps)) (sym c.deref.ensures.value) ∙ c.in_default.ensures.place tree in
+    let there = λ (tree : Tree). ap (λ (k : _). with_pair_in_order k tree (pairs_of c.loop-text.found.items)) (sym key) ∙ ap (λ (ps : _). with_pair_in_order c.as_slice.result.now tree (pairs_of ps)) (sym c.deref.ensures.value) ∙ c.in_default.ensures.place tree in
     c.loop-text.invariant.found ∙ ap (λ (es : _). pairs_in (members_view es) (pairs_of c.loop-text.found.items)) c.in-Some.ensures.steps
     ∙ stuck_pair (string_bytes c.in-Some.text.now) (view c.in-Some.member.now) (members_view c.next.new.self) (pairs_of c.loop-text.found.items) there
 

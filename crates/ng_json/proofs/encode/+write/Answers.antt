@@ -1,7 +1,7 @@
 use Rattle.std.proofs.Common.{ap, arith}
 use Rattle.serde_json.specs.Data as json
 use Rattle.ng_bencode.specs.Tree.{trees_of}
-use Rattle.ng_json.specs.Written.{items_data}
+use Rattle.ng_json.specs.JsonText.{items_data}
 use Rattle.ng_json.specs.Members.{members_in}
 use Rattle.ng_json.proofs.Places.{item_depth, member_depth}
 use Rattle.ng_json.proofs.encode.+write.Goals as goal

@@ -3,7 +3,7 @@ use Rattle.serde_json.specs.Data as json
 use Rattle.serde_json.specs.Written.{items_text, members_text}
 use Rattle.ng_bencode.specs.Row.{list_in}
 use Rattle.ng_bencode.specs.Tree.{tree_of, trees_of, pairs_of}
-use Rattle.ng_json.specs.Written.{data_of, items_data, members_data}
+use Rattle.ng_json.specs.JsonText.{data_of, items_data, members_data}
 use Rattle.ng_json.specs.Members.{members_in}
 use Rattle.ng_json.proofs.encode.+write.Given as goal
 

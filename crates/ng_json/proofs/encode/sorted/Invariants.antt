@@ -1,7 +1,7 @@
 use Rattle.std.proofs.Common.{◌≡◌, drop}
 use Rattle.serde_json.specs.Data.{no_members}
 use Rattle.ng_bencode.specs.Tree.{pairs_of}
-use Rattle.ng_json.specs.Written.{members_data}
+use Rattle.ng_json.specs.JsonText.{members_data}
 use Rattle.ng_json.specs.Members.{members_in}
 use Rattle.ng_json.proofs.encode.sorted.Given as goal
 

@@ -1,7 +1,7 @@
 use Rattle.std.proofs.Common.{◌++◌, ap, ◌∙◌}
 use Rattle.serde_json.specs.Written.{compact_text}
 use Rattle.ng_bencode.specs.Tree.{tree_of}
-use Rattle.ng_json.specs.Written.{data_of}
+use Rattle.ng_json.specs.JsonText.{data_of}
 use Rattle.ng_json.proofs.Texts.{written}
 use Rattle.ng_json.proofs.encode.write.Goals as goal
 

@@ -1,5 +1,5 @@
 use Rattle.std.proofs.Common.{ap}
-use Rattle.relay_core.specs.Made.{list_of}
+use Rattle.relay_core.specs.Records.{list_of}
 use Rattle.board_turns.proofs.Firsts.{first_between}
 use Rattle.ng_server.proofs.server.start_table.Goals as goal
 

@@ -4,7 +4,7 @@ use Rattle.offer_answer.specs.Rounds.{Round, OfferAsk}
 use Rattle.offer_answer.specs.Sides.{offerer}
 use Rattle.offer_answer.specs.Dialogs.{DialogFor}
 use Rattle.offer_answer.specs.LastOffers.{no_made}
-use Rattle.offer_answer.specs.Offering.{HearsOffer}
+use Rattle.offer_answer.specs.Offers.{ReadsOffer}
 use Rattle.offer_answer.specs.Nexts.{MadeNext}
 use Rattle.offer_answer.proofs.next_offer.made_sections.Given as goal
 
@@ -12,7 +12,7 @@ use Rattle.offer_answer.proofs.next_offer.made_sections.Given as goal
 abbrev pub invariant-loop-index : goal.invariant-loop-index
 invariant-loop-index l = record {
   full : length l.sections ≡ 8;
-  done : (config : Config) (rounds : List Round) (ask : OfferAsk) → DialogFor config l.fn.dialog rounds → HearsOffer l.fn.sdp ask →
+  done : (config : Config) (rounds : List Round) (ask : OfferAsk) → DialogFor config l.fn.dialog rounds → ReadsOffer l.fn.sdp ask →
       l.fn.transport ≡ ask.options.transport → l.fn.maker ≡ offerer rounds ask →
       (section : ℕ) → section < l.index → MadeNext rounds ask section (slice_index_or l.sections section no_made);
 }

@@ -3,7 +3,7 @@ use Rattle.relay_outside.specs.declared.settings.Config.{Config}
 use Rattle.offer_answer.specs.Rounds.{Round, OfferAsk}
 use Rattle.offer_answer.specs.Sides.{offerer}
 use Rattle.offer_answer.specs.Dialogs.{DialogFor, no_state}
-use Rattle.offer_answer.specs.Offering.{HearsOffer}
+use Rattle.offer_answer.specs.Offers.{ReadsOffer}
 use Rattle.offer_answer.specs.Nexts.{SectionNext}
 use Rattle.offer_answer.proofs.next_offer.sections_after.Given as goal
 
@@ -11,7 +11,7 @@ use Rattle.offer_answer.proofs.next_offer.sections_after.Given as goal
 abbrev pub invariant-loop-index : goal.invariant-loop-index
 invariant-loop-index l = record {
   full : length l.sections ≡ 8;
-  done : (config : Config) (rounds : List Round) (ask : OfferAsk) → DialogFor config l.fn.dialog rounds → HearsOffer l.fn.sdp ask →
+  done : (config : Config) (rounds : List Round) (ask : OfferAsk) → DialogFor config l.fn.dialog rounds → ReadsOffer l.fn.sdp ask →
       l.fn.transport ≡ ask.options.transport → l.fn.maker ≡ offerer rounds ask →
       (section : ℕ) → section < l.index → SectionNext config rounds ask [] [] section (slice_index_or l.sections section no_state);
 }

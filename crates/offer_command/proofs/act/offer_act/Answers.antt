@@ -1,41 +1,41 @@
 use Rattle.std.proofs.Common.{◌≡◌, ◌∙◌, ◌++◌, refl, sym, ap, subst, ℕ, ◌*◌, true, List, length, take, replicate, arith}
 use Rattle.std.proofs.lemmas.List.{length-map}
 use Rattle.turn_table.specs.Hands.{entries}
-use Rattle.offer_answer.specs.Offering.{pair_count, key_count}
+use Rattle.offer_answer.specs.Offers.{pairs_demanded, key_count}
 use Rattle.offer_answer.specs.Widths.{WritesFrom}
 use Rattle.port_pool.specs.declared.pairs.Lease.{Lease}
 use Rattle.call_board.specs.declared.board_plan.BoardPlan.{BoardPlan}
-use Rattle.call_board.specs.Boards.{Shows, lease_at, leases_of, pairs_in}
+use Rattle.call_board.specs.Boards.{BoardMatches, lease_at, front_leases, pairs_in}
 use Rattle.call_board.specs.Pairs.{free, held}
-use Rattle.call_board.specs.Planned.{CallRoom}
-use Rattle.call_board.specs.Views.{view_of, at_moment, with_leases}
+use Rattle.call_board.specs.Plans.{CallRoom}
+use Rattle.call_board.specs.Views.{view_of, view_at_moment, with_leases}
 use Rattle.call_board.proofs.Entries.{draws_keep}
 use Rattle.relay_core.specs.Entries.{board_history}
-use Rattle.relay_core.specs.Turning.{GainsNested, made_by}
+use Rattle.relay_core.specs.Turns.{GainsNested, made_by}
 use Rattle.relay_core.proofs.Histories.{good_history}
-use Rattle.media_ports.specs.Held.{TellsHeld}
+use Rattle.media_ports.specs.OpenPorts.{LogsHeld}
 use Rattle.media_ports.proofs.Asked.{gained_opens_alone}
 use Rattle.board_turns.proofs.Staying.{may_again, same_config, nests_none, nests_both}
 use Rattle.board_turns.specs.declared.board_turn.BoardEntryId.{BoardEntryId}
-use Rattle.board_turns.specs.Closing as closing
-use Rattle.board_turns.specs.Closing.{CanClose, ClosesLegs, closings_of, pairs_left}
+use Rattle.board_turns.specs.Closings as closing
+use Rattle.board_turns.specs.Closings.{CanClose, ClosesLegs, closings_of, pairs_left}
 use Rattle.board_turns.specs.Ties.{TiesTakes}
-use Rattle.relay_core.specs.Standing.{GoneHome}
+use Rattle.relay_core.specs.PlaceHistories.{GoneHome}
 use Rattle.relay_outside.specs.declared.settings.Config.{Config}
-use Rattle.relay_outside.specs.Told.{Gained, WhereTold}
-use Rattle.media_ports.specs.Held.{OpensHeld}
-use Rattle.media_ports.specs.Draws.{DrawsAll, KeyBytes}
+use Rattle.relay_outside.specs.DeviceLogs.{Gained, WhereLogged}
+use Rattle.media_ports.specs.OpenPorts.{OpensHeld}
+use Rattle.media_ports.specs.Draws.{AreDrawn, KeyBytes}
 use Rattle.call_board.specs.Acts as act
-use Rattle.board_turns.specs.Ending.{leg_pairs}
+use Rattle.board_turns.specs.CallEnds.{leg_pairs}
 use Rattle.board_turns.proofs.Ended.{ports_are as have_ports}
 use Rattle.board_turns.proofs.Tying.{ties_both, ties_gone, ties_uncalled}
 use Rattle.board_turns.proofs.Unopened.{gone_open_none}
-use Rattle.offer_command.specs.Leasing.{with_taken}
-use Rattle.offer_command.specs.Undoing.{keys_before}
+use Rattle.offer_command.specs.Leases.{with_taken}
+use Rattle.offer_command.specs.Undo.{keys_before}
 use Rattle.offer_command.specs.Brings.{HasLegRoom}
 use Rattle.offer_command.proofs.OpensAsked.{gained_pairs, gained_undone}
 use Rattle.offer_command.proofs.Counted.{plan_few, may_lease}
-use Rattle.offer_command.specs.Offers.{target_of, offer_of, dropped_legs, leased_view, next_key, demand_of, text_of, with_offer}
+use Rattle.offer_command.specs.Offers.{target_of, offer_of, dropped_legs, leased_view, next_key_number, demand_of, offered_text, with_offer}
 use Rattle.offer_command.proofs.Kept.{both_held}
 use Rattle.offer_command.proofs.Leased.{are_fronts, pairs_leased}
 use Rattle.offer_command.proofs.Taken.{ports_are, pairs_of_legs}
@@ -57,7 +57,7 @@ lease_offer-requires-clause-can g c =
     let few = plan_few c.args.offer.plan (target_of config h id).rounds ask d.plans.1.plan_for.demands (sound_of config h id ask c.args.offer.plan _ d) in
     let short = board_history_short l c.args.turn.now.main.entry_id.number turn.may.numbered in
     let low = turn.low in
-    may_lease config h c.args.turn.now.board.now (g.P.PortMaker.told c.args.turn.now.ports.now) c.args.offer.plan (at_moment (view_of config h) c.args.turn.now.main.entry_id.moment) (good_history config l turn.orderly c.args.turn.now.main.entry_id.number)
+    may_lease config h c.args.turn.now.board.now (g.P.PortMaker.log c.args.turn.now.ports.now) c.args.offer.plan (view_at_moment (view_of config h) c.args.turn.now.main.entry_id.moment) (good_history config l turn.orderly c.args.turn.now.main.entry_id.number)
     (omega (arith, short, low)) c.requires.planned few.0 few.1 turn.shows refl refl refl turn.opens
 
 pub prepare_offer-requires-clause-due : goal.prepare_offer-requires-clause-due
@@ -75,40 +75,40 @@ pub prepare_offer-requires-clause-leases : goal.prepare_offer-requires-clause-le
 prepare_offer-requires-clause-leases g c =
     let config = c.args.turn.now.main.config.now in
     let h = board_history (made_by c.args.turn.now.main.hand.now) c.args.turn.now.main.entry_id.number in
-    c.in-Ok.ensures.leases (at_moment (view_of config h) c.args.turn.now.main.entry_id.moment) c.requires.begins.in_turn.shows
-    ∙ ap (λ (q : BoardPlan). leases_of config (view_of config h) (pair_count q.plan)) (sym c.in-Ok.ensures.plan)
+    c.in-Ok.ensures.leases (view_at_moment (view_of config h) c.args.turn.now.main.entry_id.moment) c.requires.begins.in_turn.shows
+    ∙ ap (λ (q : BoardPlan). front_leases config (view_of config h) (pairs_demanded q.plan)) (sym c.in-Ok.ensures.plan)
 
 pub prepare_offer-requires-clause-first : goal.prepare_offer-requires-clause-first
 prepare_offer-requires-clause-first g c =
     let config = c.args.turn.now.main.config.now in
     let h = board_history (made_by c.args.turn.now.main.hand.now) c.args.turn.now.main.entry_id.number in
-    c.in-Ok.ensures.first (at_moment (view_of config h) c.args.turn.now.main.entry_id.moment) c.requires.begins.in_turn.shows
+    c.in-Ok.ensures.first (view_at_moment (view_of config h) c.args.turn.now.main.entry_id.moment) c.requires.begins.in_turn.shows
 
 pub returns-in-Err-clause-undoes : goal.returns-in-Err-clause-undoes
 returns-in-Err-clause-undoes g c id ask can e code acts =
     let config = c.args.turn.now.main.config.now in
     let h = board_history (made_by c.args.turn.now.main.hand.now) c.args.turn.now.main.entry_id.number in
-    let v = at_moment (view_of config h) c.args.turn.now.main.entry_id.moment in
+    let v = view_at_moment (view_of config h) c.args.turn.now.main.entry_id.moment in
     let turn = c.requires.begins.in_turn in
     let d = some_due config h id ask c.args.offer.sdp.now c.args.offer.plan can in
-    does_undone config c.args.turn.now.main.hand.now c.args.turn.now.main.entry_id e c.lease_offer.new.board (g.P.PortMaker.told c.lease_offer.new.ports) id ask code (keys_before c.in-Err.fault) (pair_count c.args.offer.plan.plan) acts
+    does_undone config c.args.turn.now.main.hand.now c.args.turn.now.main.entry_id e c.lease_offer.new.board (g.P.PortMaker.log c.lease_offer.new.ports) id ask code (keys_before c.in-Err.fault) (pairs_demanded c.args.offer.plan.plan) acts
     (ap (λ (n : ℕ). take n (free config h)) (sym (pairs_count config h id ask c.args.offer.plan d.plans.1)))
     (enough_free config h c.args.turn.now.board.now c.args.offer.plan v turn.shows refl c.requires.planned)
     (c.in-Err.ensures.undone v turn.shows) (c.in-Err.ensures.still_open (leg_pairs (held h)) turn.opens)
 
 pub returns-in-Err-clause-opens_before : goal.returns-in-Err-clause-opens_before
 returns-in-Err-clause-opens_before g c =
-    let told = g.P.PortMaker.told in
+    let log = g.P.PortMaker.log in
     let config = c.args.turn.now.main.config.now in
     let l = made_by c.args.turn.now.main.hand.now in
     let h = board_history l c.args.turn.now.main.entry_id.number in
-    let v = at_moment (view_of config h) c.args.turn.now.main.entry_id.moment in
-    let pairs = pair_count c.args.offer.plan.plan in
+    let v = view_at_moment (view_of config h) c.args.turn.now.main.entry_id.moment in
+    let pairs = pairs_demanded c.args.offer.plan.plan in
     let turn = c.requires.begins.in_turn in
-    let leases = leases_of config v pairs in
+    let leases = front_leases config v pairs in
     let many = length-map (take pairs (free config h)) (lease_at config v.leases) ∙ enough_free config h c.args.turn.now.board.now c.args.offer.plan v turn.shows refl c.requires.planned in
     gained_undone config (free config h) pairs leases (are_fronts config h pairs leases (good_history config l turn.orderly c.args.turn.now.main.entry_id.number) refl many) (key_count c.args.offer.plan.plan) c.in-Err.fault
-    (told c.args.turn.now.ports.now) (told c.lease_offer.new.ports) c.in-Err.ensures.early (c.in-Err.ensures.closes v turn.shows)
+    (log c.args.turn.now.ports.now) (log c.lease_offer.new.ports) c.in-Err.ensures.early (c.in-Err.ensures.closes v turn.shows)
 
 pub apply_offer-drawn-requires-clause-may : goal.apply_offer-drawn-requires-clause-may
 apply_offer-drawn-requires-clause-may g c =
@@ -120,11 +120,11 @@ apply_offer-drawn-requires-clause-may g c =
     let ask = c.requires.due.1 in
     let draws = c.in-Ok.leased.plan.drawn.list in
     let d = due_leased config h id ask c.args.offer.plan c.in-Ok.leased.plan.plan draws c.in-Ok.ensures.plan (c.requires.due.2.due draws c.in-Ok.ensures.keys) in
-    let v = at_moment (view_of config h) c.args.turn.now.main.entry_id.moment in
-    let keep = draws_keep (with_leases v (pair_count c.args.offer.plan.plan)) (length draws) in
+    let v = view_at_moment (view_of config h) c.args.turn.now.main.entry_id.moment in
+    let keep = draws_keep (with_leases v (pairs_demanded c.args.offer.plan.plan)) (length draws) in
     let short = board_history_short l c.args.turn.now.main.entry_id.number turn.may.numbered in
     let low = turn.low in
-    may_apply config h id ask c.in-Ok.leased.plan.plan c.args.turn.now.board.now c.lease_offer.new.board (with_taken v (pair_count c.args.offer.plan.plan) (length draws))
+    may_apply config h id ask c.in-Ok.leased.plan.plan c.args.turn.now.board.now c.lease_offer.new.board (with_taken v (pairs_demanded c.args.offer.plan.plan) (length draws))
     (good_history config l turn.orderly c.args.turn.now.main.entry_id.number) (c.in-Ok.ensures.taken v turn.shows) keep.calls_are keep.begun_is (omega (arith, short, low)) c.lease_offer.ensures.calls d.plans.1
     (subst (λ (q : BoardPlan). CallRoom c.args.turn.now.board.now q.begun) (sym c.in-Ok.ensures.plan) c.requires.planned.call)
 
@@ -141,16 +141,16 @@ close_legs-requires-clause-can g c =
     let p = c.in-Ok.leased.plan.plan in
     let leases = c.in-Ok.leased.pairs.leases.list in
     let draws = c.in-Ok.leased.plan.drawn.list in
-    let told = g.P.PortMaker.told c.lease_offer.new.ports in
+    let log = g.P.PortMaker.log c.lease_offer.new.ports in
     let board = c.lease_offer.new.board in
     let d = due_leased config h id ask c.args.offer.plan p draws c.in-Ok.ensures.plan (c.requires.due.2.due draws c.in-Ok.ensures.keys) in
-    let count = pair_count p.plan in
-    let v = at_moment (view_of config h) entry_id.moment in
-    let fronts = c.in-Ok.ensures.leases v turn.shows ∙ ap (λ (q : BoardPlan). leases_of config (view_of config h) (pair_count q.plan)) (sym c.in-Ok.ensures.plan) in
+    let count = pairs_demanded p.plan in
+    let v = view_at_moment (view_of config h) entry_id.moment in
+    let fronts = c.in-Ok.ensures.leases v turn.shows ∙ ap (λ (q : BoardPlan). front_leases config (view_of config h) (pairs_demanded q.plan)) (sym c.in-Ok.ensures.plan) in
     let first = c.in-Ok.ensures.first v turn.shows in
     let shows =
-    subst (λ (q : BoardPlan). Shows config board (leased_view config h entry_id.moment (pair_count q.plan) (key_count q.plan))) (sym c.in-Ok.ensures.plan)
-    (subst (λ (k : ℕ). Shows config board (leased_view config h entry_id.moment (pair_count c.args.offer.plan.plan) k)) c.in-Ok.ensures.keys (c.in-Ok.ensures.taken v turn.shows)) in
+    subst (λ (q : BoardPlan). BoardMatches config board (leased_view config h entry_id.moment (pairs_demanded q.plan) (key_count q.plan))) (sym c.in-Ok.ensures.plan)
+    (subst (λ (k : ℕ). BoardMatches config board (leased_view config h entry_id.moment (pairs_demanded c.args.offer.plan.plan) k)) c.in-Ok.ensures.keys (c.in-Ok.ensures.taken v turn.shows)) in
     let others = leg_pairs (held h) in
     let more = pairs_in leases in
     let opens = c.in-Ok.ensures.are_open others (more ++ others) turn.opens (both_held others more) in
@@ -159,12 +159,12 @@ close_legs-requires-clause-can g c =
     let ports = c.in-Ok.ensures.ports ∙ ports_are config h id ask draws count leases fronts same in
     let pairs : pairs_in leases ≡ leg_pairs (offer_of config h id ask draws).legs =
     pairs_leased config h count leases fronts ∙ ap (λ (n : ℕ). take n (free config h)) same ∙ sym (pairs_of_legs config h id ask draws) in
-    subst (λ (k : Config). CanClose k (made_by c.prepare_offer.new.main.hand.now) c.apply_offer-drawn.new.board told c.prepare_offer.new.gone) (sym (same_config c.args.turn.now.main c.prepare_offer.new.main c.prepare_offer.ensures.nests))
-    (can_close config entry_id.number entry_id.moment c.args.turn.now.main.hand.now c.prepare_offer.new.main.hand.now c.apply_offer-drawn.new.board told id ask p draws count (key_count p.plan)
+    subst (λ (k : Config). CanClose k (made_by c.prepare_offer.new.main.hand.now) c.apply_offer-drawn.new.board log c.prepare_offer.new.gone) (sym (same_config c.args.turn.now.main c.prepare_offer.new.main c.prepare_offer.ensures.nests))
+    (can_close config entry_id.number entry_id.moment c.args.turn.now.main.hand.now c.prepare_offer.new.main.hand.now c.apply_offer-drawn.new.board log id ask p draws count (key_count p.plan)
     c.prepare_offer.new.gone turn.orderly turn.above d (c.prepare_offer.ensures.gained id ask d) (c.prepare_offer.ensures.went id ask d)
-    (subst (λ (m : ℕ). Shows config c.apply_offer-drawn.new.board (with_offer (offer_of config h id ask draws) m (leased_view config h entry_id.moment count (key_count p.plan)))) (ap (λ (e : BoardEntryId). e.moment) c.prepare_offer.ensures.nests.entry_is)
+    (subst (λ (m : ℕ). BoardMatches config c.apply_offer-drawn.new.board (with_offer (offer_of config h id ask draws) m (leased_view config h entry_id.moment count (key_count p.plan)))) (ap (λ (e : BoardEntryId). e.moment) c.prepare_offer.ensures.nests.entry_is)
     (c.apply_offer-drawn.ensures.taken config h id ask (leased_view config h entry_id.moment count (key_count p.plan)) good d first ports shows keep.calls_are keep.begun_is))
-    (subst (λ (ps : List ℕ). TellsHeld config told (ps ++ leg_pairs (held h))) pairs opens))
+    (subst (λ (ps : List ℕ). LogsHeld config log (ps ++ leg_pairs (held h))) pairs opens))
 
 pub returns-clause-does : goal.returns-clause-does
 returns-clause-does g c id ask can e fits acts now =
@@ -177,7 +177,7 @@ returns-clause-does g c id ask can e fits acts now =
     let p = c.in-Ok.leased.plan.plan in
     let leases = c.in-Ok.leased.pairs.leases.list in
     let draws = c.in-Ok.leased.plan.drawn.list in
-    let told = g.P.PortMaker.told c.lease_offer.new.ports in
+    let log = g.P.PortMaker.log c.lease_offer.new.ports in
     let board = c.lease_offer.new.board in
     let given : c.apply_offer-drawn.result.list ≡ draws = ap (λ (ks : KeyBytes). ks.list) c.apply_offer-drawn.ensures.keys in
     let mid = c.prepare_offer.new.main in
@@ -187,15 +187,15 @@ returns-clause-does g c id ask can e fits acts now =
     let closed : GainsNested entry_id.number entry_id.moment (closings_of config gone) mid.hand.now new.main.hand.now =
     subst (λ (e : BoardEntryId). GainsNested e.number e.moment (closings_of config gone) mid.hand.now new.main.hand.now) c.prepare_offer.ensures.nests.entry_is
     (subst (λ (k : Config). GainsNested mid.entry_id.number mid.entry_id.moment (closings_of k gone) mid.hand.now new.main.hand.now) same c.close_legs.ensures.gained) in
-    let left = subst (λ (k : Config). (held : List ℕ) → WhereTold told (λ calls. OpensHeld k calls held) → WhereTold (g.P.PortMaker.told new.ports.now) (λ calls. OpensHeld k calls (pairs_left (pairs_in (closing.leases_of gone)) held))) same c.close_legs.ensures.«open» in
+    let left = subst (λ (k : Config). (held : List ℕ) → WhereLogged log (λ calls. OpensHeld k calls held) → WhereLogged (g.P.PortMaker.log new.ports.now) (λ calls. OpensHeld k calls (pairs_left (pairs_in (closing.leases_of_legs gone)) held))) same c.close_legs.ensures.«open» in
     let d = due_leased config h id ask c.args.offer.plan p draws c.in-Ok.ensures.plan (can.due draws c.in-Ok.ensures.keys) in
-    let count = pair_count p.plan in
-    let v = at_moment (view_of config h) entry_id.moment in
-    let fronts = c.in-Ok.ensures.leases v turn.shows ∙ ap (λ (q : BoardPlan). leases_of config (view_of config h) (pair_count q.plan)) (sym c.in-Ok.ensures.plan) in
+    let count = pairs_demanded p.plan in
+    let v = view_at_moment (view_of config h) entry_id.moment in
+    let fronts = c.in-Ok.ensures.leases v turn.shows ∙ ap (λ (q : BoardPlan). front_leases config (view_of config h) (pairs_demanded q.plan)) (sym c.in-Ok.ensures.plan) in
     let first = c.in-Ok.ensures.first v turn.shows in
     let before =
-    subst (λ (q : BoardPlan). Shows config board (leased_view config h entry_id.moment (pair_count q.plan) (key_count q.plan))) (sym c.in-Ok.ensures.plan)
-    (subst (λ (k : ℕ). Shows config board (leased_view config h entry_id.moment (pair_count c.args.offer.plan.plan) k)) c.in-Ok.ensures.keys (c.in-Ok.ensures.taken v turn.shows)) in
+    subst (λ (q : BoardPlan). BoardMatches config board (leased_view config h entry_id.moment (pairs_demanded q.plan) (key_count q.plan))) (sym c.in-Ok.ensures.plan)
+    (subst (λ (k : ℕ). BoardMatches config board (leased_view config h entry_id.moment (pairs_demanded c.args.offer.plan.plan) k)) c.in-Ok.ensures.keys (c.in-Ok.ensures.taken v turn.shows)) in
     let others = leg_pairs (held h) in
     let more = pairs_in leases in
     let opens = c.in-Ok.ensures.are_open others (more ++ others) turn.opens (both_held others more) in
@@ -204,20 +204,20 @@ returns-clause-does g c id ask can e fits acts now =
     let ports = c.in-Ok.ensures.ports ∙ ports_are config h id ask draws count leases fronts many_pairs in
     let pairs : pairs_in leases ≡ leg_pairs (offer_of config h id ask draws).legs =
     pairs_leased config h count leases fronts ∙ ap (λ (n : ℕ). take n (free config h)) many_pairs ∙ sym (pairs_of_legs config h id ask draws) in
-    let counted = c.in-Ok.ensures.pairs ∙ ap (λ (q : BoardPlan). pair_count q.plan) (sym c.in-Ok.ensures.plan) in
+    let counted = c.in-Ok.ensures.pairs ∙ ap (λ (q : BoardPlan). pairs_demanded q.plan) (sym c.in-Ok.ensures.plan) in
     let drawn = c.in-Ok.ensures.keys ∙ ap (λ (q : BoardPlan). key_count q.plan) (sym c.in-Ok.ensures.plan) in
     let many : length (take count (free config h)) ≡ count =
     sym (length-map (take count (free config h)) (lease_at config (view_of config h).leases)) ∙ sym (ap length fronts) ∙ counted in
-    let shows = subst (λ (m : ℕ). Shows config c.apply_offer-drawn.new.board (with_offer (offer_of config h id ask draws) m (leased_view config h entry_id.moment count (key_count p.plan)))) (ap (λ (e : BoardEntryId). e.moment) c.prepare_offer.ensures.nests.entry_is)
+    let shows = subst (λ (m : ℕ). BoardMatches config c.apply_offer-drawn.new.board (with_offer (offer_of config h id ask draws) m (leased_view config h entry_id.moment count (key_count p.plan)))) (ap (λ (e : BoardEntryId). e.moment) c.prepare_offer.ensures.nests.entry_is)
     (c.apply_offer-drawn.ensures.taken config h id ask (leased_view config h entry_id.moment count (key_count p.plan)) good d first ports before keep.calls_are keep.begun_is) in
-    does_offer config c.args.turn.now.main.hand.now c.prepare_offer.new.main.hand.now c.close_legs.new.turn.main.hand.now entry_id e new.board.now (g.P.PortMaker.told new.ports.now) id ask draws count (key_count p.plan)
+    does_offer config c.args.turn.now.main.hand.now c.prepare_offer.new.main.hand.now c.close_legs.new.turn.main.hand.now entry_id e new.board.now (g.P.PortMaker.log new.ports.now) id ask draws count (key_count p.plan)
     c.prepare_offer.new.gone turn.orderly fits (acts ∙ ap (λ (ds : List (List ℕ)). act.Offered (offer_of config h id ask ds)) given) now
     (ap (λ (n : ℕ). length (take n (free config h))) (sym many_pairs) ∙ many)
-    (keys_length (next_key h) draws (demand_of config h id ask).keys (drawn ∙ keys_count config h id ask p d.plans.1) ∙ drawn)
+    (keys_length (next_key_number h) draws (demand_of config h id ask).keys (drawn ∙ keys_count config h id ask p d.plans.1) ∙ drawn)
     (c.prepare_offer.ensures.went id ask d) (c.prepare_offer.ensures.gained id ask d) closed
     (c.close_legs.ensures.returned config (with_offer (offer_of config h id ask draws) entry_id.moment (leased_view config h entry_id.moment count (key_count p.plan))) shows)
     (left (leg_pairs (offer_of config h id ask draws).legs ++ leg_pairs (held h))
-    (subst (λ (ps : List ℕ). TellsHeld config told (ps ++ leg_pairs (held h))) pairs opens))
+    (subst (λ (ps : List ℕ). LogsHeld config log (ps ++ leg_pairs (held h))) pairs opens))
 
 pub returns-clause-text : goal.returns-clause-text
 returns-clause-text g c id ask can =
@@ -230,12 +230,12 @@ returns-clause-text g c id ask can =
     let leases = c.in-Ok.leased.pairs.leases.list in
     let draws = c.in-Ok.leased.plan.drawn.list in
     let d = due_leased config h id ask c.args.offer.plan p draws c.in-Ok.ensures.plan (can.due draws c.in-Ok.ensures.keys) in
-    let v = at_moment (view_of config h) entry_id.moment in
-    let fronts = c.in-Ok.ensures.leases v turn.shows ∙ ap (λ (q : BoardPlan). leases_of config (view_of config h) (pair_count q.plan)) (sym c.in-Ok.ensures.plan) in
-    let ports = c.in-Ok.ensures.ports ∙ ports_are config h id ask draws (pair_count p.plan) leases fronts (pairs_count config h id ask p d.plans.1) in
+    let v = view_at_moment (view_of config h) entry_id.moment in
+    let fronts = c.in-Ok.ensures.leases v turn.shows ∙ ap (λ (q : BoardPlan). front_leases config (view_of config h) (pairs_demanded q.plan)) (sym c.in-Ok.ensures.plan) in
+    let ports = c.in-Ok.ensures.ports ∙ ports_are config h id ask draws (pairs_demanded p.plan) leases fronts (pairs_count config h id ask p d.plans.1) in
     c.apply_offer-drawn.ensures.text config h id ask (good_history config l turn.orderly entry_id.number) d (c.in-Ok.ensures.first v turn.shows) ports can.lines_are
-    ∙ ap (λ (xs : List ℕ). xs ++ text_of config h id (offer_of config h id ask draws)) c.requires.room.text.0
-    ∙ ap (λ (ds : List (List ℕ)). text_of config h id (offer_of config h id ask ds)) (sym (ap (λ (ks : KeyBytes). ks.list) c.apply_offer-drawn.ensures.keys))
+    ∙ ap (λ (xs : List ℕ). xs ++ offered_text config h id (offer_of config h id ask draws)) c.requires.room.text.0
+    ∙ ap (λ (ds : List (List ℕ)). offered_text config h id (offer_of config h id ask ds)) (sym (ap (λ (ks : KeyBytes). ks.list) c.apply_offer-drawn.ensures.keys))
 
 pub returns-clause-within : goal.returns-clause-within
 returns-clause-within g c =
@@ -246,23 +246,23 @@ returns-clause-within g c =
 
 pub returns-clause-opens : goal.returns-clause-opens
 returns-clause-opens g c =
-    let told = g.P.PortMaker.told in
+    let log = g.P.PortMaker.log in
     let config = c.args.turn.now.main.config.now in
     let l = made_by c.args.turn.now.main.hand.now in
     let entry_id = c.args.turn.now.main.entry_id in
     let h = board_history l entry_id.number in
-    let v = at_moment (view_of config h) entry_id.moment in
-    let pairs = pair_count c.args.offer.plan.plan in
+    let v = view_at_moment (view_of config h) entry_id.moment in
+    let pairs = pairs_demanded c.args.offer.plan.plan in
     let turn = c.requires.begins.in_turn in
     let leases = c.in-Ok.leased.pairs.leases.list in
     let are = are_fronts config h pairs leases (good_history config l turn.orderly entry_id.number) (c.in-Ok.ensures.leases v turn.shows) c.in-Ok.ensures.pairs in
-    gained_opens_alone config (free config h) (replicate (2 * pairs) true) (told c.args.turn.now.ports.now) (told c.lease_offer.new.ports) (told c.close_legs.new.turn.ports.now)
-    (gained_pairs config (free config h) pairs leases are (told c.args.turn.now.ports.now) (told c.lease_offer.new.ports) c.in-Ok.ensures.opens)
-    (gone_open_none g.P.Out.OutEnd.told config.interface c.prepare_offer.new.gone (told c.lease_offer.new.ports) (told c.close_legs.new.turn.ports.now)
-    (subst (λ (k : Config). Gained (told c.lease_offer.new.ports) (told c.close_legs.new.turn.ports.now) (ClosesLegs g.P.Out.OutEnd.told k.interface c.prepare_offer.new.gone)) (same_config c.args.turn.now.main c.prepare_offer.new.main c.prepare_offer.ensures.nests) c.close_legs.ensures.closes))
+    gained_opens_alone config (free config h) (replicate (2 * pairs) true) (log c.args.turn.now.ports.now) (log c.lease_offer.new.ports) (log c.close_legs.new.turn.ports.now)
+    (gained_pairs config (free config h) pairs leases are (log c.args.turn.now.ports.now) (log c.lease_offer.new.ports) c.in-Ok.ensures.opens)
+    (gone_open_none g.P.Out.OutEnd.log config.interface c.prepare_offer.new.gone (log c.lease_offer.new.ports) (log c.close_legs.new.turn.ports.now)
+    (subst (λ (k : Config). Gained (log c.lease_offer.new.ports) (log c.close_legs.new.turn.ports.now) (ClosesLegs g.P.Out.OutEnd.log k.interface c.prepare_offer.new.gone)) (same_config c.args.turn.now.main c.prepare_offer.new.main c.prepare_offer.ensures.nests) c.close_legs.ensures.closes))
 
 pub prepare_offer-requires-clause-count : goal.prepare_offer-requires-clause-count
-prepare_offer-requires-clause-count g c = c.in-Ok.ensures.pairs ∙ ap (λ (q : BoardPlan). pair_count q.plan) (sym c.in-Ok.ensures.plan)
+prepare_offer-requires-clause-count g c = c.in-Ok.ensures.pairs ∙ ap (λ (q : BoardPlan). pairs_demanded q.plan) (sym c.in-Ok.ensures.plan)
 
 pub prepare_offer-requires-clause-opened : goal.prepare_offer-requires-clause-opened
 prepare_offer-requires-clause-opened g c = c.in-Ok.ensures.opened ∙ prepare_offer-requires-clause-count g c
@@ -303,14 +303,14 @@ prepare_offer-requires-clause-room g c = subst (λ (q : BoardPlan). HasLegRoom q
 pub apply_offer-drawn-requires-clause-ports : goal.apply_offer-drawn-requires-clause-ports
 apply_offer-drawn-requires-clause-ports g c =
     ap length c.in-Ok.ensures.ports ∙ length-map c.in-Ok.leased.pairs.leases.list (λ (lease : Lease). lease.rtp_port)
-    ∙ c.in-Ok.ensures.pairs ∙ ap (λ (q : BoardPlan). pair_count q.plan) (sym c.in-Ok.ensures.plan)
+    ∙ c.in-Ok.ensures.pairs ∙ ap (λ (q : BoardPlan). pairs_demanded q.plan) (sym c.in-Ok.ensures.plan)
 
 pub close_legs-requires-clause-may : goal.close_legs-requires-clause-may
 close_legs-requires-clause-may g c = may_again c.args.turn.now.main c.prepare_offer.new.main c.prepare_offer.ensures.nests
 
 pub close_legs-requires-clause-home : goal.close_legs-requires-clause-home
 close_legs-requires-clause-home g c =
-    subst (λ (k : Config). GoneHome g.P.Out.OutEnd.told k c.prepare_offer.new.gone) (sym (same_config c.args.turn.now.main c.prepare_offer.new.main c.prepare_offer.ensures.nests)) c.prepare_offer.ensures.home
+    subst (λ (k : Config). GoneHome g.P.Out.OutEnd.log k c.prepare_offer.new.gone) (sym (same_config c.args.turn.now.main c.prepare_offer.new.main c.prepare_offer.ensures.nests)) c.prepare_offer.ensures.home
 
 pub returns-in-Err-clause-works : goal.returns-in-Err-clause-works
 returns-in-Err-clause-works g c =
@@ -322,7 +322,7 @@ returns-in-Err-clause-works g c =
         replies = c.lease_offer.ensures.replies;
         later = c.lease_offer.ensures.later.0;
       };
-      ties = ties_uncalled turn.main.config.now (g.P.PortMaker.told turn.ports.now) (g.P.PortMaker.told c.lease_offer.new.ports) (entries turn.main.hand.now) c.lease_offer.ensures.gives_back;
+      ties = ties_uncalled turn.main.config.now (g.P.PortMaker.log turn.ports.now) (g.P.PortMaker.log c.lease_offer.new.ports) (entries turn.main.hand.now) c.lease_offer.ensures.gives_back;
       empty = c.requires.begins.empty;
     }
 
@@ -330,7 +330,7 @@ pub returns-clause-works : goal.returns-clause-works
 returns-clause-works g c =
     let turn = c.args.turn.now in
     let config = turn.main.config.now in
-    let told = g.P.PortMaker.told in
+    let log = g.P.PortMaker.log in
     let rows = entries turn.main.hand.now in
     let h = board_history (made_by turn.main.hand.now) turn.main.entry_id.number in
     let id = c.requires.due.0 in
@@ -340,7 +340,7 @@ returns-clause-works g c =
     let mid = c.prepare_offer.new.main in
     let new = c.close_legs.new.turn in
     let gone = c.prepare_offer.new.gone in
-    let taken = told c.lease_offer.new.ports in
+    let taken = log c.lease_offer.new.ports in
     let closed = c.close_legs.ensures in
     let same = same_config c.args.turn.now.main c.prepare_offer.new.main c.prepare_offer.ensures.nests in
     let leased = c.lease_offer.ensures.later.0 in
@@ -352,13 +352,13 @@ returns-clause-works g c =
         replies = closed.stays.replies ∙ c.apply_offer-drawn.ensures.replies ∙ c.lease_offer.ensures.replies;
         later = omega (arith, leased, later);
       };
-      ties = ties_both config (told turn.ports.now) taken (told new.ports.now) rows rows (entries new.main.hand.now)
-          (ties_uncalled config (told turn.ports.now) taken rows c.lease_offer.ensures.gives_back)
-          (ties_gone g.P.Out.OutEnd.told config taken (told new.ports.now) rows (entries mid.hand.now) (entries new.main.hand.now) gone
+      ties = ties_both config (log turn.ports.now) taken (log new.ports.now) rows rows (entries new.main.hand.now)
+          (ties_uncalled config (log turn.ports.now) taken rows c.lease_offer.ensures.gives_back)
+          (ties_gone g.P.Out.OutEnd.log config taken (log new.ports.now) rows (entries mid.hand.now) (entries new.main.hand.now) gone
           (have_ports config gone (dropped_legs h (offer_of config h id ask draws)) (c.prepare_offer.ensures.went id ask d))
           c.prepare_offer.ensures.leave
-          (subst (λ (k : Config). TiesTakes k taken (told new.ports.now) (entries mid.hand.now) (entries new.main.hand.now)) same closed.takes)
-          (subst (λ (k : Config). Gained taken (told new.ports.now) (ClosesLegs g.P.Out.OutEnd.told k.interface gone)) same closed.closes));
+          (subst (λ (k : Config). TiesTakes k taken (log new.ports.now) (entries mid.hand.now) (entries new.main.hand.now)) same closed.takes)
+          (subst (λ (k : Config). Gained taken (log new.ports.now) (ClosesLegs g.P.Out.OutEnd.log k.interface gone)) same closed.closes));
       empty = closed.empty;
     }
 
@@ -370,7 +370,7 @@ returns-clause-count g c = ap (λ (ks : KeyBytes). length ks.list) c.apply_offer
 
 pub returns-clause-draws : goal.returns-clause-draws
 returns-clause-draws g c =
-    subst (λ (ks : KeyBytes). Gained (g.K.KeySource.told c.args.keys.now) (g.K.KeySource.told c.lease_offer.new.keys) (DrawsAll ks.list)) (sym c.apply_offer-drawn.ensures.keys) c.in-Ok.ensures.draws
+    subst (λ (ks : KeyBytes). Gained (g.K.KeySource.log c.args.keys.now) (g.K.KeySource.log c.lease_offer.new.keys) (AreDrawn ks.list)) (sym c.apply_offer-drawn.ensures.keys) c.in-Ok.ensures.draws
 
 pub prepare_offer-requires-clause-may : goal.prepare_offer-requires-clause-may
 prepare_offer-requires-clause-may g c = c.requires.begins.in_turn.may

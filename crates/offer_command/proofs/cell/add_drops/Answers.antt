@@ -1,6 +1,6 @@
 use Rattle.std.proofs.Common.{◌≡◌, ℕ, List, subst, filter, arith}
 use Rattle.histories.specs.Words.{has, numbers}
-use Rattle.call_cell.specs.Preparing.{PrepareFor}
+use Rattle.call_cell.specs.Preparations.{PrepareFor}
 use Rattle.offer_command.proofs.Filled.{sections_more, legs_still}
 use Rattle.offer_command.proofs.cell.add_drops.Goals as goal
 

@@ -2,9 +2,9 @@ use Rattle.std.proofs.Common.{[], List, filter}
 use Rattle.histories.specs.Words.{has, numbers}
 use Rattle.port_pool.specs.Signals.{NewKey}
 use Rattle.offer_answer.specs.Rounds.{Demand}
-use Rattle.offer_answer.specs.Offering.{PlanFor}
-use Rattle.call_cell.specs.Preparing.{PrepareFor}
-use Rattle.offer_command.specs.Filling.{SameLegs}
+use Rattle.offer_answer.specs.Offers.{PlanFor}
+use Rattle.call_cell.specs.Preparations.{PrepareFor}
+use Rattle.offer_command.specs.PreparedLegs.{SameLegs}
 use Rattle.offer_command.proofs.cell.add_drops.Given as goal
 
 abbrev pub invariant-loop-section : goal.invariant-loop-section

@@ -1,8 +1,8 @@
 use Rattle.std.proofs.Common.{◌++◌, [], List, subst, get_or, take, arith}
-use Rattle.offer_answer.specs.Offering.{key_asked}
+use Rattle.offer_answer.specs.Offers.{key_asked}
 use Rattle.port_pool.specs.Signals.{NewKey}
-use Rattle.call_board.specs.Pairs.{new_keys}
-use Rattle.call_cell.specs.Preparing.{PrepareFor}
+use Rattle.call_board.specs.Pairs.{drawn_keys_from}
+use Rattle.call_cell.specs.Preparations.{PrepareFor}
 use Rattle.offer_command.proofs.Filled.{keys_more, legs_still, keys_whole, got_at}
 use Rattle.offer_command.proofs.cell.add_keys.Goals as goal
 
@@ -19,7 +19,7 @@ loop-index-preserved g c =
     record {
       stands = λ asked keys dropped demands stands.
           subst (λ (ks : List NewKey). PrepareFor c.add_one.new.prepare ks dropped) (keys_more first draws i asked.keys bytes place keys got (c.key_leg.ensures asked demands))
-          (step.stands (keys ++ new_keys first (take i draws) asked.keys) dropped (inv.stands asked keys dropped demands stands));
+          (step.stands (keys ++ drawn_keys_from first (take i draws) asked.keys) dropped (inv.stands asked keys dropped demands stands));
       legs = legs_still c.args.prepare.now c.loop-index.prepare c.add_one.new.prepare inv.legs step.legs;
       key_room = let a = step.room in let b = inv.key_room in omega (arith, a, b);
     }

@@ -1,7 +1,7 @@
 use Rattle.std.proofs.Common.{◌++◌, [], ◌∷◌, subst}
 use Rattle.srtp_keys.specs.MasterKey.{MasterKey}
-use Rattle.call_cell.specs.Preparing.{PrepareFor}
-use Rattle.offer_command.specs.Filling.{drawn_key}
+use Rattle.call_cell.specs.Preparations.{PrepareFor}
+use Rattle.offer_command.specs.PreparedLegs.{drawn_key}
 use Rattle.offer_command.proofs.cell.add_one.Goals as goal
 
 pub returns-clause-stands : goal.returns-clause-stands

@@ -1,22 +1,22 @@
 use Rattle.std.proofs.Common.{◌≡◌, ◌∙◌, ◌≤◌, refl, ap, sym, subst, ◌++◌, ℕ, List, [], ◌∷◌, length, arith}
 use Rattle.relay_outside.specs.declared.settings.Config.{Config}
 use Rattle.port_pool.specs.Signals.{NewKey}
-use Rattle.offer_answer.specs.Offering.{PlanFor, pair_count, key_count}
+use Rattle.offer_answer.specs.Offers.{PlanFor, pairs_demanded, key_count}
 use Rattle.offer_answer.specs.declared.plan.Plan.{Plan}
-use Rattle.call_board.specs.Pairs.{new_keys}
-use Rattle.call_cell.specs.Preparing.{PrepareFor, added, keys_of, drops_of, key_room}
+use Rattle.call_board.specs.Pairs.{drawn_keys_from}
+use Rattle.call_cell.specs.Preparations.{PrepareFor, added, prepared_keys, drops_of, key_room}
 use Rattle.relay_core.specs.Entries.{Cell, board_history}
-use Rattle.relay_core.specs.Turning.{made_by}
+use Rattle.relay_core.specs.Turns.{made_by}
 use Rattle.relay_core.specs.Steps.{AreOpened}
-use Rattle.relay_core.specs.Standing.{GoneHome}
+use Rattle.relay_core.specs.PlaceHistories.{GoneHome}
 use Rattle.relay_core.proofs.Histories.{good_history}
 use Rattle.board_turns.specs.InCells.{CanPrepare, in_cell_of}
-use Rattle.board_turns.specs.Bringing.{brings}
-use Rattle.board_turns.specs.Leaving.{DroppedWent}
+use Rattle.board_turns.specs.OfferEvents.{brings}
+use Rattle.board_turns.specs.Departures.{DroppedRemoved}
 use Rattle.board_turns.specs.declared.board_turn.BoardEntryId.{BoardEntryId}
-use Rattle.relay_core.specs.Turning.{GainsNested}
+use Rattle.relay_core.specs.Turns.{GainsNested}
 use Rattle.board_turns.proofs.Staying.{may_again, same_config, nests_both}
-use Rattle.offer_command.specs.Opening.{leased_parts}
+use Rattle.offer_command.specs.LegBoxes.{leased_parts}
 use Rattle.offer_command.specs.Offers.{offer_of, target_of, demand_of}
 use Rattle.offer_command.proofs.Filled.{keys_told, drops_told}
 use Rattle.offer_command.proofs.Targets.{cell_within, legs_are, keys_are}
@@ -42,12 +42,12 @@ pub open_legs-requires-clause-leased : goal.open_legs-requires-clause-leased
 open_legs-requires-clause-leased g c =
     let main = c.args.main.now in
     let l = made_by main.hand.now in
-    are_leased main.config.now (board_history l main.entry_id.number) (pair_count c.args.taken.now.plan.plan) c.args.pairs.leases.list (good_history main.config.now l c.requires.orderly main.entry_id.number) c.requires.leases
+    are_leased main.config.now (board_history l main.entry_id.number) (pairs_demanded c.args.taken.now.plan.plan) c.args.pairs.leases.list (good_history main.config.now l c.requires.orderly main.entry_id.number) c.requires.leases
 
 pub open_legs-requires-clause-shut : goal.open_legs-requires-clause-shut
 open_legs-requires-clause-shut g c =
     let main = c.args.main.now in
-    are_shut main.config.now (made_by main.hand.now) c.requires.orderly main.entry_id.number c.requires.above (pair_count c.args.taken.now.plan.plan) c.args.pairs.leases.list c.requires.leases
+    are_shut main.config.now (made_by main.hand.now) c.requires.orderly main.entry_id.number c.requires.above (pairs_demanded c.args.taken.now.plan.plan) c.args.pairs.leases.list c.requires.leases
 
 pub open_legs-requires-clause-room : goal.open_legs-requires-clause-room
 open_legs-requires-clause-room g c = c.requires.room.legs
@@ -106,7 +106,7 @@ prepare_cell-requires-clause-tells g c =
     let asked = demand_of main.config.now h id ask in
     let demands : PlanFor c.planned-demanded.result.now asked = subst (λ (q : Plan). PlanFor q asked) (sym c.planned-demanded.ensures) c.requires.due.2.plans.1.plan_for.demands in
     let signal = c.bring_keys.new.prepare in
-    let keys = new_keys c.args.taken.now.first_key c.args.taken.now.drawn.list asked.keys in
+    let keys = drawn_keys_from c.args.taken.now.first_key c.args.taken.now.drawn.list asked.keys in
     let stands = c.bring_keys.ensures.stands rounds ask demands (c.open_legs.ensures.stands [] [] c.requires.room.nothing) in
     subst (λ (ks : List NewKey). PrepareFor signal ks (drops_of signal)) (sym (keys_told signal keys asked.dropped stands))
     (subst (λ (ds : List ℕ). PrepareFor signal keys ds) (sym (drops_told signal keys rounds ask stands)) stands)
@@ -129,7 +129,7 @@ prepare_cell-requires-clause-comes g c =
     let demands : PlanFor c.planned-demanded.result.now asked = subst (λ (q : Plan). PlanFor q asked) (sym c.planned-demanded.ensures) d.plans.1.plan_for.demands in
     let signal = c.bring_keys.new.prepare in
     let legs = added c.open_legs.new.prepare in
-    let keys = new_keys c.args.taken.now.first_key draws asked.keys in
+    let keys = drawn_keys_from c.args.taken.now.first_key draws asked.keys in
     let stands = c.bring_keys.ensures.stands t.rounds ask demands (c.open_legs.ensures.stands [] [] c.requires.room.nothing) in
     let call = c.call.ensures ∙ d.plans.1.call_is in
     let list : legs ≡ (offer_of config h id ask draws).legs = legs_are config h id ask p draws leases legs d.plans.1 c.requires.leases c.open_legs.ensures.legs in
@@ -138,14 +138,14 @@ prepare_cell-requires-clause-comes g c =
     let high_cell = within.1 in
     let high : c.cell.result ≤ config.max_sessions = omega (arith, high_cell, is) in
     let parts = c.bring_keys.ensures.legs.parts_are ∙ c.open_legs.ensures.parts ∙ ap (λ (xs : List _). xs ++ leased_parts leases c.args.pairs.opened.list) c.requires.room.no_parts in
-    subst (λ (k : Config). CanPrepare k (made_by c.open_legs.new.main.hand.now) c.cell.result signal c.call.result (keys_of signal) (drops_of signal))
+    subst (λ (k : Config). CanPrepare k (made_by c.open_legs.new.main.hand.now) c.cell.result signal c.call.result (prepared_keys signal) (drops_of signal))
     (sym (same_config main c.open_legs.new.main c.open_legs.ensures.nests))
     (can_prepare config main.entry_id.number main.entry_id.moment main.hand.now c.open_legs.new.main.hand.now id ask p draws signal leases c.args.pairs.opened.list
-    legs c.call.result c.cell.result (keys_of signal) (drops_of signal)
+    legs c.call.result c.cell.result (prepared_keys signal) (drops_of signal)
     c.requires.orderly c.requires.above (let port = c.last_port-last.ensures in omega (arith, port)) d high is call (c.bring_keys.ensures.legs.added_are ∙ list)
-    (keys_are config h id ask p draws c.args.taken.now.first_key (keys_of signal) c.requires.first (keys_told signal keys asked.dropped stands))
+    (keys_are config h id ask p draws c.args.taken.now.first_key (prepared_keys signal) c.requires.first (keys_told signal keys asked.dropped stands))
     (drops_told signal keys t.rounds ask stands)
-    (are_leased config h (pair_count p.plan) leases good c.requires.leases) parts
+    (are_leased config h (pairs_demanded p.plan) leases good c.requires.leases) parts
     (prepare_cell-requires-clause-tells g c) c.open_legs.ensures.gained)
 
 pub prepare_cell-requires-clause-ready : goal.prepare_cell-requires-clause-ready
@@ -159,10 +159,10 @@ prepare_cell-requires-clause-opened g c =
     let signal = c.bring_keys.new.prepare in
     let leases = c.args.pairs.leases.list in
     let parts = c.bring_keys.ensures.legs.parts_are ∙ c.open_legs.ensures.parts ∙ ap (λ (xs : List _). xs ++ leased_parts leases c.args.pairs.opened.list) c.requires.room.no_parts in
-    let leased = are_leased config (board_history l main.entry_id.number) (pair_count c.args.taken.now.plan.plan) leases
+    let leased = are_leased config (board_history l main.entry_id.number) (pairs_demanded c.args.taken.now.plan.plan) leases
     (good_history config l c.requires.orderly main.entry_id.number) c.requires.leases in
-    subst (λ (k : Config). AreOpened g.O.OutEnd.told k signal) (sym (same_config main c.open_legs.new.main c.open_legs.ensures.nests))
-    (legs_opened g.I.InEnd.told g.O.OutEnd.told config signal _ _ leases c.args.pairs.opened.list parts leased.ports c.requires.ends
+    subst (λ (k : Config). AreOpened g.O.OutEnd.log k signal) (sym (same_config main c.open_legs.new.main c.open_legs.ensures.nests))
+    (legs_opened g.I.InEnd.log g.O.OutEnd.log config signal _ _ leases c.args.pairs.opened.list parts leased.ports c.requires.ends
     (prepare_cell-requires-clause-tells g c))
 
 pub returns-clause-nests : goal.returns-clause-nests
@@ -182,14 +182,14 @@ returns-clause-gained g c id ask d =
     let demands : PlanFor c.planned-demanded.result.now asked = subst (λ (q : Plan). PlanFor q asked) (sym c.planned-demanded.ensures) d.plans.1.plan_for.demands in
     let signal = c.bring_keys.new.prepare in
     let legs = added c.open_legs.new.prepare in
-    let keys = new_keys c.args.taken.now.first_key draws asked.keys in
+    let keys = drawn_keys_from c.args.taken.now.first_key draws asked.keys in
     let stands = c.bring_keys.ensures.stands t.rounds ask demands (c.open_legs.ensures.stands [] [] c.requires.room.nothing) in
     let list : legs ≡ (offer_of config h id ask draws).legs = legs_are config h id ask p draws c.args.pairs.leases.list legs d.plans.1 c.requires.leases c.open_legs.ensures.legs in
     brought config main.entry_id.number main.entry_id.moment main.hand.now mid.hand.now new.hand.now (offer_of config h id ask draws) legs
-    c.call.result c.cell.result (added signal) (keys_of signal) (drops_of signal)
+    c.call.result c.cell.result (added signal) (prepared_keys signal) (drops_of signal)
     list (c.cell.ensures ∙ d.plans.1.cell_is) (c.call.ensures ∙ d.plans.1.call_is)
     (c.bring_keys.ensures.legs.added_are ∙ list)
-    (keys_are config h id ask p draws c.args.taken.now.first_key (keys_of signal) c.requires.first (keys_told signal keys asked.dropped stands))
+    (keys_are config h id ask p draws c.args.taken.now.first_key (prepared_keys signal) c.requires.first (keys_told signal keys asked.dropped stands))
     (drops_told signal keys t.rounds ask stands) c.open_legs.ensures.gained
     (subst (λ (e : BoardEntryId). GainsNested e.number e.moment (in_cell_of c.cell.result (brings c.call.result signal) ∷ []) mid.hand.now new.hand.now) c.open_legs.ensures.nests.entry_is c.prepare_cell.ensures.gained)
 
@@ -210,19 +210,19 @@ returns-clause-went g c id ask d =
     let high : c.cell.result ≤ config.max_sessions = omega (arith, high_cell, is) in
     let demands : PlanFor c.planned-demanded.result.now asked = subst (λ (q : Plan). PlanFor q asked) (sym c.planned-demanded.ensures) d.plans.1.plan_for.demands in
     let signal = c.bring_keys.new.prepare in
-    let keys = new_keys c.args.taken.now.first_key draws asked.keys in
+    let keys = drawn_keys_from c.args.taken.now.first_key draws asked.keys in
     let stands = c.bring_keys.ensures.stands t.rounds ask demands (c.open_legs.ensures.stands [] [] c.requires.room.nothing) in
     went_dropped config main.entry_id.number main.entry_id.moment c.cell.result (added c.open_legs.new.prepare) main.hand.now mid.hand.now id ask p draws
     (drops_of signal) c.prepare_cell.new.gone c.requires.orderly c.requires.above d high is (drops_told signal keys t.rounds ask stands) c.open_legs.ensures.gained
-    (subst (λ (k : Config). DroppedWent k (made_by mid.hand.now) c.cell.result (drops_of signal) c.prepare_cell.new.gone) (same_config main mid c.open_legs.ensures.nests) c.prepare_cell.ensures.went)
+    (subst (λ (k : Config). DroppedRemoved k (made_by mid.hand.now) c.cell.result (drops_of signal) c.prepare_cell.new.gone) (same_config main mid c.open_legs.ensures.nests) c.prepare_cell.ensures.went)
 
 pub returns-clause-home : goal.returns-clause-home
 returns-clause-home g c =
-    subst (λ (k : Config). GoneHome g.O.OutEnd.told k c.prepare_cell.new.gone) (same_config c.args.main.now c.open_legs.new.main c.open_legs.ensures.nests) c.prepare_cell.ensures.home
+    subst (λ (k : Config). GoneHome g.O.OutEnd.log k c.prepare_cell.new.gone) (same_config c.args.main.now c.open_legs.new.main c.open_legs.ensures.nests) c.prepare_cell.ensures.home
 
 pub returns-clause-leave : goal.returns-clause-leave
 returns-clause-leave g c =
     let main = c.args.main.now in
-    opened_leave g.O.OutEnd.told main.config.now main.entry_id.number main.entry_id.moment (added c.open_legs.new.prepare) c.prepare_cell.new.gone c.cell.result
+    opened_leave g.O.OutEnd.log main.config.now main.entry_id.number main.entry_id.moment (added c.open_legs.new.prepare) c.prepare_cell.new.gone c.cell.result
     (Cell (brings c.call.result c.bring_keys.new.prepare))
     main.hand.now c.open_legs.new.main.hand.now c.prepare_cell.new.main.hand.now refl c.open_legs.ensures.gained c.prepare_cell.ensures.row

@@ -3,8 +3,8 @@ use Rattle.port_pool.specs.Signals.{NewKey}
 use Rattle.offer_answer.specs.Nexts.{numbered_keys}
 use Rattle.offer_answer.specs.Plan.{offer_text}
 use Rattle.offer_answer.specs.Plans.{OfferFilled}
-use Rattle.call_board.specs.Applied.{MayApply}
-use Rattle.call_board.specs.Boards.{Shows}
+use Rattle.call_board.specs.NextBoards.{MayApply}
+use Rattle.call_board.specs.Boards.{BoardMatches}
 use Rattle.call_board.specs.Views.{View}
 use Rattle.call_board.specs.declared.board_plan.BoardPlan.{BoardPlan}
 use Rattle.offer_answer.specs.Rounds as round
@@ -26,7 +26,7 @@ returns-clause-taken c config h id ask v good d first ports shows calls begun =
     let is : OfferFilled config t.rounds ask (ports_of_legs config o) o.keys filled.plan.next =
     subst (λ (ks : List NewKey). OfferFilled config t.rounds ask (ports_of_legs config o) ks filled.plan.next) (keys_filled config h id ask draws good c.args.taken.plan d c.args.taken.first_key first)
     (subst (λ (ps : List ℕ). OfferFilled config t.rounds ask ps keys filled.plan.next) (c.as_slice.ensures.value ∙ ports) (c.fill_plan.ensures.filled config t.rounds ask d.plans.1.plan_for)) in
-    subst (λ (w : View). Shows config c.apply.new.self w) (taken_with config h id ask draws good c.args.taken.plan d v c.args.now filled c.fill_plan.ensures.rest)
+    subst (λ (w : View). BoardMatches config c.apply.new.self w) (taken_with config h id ask draws good c.args.taken.plan d v c.args.now filled c.fill_plan.ensures.rest)
     (c.apply.ensures.taken config v t.of (round.Offered ask o.legs o.keys) shows (takes_in config h id ask draws good c.args.taken.plan d v filled calls begun c.fill_plan.ensures.rest is))
 
 pub returns-clause-text : goal.returns-clause-text

@@ -1,27 +1,27 @@
 use Rattle.std.proofs.Common.{◌≡◌, ◌∙◌, ◌≤◌, ◌<◌, ◌^◌, ap, sym, subst, ℕ, List, length, arith}
 use Rattle.std.specs.Prelude.{vec_capacity}
 use Rattle.port_pool.specs.declared.pairs.Lease.{Lease}
-use Rattle.relay_outside.specs.Told.{Gained}
+use Rattle.relay_outside.specs.DeviceLogs.{Gained}
 use Rattle.media_ports.specs.Addresses.{addresses_of}
-use Rattle.offer_answer.specs.Offering.{key_count}
+use Rattle.offer_answer.specs.Offers.{key_count}
 use Rattle.call_board.specs.declared.board_plan.BoardPlan.{BoardPlan}
 use Rattle.call_board.specs.Views.{with_leases}
-use Rattle.call_board.specs.Boards.{Shows}
-use Rattle.offer_command.specs.Leasing.{pairs_of_plan, keys_of_plan, with_taken}
-use Rattle.offer_command.specs.Undoing.{UndoesPorts, ComesEarly, with_undone}
+use Rattle.call_board.specs.Boards.{BoardMatches}
+use Rattle.offer_command.specs.Leases.{pairs_of_plan, keys_of_plan, with_taken}
+use Rattle.offer_command.specs.Undo.{UndoesPorts, ComesEarly, with_undone}
 use Rattle.offer_command.proofs.LeasesTaken.{free_alike, taken_count, taken_ports, taken_closed, taken_open, taken_generations, taken_of_pairs, taken_draws, taken_out, few_before, undone_is}
 use Rattle.offer_command.proofs.LeasesUndone.{held_after, gained_pairs_uncalled, gained_undone_uncalled}
 use Rattle.offer_command.proofs.lease.lease_offer.Goals as goal
 
 pub lease-leases-requires-clause-generations : goal.lease-leases-requires-clause-generations
 lease-leases-requires-clause-generations g c = λ pair.
-    taken_generations c.args.config.now c.args.board.now (g.P.PortMaker.told c.args.ports.now) c.args.plan pair c.requires.can
+    taken_generations c.args.config.now c.args.board.now (g.P.PortMaker.log c.args.ports.now) c.args.plan pair c.requires.can
 
 pub open_and_draw-requires-clause-opened : goal.open_and_draw-requires-clause-opened
 open_and_draw-requires-clause-opened g c =
     let can = c.requires.can in
     let is = c.lease-leases.ensures.leases c.args.config.now can.view can.shows can.are_free in
-    let many = taken_count c.args.config.now c.args.board.now (g.P.PortMaker.told c.args.ports.now) c.args.plan c.lease-leases.result.list can is in
+    let many = taken_count c.args.config.now c.args.board.now (g.P.PortMaker.log c.args.ports.now) c.args.plan c.lease-leases.result.list can is in
     let room = c.requires.room.opened.1 in
     (c.requires.room.opened.0, omega (arith, many, room))
 
@@ -36,13 +36,13 @@ open_and_draw-requires-clause-ports g c =
     let can = c.requires.can in
     let is = c.lease-leases.ensures.leases c.args.config.now can.view can.shows can.are_free in
     let low : c.args.config.now.port_max < 2 ^ 16 = omega arith in
-    taken_ports c.args.config.now c.args.board.now (g.P.PortMaker.told c.args.ports.now) c.args.plan c.lease-leases.result.list low can is
+    taken_ports c.args.config.now c.args.board.now (g.P.PortMaker.log c.args.ports.now) c.args.plan c.lease-leases.result.list low can is
 
 pub open_and_draw-requires-clause-closed : goal.open_and_draw-requires-clause-closed
 open_and_draw-requires-clause-closed g c =
     let can = c.requires.can in
     let is = c.lease-leases.ensures.leases c.args.config.now can.view can.shows can.are_free in
-    taken_closed c.args.config.now c.args.board.now (g.P.PortMaker.told c.args.ports.now) c.args.plan c.lease-leases.result.list can is
+    taken_closed c.args.config.now c.args.board.now (g.P.PortMaker.log c.args.ports.now) c.args.plan c.lease-leases.result.list can is
 
 pub count_draws-requires : goal.count_draws-requires
 count_draws-requires g c =
@@ -50,7 +50,7 @@ count_draws-requires g c =
     let shows = c.lease-leases.ensures.shows c.args.config.now can.view can.shows in
     let demanded : c.keys-count.result ≡ keys_of_plan c.args.plan = c.keys-count.ensures.count ∙ ap key_count (c.planned.ensures ∙ ap (λ (p : BoardPlan). p.plan) c.lease-leases.ensures.plan) in
     let all : length c.as_slice.result.now ≤ keys_of_plan c.args.plan = omega (arith, ap length c.as_slice.ensures, c.in-Ok.ensures.count, demanded) in
-    taken_draws c.args.config.now c.args.board.now c.lease-leases.new.self (g.P.PortMaker.told c.args.ports.now) c.args.plan (length c.as_slice.result.now) can shows all
+    taken_draws c.args.config.now c.args.board.now c.lease-leases.new.self (g.P.PortMaker.log c.args.ports.now) c.args.plan (length c.as_slice.result.now) can shows all
 
 pub count_draws-requires-in-Err : goal.count_draws-requires-in-Err
 count_draws-requires-in-Err g c =
@@ -60,20 +60,20 @@ count_draws-requires-in-Err g c =
     let few = few_before (length c.lease-leases.result.list) c.keys-count.result c.in-Err.fault early in
     let demanded : c.keys-count.result ≡ keys_of_plan c.args.plan = c.keys-count.ensures.count ∙ ap key_count (c.planned.ensures ∙ ap (λ (p : BoardPlan). p.plan) c.lease-leases.ensures.plan) in
     let all : c.keys.result ≤ keys_of_plan c.args.plan = omega (arith, c.keys.ensures, few, demanded) in
-    taken_draws c.args.config.now c.args.board.now c.lease-leases.new.self (g.P.PortMaker.told c.args.ports.now) c.args.plan c.keys.result can shows all
+    taken_draws c.args.config.now c.args.board.now c.lease-leases.new.self (g.P.PortMaker.log c.args.ports.now) c.args.plan c.keys.result can shows all
 
 pub undo_offer-requires : goal.undo_offer-requires
 undo_offer-requires g c =
     let can = c.requires.can in
     let is = c.lease-leases.ensures.leases c.args.config.now can.view can.shows can.are_free in
     let shows = c.lease-leases.ensures.shows c.args.config.now can.view can.shows in
-    taken_out c.args.config.now c.args.board.now c.count_draws-in-Err.new.board (g.P.PortMaker.told c.args.ports.now) c.args.plan c.lease-leases.result.list c.keys.result can is
+    taken_out c.args.config.now c.args.board.now c.count_draws-in-Err.new.board (g.P.PortMaker.log c.args.ports.now) c.args.plan c.lease-leases.result.list c.keys.result can is
     (c.count_draws-in-Err.ensures.drawn c.args.config.now (with_leases can.view (pairs_of_plan c.args.plan)) shows)
 
 pub returns-in-Ok-clause-taken : goal.returns-in-Ok-clause-taken
 returns-in-Ok-clause-taken g c = λ v s.
     let shows = c.lease-leases.ensures.shows c.args.config.now v s in
-    subst (λ (k : ℕ). Shows c.args.config.now c.count_draws.new.board (with_taken v (pairs_of_plan c.args.plan) k)) (ap length c.as_slice.ensures)
+    subst (λ (k : ℕ). BoardMatches c.args.config.now c.count_draws.new.board (with_taken v (pairs_of_plan c.args.plan) k)) (ap length c.as_slice.ensures)
     (c.count_draws.ensures.drawn c.args.config.now (with_leases v (pairs_of_plan c.args.plan)) shows)
 
 pub returns-in-Ok-clause-leases : goal.returns-in-Ok-clause-leases
@@ -85,7 +85,7 @@ pub returns-in-Ok-clause-pairs : goal.returns-in-Ok-clause-pairs
 returns-in-Ok-clause-pairs g c =
     let can = c.requires.can in
     let is = c.lease-leases.ensures.leases c.args.config.now can.view can.shows can.are_free in
-    taken_count c.args.config.now c.args.board.now (g.P.PortMaker.told c.args.ports.now) c.args.plan c.lease-leases.result.list can is
+    taken_count c.args.config.now c.args.board.now (g.P.PortMaker.log c.args.ports.now) c.args.plan c.lease-leases.result.list can is
 
 pub returns-in-Ok-clause-keys : goal.returns-in-Ok-clause-keys
 returns-in-Ok-clause-keys g c =
@@ -103,7 +103,7 @@ pub returns-in-Ok-clause-are_open : goal.returns-in-Ok-clause-are_open
 returns-in-Ok-clause-are_open g c = λ held now tells both.
     let can = c.requires.can in
     let is = c.lease-leases.ensures.leases c.args.config.now can.view can.shows can.are_free in
-    taken_open c.args.config.now c.args.board.now (g.P.PortMaker.told c.args.ports.now) (g.P.PortMaker.told c.open_and_draw.new.ports) c.args.plan c.lease-leases.result.list held now can is c.in-Ok.ensures.opens tells both
+    taken_open c.args.config.now c.args.board.now (g.P.PortMaker.log c.args.ports.now) (g.P.PortMaker.log c.open_and_draw.new.ports) c.args.plan c.lease-leases.result.list held now can is c.in-Ok.ensures.opens tells both
 
 pub returns-in-Ok-clause-first : goal.returns-in-Ok-clause-first
 returns-in-Ok-clause-first g c = λ v s. c.next_key-first_key.ensures c.args.config.now v s
@@ -117,14 +117,14 @@ returns-in-Err-clause-undone g c = λ v s.
     let shows = c.lease-leases.ensures.shows config v s in
     let taken = c.count_draws-in-Err.ensures.drawn config (with_leases v n) shows in
     let back = c.undo_offer.ensures.returned config (with_taken v n c.keys.result) taken in
-    subst (λ (k : ℕ). Shows config c.undo_offer.new.self (with_undone v n k)) c.keys.ensures
+    subst (λ (k : ℕ). BoardMatches config c.undo_offer.new.self (with_undone v n k)) c.keys.ensures
     (undone_is config c.undo_offer.new.self v c.lease-leases.result.list n c.keys.result is back)
 
 pub returns-in-Err-clause-early : goal.returns-in-Err-clause-early
 returns-in-Err-clause-early g c =
     let can = c.requires.can in
     let is = c.lease-leases.ensures.leases c.args.config.now can.view can.shows can.are_free in
-    let many = taken_count c.args.config.now c.args.board.now (g.P.PortMaker.told c.args.ports.now) c.args.plan c.lease-leases.result.list can is in
+    let many = taken_count c.args.config.now c.args.board.now (g.P.PortMaker.log c.args.ports.now) c.args.plan c.lease-leases.result.list can is in
     let demanded : c.keys-count.result ≡ keys_of_plan c.args.plan = c.keys-count.ensures.count ∙ ap key_count (c.planned.ensures ∙ ap (λ (p : BoardPlan). p.plan) c.lease-leases.ensures.plan) in
     let fault = c.in-Err.fault in
     subst (λ (n : ℕ). ComesEarly n (keys_of_plan c.args.plan) fault) many
@@ -134,34 +134,34 @@ pub returns-in-Err-clause-closes : goal.returns-in-Err-clause-closes
 returns-in-Err-clause-closes g c = λ v s.
     let can = c.requires.can in
     let config = c.args.config.now in
-    let told = g.P.PortMaker.told in
+    let log = g.P.PortMaker.log in
     let is = c.lease-leases.ensures.leases config v s (free_alike config c.args.board.now can.view v can.shows s can.are_free) in
-    subst (λ (leases : List Lease). Gained (told c.args.ports.now) (told c.open_and_draw.new.ports) (UndoesPorts (addresses_of config.interface leases) c.in-Err.fault)) is c.in-Err.ensures.closes
+    subst (λ (leases : List Lease). Gained (log c.args.ports.now) (log c.open_and_draw.new.ports) (UndoesPorts (addresses_of config.interface leases) c.in-Err.fault)) is c.in-Err.ensures.closes
 
 pub returns-in-Err-clause-still_open : goal.returns-in-Err-clause-still_open
 returns-in-Err-clause-still_open g c = λ held tells.
     let config = c.args.config.now in
-    let told = g.P.PortMaker.told in
-    held_after config (told c.args.ports.now) (told c.open_and_draw.new.ports) (UndoesPorts (addresses_of config.interface c.lease-leases.result.list) c.in-Err.fault) held
+    let log = g.P.PortMaker.log in
+    held_after config (log c.args.ports.now) (log c.open_and_draw.new.ports) (UndoesPorts (addresses_of config.interface c.lease-leases.result.list) c.in-Err.fault) held
     c.in-Err.ensures.closes c.in-Err.ensures.same tells
 
 pub returns-in-Ok-clause-gives_back : goal.returns-in-Ok-clause-gives_back
 returns-in-Ok-clause-gives_back g c =
     let can = c.requires.can in
     let config = c.args.config.now in
-    let told = g.P.PortMaker.told in
+    let log = g.P.PortMaker.log in
     let is = c.lease-leases.ensures.leases config can.view can.shows can.are_free in
-    gained_pairs_uncalled config c.lease-leases.result.list (told c.args.ports.now) (told c.open_and_draw.new.ports)
-    (taken_of_pairs config c.args.board.now (told c.args.ports.now) c.args.plan c.lease-leases.result.list can is) c.in-Ok.ensures.opens
+    gained_pairs_uncalled config c.lease-leases.result.list (log c.args.ports.now) (log c.open_and_draw.new.ports)
+    (taken_of_pairs config c.args.board.now (log c.args.ports.now) c.args.plan c.lease-leases.result.list can is) c.in-Ok.ensures.opens
 
 pub returns-in-Err-clause-gives_back : goal.returns-in-Err-clause-gives_back
 returns-in-Err-clause-gives_back g c =
     let can = c.requires.can in
     let config = c.args.config.now in
-    let told = g.P.PortMaker.told in
+    let log = g.P.PortMaker.log in
     let is = c.lease-leases.ensures.leases config can.view can.shows can.are_free in
-    gained_undone_uncalled config c.lease-leases.result.list c.in-Err.fault (told c.args.ports.now) (told c.open_and_draw.new.ports)
-    (taken_of_pairs config c.args.board.now (told c.args.ports.now) c.args.plan c.lease-leases.result.list can is) c.in-Err.ensures.closes
+    gained_undone_uncalled config c.lease-leases.result.list c.in-Err.fault (log c.args.ports.now) (log c.open_and_draw.new.ports)
+    (taken_of_pairs config c.args.board.now (log c.args.ports.now) c.args.plan c.lease-leases.result.list can is) c.in-Err.ensures.closes
 
 pub returns-in-Ok-clause-calls : goal.returns-in-Ok-clause-calls
 returns-in-Ok-clause-calls g c =
@@ -192,7 +192,7 @@ pub list_ports-requires-clause-room : goal.list_ports-requires-clause-room
 list_ports-requires-clause-room g c =
     let can = c.requires.can in
     let is = c.lease-leases.ensures.leases c.args.config.now can.view can.shows can.are_free in
-    let many = taken_count c.args.config.now c.args.board.now (g.P.PortMaker.told c.args.ports.now) c.args.plan c.lease-leases.result.list can is in
+    let many = taken_count c.args.config.now c.args.board.now (g.P.PortMaker.log c.args.ports.now) c.args.plan c.lease-leases.result.list can is in
     let room = c.requires.room.numbers.1 in
     subst (λ v. length c.lease-leases.result.list ≤ vec_capacity v) (sym c.in-Ok.ensures.rest) (omega (arith, many, room))
 

@@ -6,21 +6,21 @@ use Rattle.port_pool.specs.declared.pairs.Lease.{Lease}
 use Rattle.port_pool.specs.Pools.{AreFree}
 use Rattle.port_pool.specs.declared.holder.Holder.{Holder}
 use Rattle.offer_answer.specs.Rounds.{Demand}
-use Rattle.offer_answer.specs.Offering.{PlanFor, leg_asked, pair_count as pairs_of_plan}
+use Rattle.offer_answer.specs.Offers.{PlanFor, leg_asked, pairs_demanded as pairs_of_plan}
 use Rattle.offer_answer.specs.declared.plan.Plan.{Plan}
-use Rattle.call_cell.specs.Preparing.{added, parts_added}
-use Rattle.media_ports.specs.Addresses.{pairs_of, HavePorts}
-use Rattle.media_ports.specs.Ends.{AreOpened}
+use Rattle.call_cell.specs.Preparations.{added, parts_added}
+use Rattle.media_ports.specs.Addresses.{pairs_of_leases, HavePorts}
+use Rattle.media_ports.specs.Ends.{ArePairsOpened}
 use Rattle.media_ports.specs.Ends as pair_ends
 use Rattle.relay_core.specs.Entries.{box_of}
 use Rattle.relay_outside.specs.declared.settings.Config.{Config}
-use Rattle.relay_core.specs.Scripts.{opening}
-use Rattle.relay_core.specs.Turning.{GainsNested, made_by}
-use Rattle.board_turns.specs.BoardTurns.{Makes}
-use Rattle.board_turns.specs.Nesting.{IsShut}
+use Rattle.relay_core.specs.Scripts.{open_owed}
+use Rattle.relay_core.specs.Turns.{GainsNested, made_by}
+use Rattle.board_turns.specs.BoardTurns.{MakesNested}
+use Rattle.board_turns.specs.NestedSteps.{IsShut}
 use Rattle.board_turns.specs.declared.board_turn.BoardEntryId.{BoardEntryId}
 use Rattle.board_turns.proofs.Staying.{may_again, same_config, nests_none, nests_both}
-use Rattle.offer_command.specs.Opening.{AreShut, IsOpened}
+use Rattle.offer_command.specs.LegBoxes.{AreShut, IsBoxOpened}
 use Rattle.offer_command.proofs.LegsOpened.{none_done, one_done, all_legs, all_opened, all_parts, no_ends_left, leases_left, ends_left, gains_nothing, gains_leg, shut_still, opened_since, popped, holder_for, pairs_left, holder_read, holder_same}
 use Rattle.offer_command.proofs.legs.open_legs.Goals as goal
 
@@ -30,10 +30,10 @@ loop-index-init g c =
     let none = c.requires.none in
     record {
       nests = nests_none main c.requires.may;
-      gained = subst (λ (legs : List Holder). Makes (map (opening main.config.now) legs) main main) (sym none)
+      gained = subst (λ (legs : List Holder). MakesNested (map (open_owed main.config.now) legs) main main) (sym none)
           (gains_nothing main.entry_id.number main.entry_id.moment main.hand.now);
       done = none_done c.args.plan.now.plan c.args.plan.now.call c.args.plan.now.cell
-          (IsOpened g.I.InEnd.told g.I.InEnd.faults g.O.OutEnd.told g.O.OutEnd.faults main.config.now main.entry_id.number main.entry_id.moment main.hand.now)
+          (IsBoxOpened g.I.InEnd.log g.I.InEnd.faults g.O.OutEnd.log g.O.OutEnd.faults main.config.now main.entry_id.number main.entry_id.moment main.hand.now)
           c.args.pairs.leases.list c.args.pairs.opened.list (added c.args.prepare.now) (parts_added c.args.prepare.now) none;
       leased = c.requires.leased.differ;
       shut = c.requires.shut;
@@ -109,13 +109,13 @@ open_leg-requires-clause-port g c =
 pub open_leg-requires-clause-ends : goal.open_leg-requires-clause-ends
 open_leg-requires-clause-ends g c =
     let inv = c.loop-index.invariant in
-    let opens = AreOpened g.I.InEnd.told g.O.OutEnd.told c.args.main.now.config.now.interface in
+    let opens = ArePairsOpened g.I.InEnd.log g.O.OutEnd.log c.args.main.now.config.now.interface in
     let lease = c.unwrap-lease.result in
     let ends = c.unwrap-ends.result in
     let open_rest = c.pop-in-loop-index.new.self.list in
     let left = popped c.loop-index.leases.list c.pop.new.self.list c.pop.result lease c.pop.ensures.list c.unwrap-lease.ensures in
     let open_left = popped c.loop-index.opened.list open_rest c.pop-in-loop-index.result ends c.pop-in-loop-index.ensures.list c.unwrap-ends.ensures in
-    subst (λ (k : Config). pair_ends.IsOpened g.I.InEnd.told g.O.OutEnd.told k.interface lease ends) (sym (same_config c.args.main.now c.loop-index.main inv.nests))
+    subst (λ (k : Config). pair_ends.IsPairOpened g.I.InEnd.log g.O.OutEnd.log k.interface lease ends) (sym (same_config c.args.main.now c.loop-index.main inv.nests))
     (subst (λ (leases : List Lease). opens leases (ends ∷ open_rest)) left (subst (opens c.loop-index.leases.list) open_left inv.opened)).0
 
 pub loop-index-preserved : goal.loop-index-preserved
@@ -148,27 +148,27 @@ loop-index-preserved g c =
     let pairs = pairs_left c.loop-index.leases.list rest lease c.pair.result left c.pair.ensures in
     let more_is : more ≡ legs ++ holder ∷ [] = step.added in
     let free = subst (AreFree (pair_count config)) pairs inv.leased in
-    let gained : GainsNested number moment (opening config holder ∷ []) mid.hand.now new.hand.now =
-    subst (λ (e : BoardEntryId). GainsNested e.number e.moment (opening config holder ∷ []) mid.hand.now new.hand.now) inv.nests.entry_is
-    (subst (λ (k : Config). GainsNested mid.entry_id.number mid.entry_id.moment (opening k holder ∷ []) mid.hand.now new.hand.now) same step.gained) in
-    let opened : IsOpened g.I.InEnd.told g.I.InEnd.faults g.O.OutEnd.told g.O.OutEnd.faults config number moment mid.hand.now holder ends =
-    subst (λ (e : BoardEntryId). IsOpened g.I.InEnd.told g.I.InEnd.faults g.O.OutEnd.told g.O.OutEnd.faults config e.number e.moment mid.hand.now holder ends) inv.nests.entry_is
-    (subst (λ (k : Config). IsOpened g.I.InEnd.told g.I.InEnd.faults g.O.OutEnd.told g.O.OutEnd.faults k mid.entry_id.number mid.entry_id.moment mid.hand.now holder ends) same step.opened) in
+    let gained : GainsNested number moment (open_owed config holder ∷ []) mid.hand.now new.hand.now =
+    subst (λ (e : BoardEntryId). GainsNested e.number e.moment (open_owed config holder ∷ []) mid.hand.now new.hand.now) inv.nests.entry_is
+    (subst (λ (k : Config). GainsNested mid.entry_id.number mid.entry_id.moment (open_owed k holder ∷ []) mid.hand.now new.hand.now) same step.gained) in
+    let opened : IsBoxOpened g.I.InEnd.log g.I.InEnd.faults g.O.OutEnd.log g.O.OutEnd.faults config number moment mid.hand.now holder ends =
+    subst (λ (e : BoardEntryId). IsBoxOpened g.I.InEnd.log g.I.InEnd.faults g.O.OutEnd.log g.O.OutEnd.faults config e.number e.moment mid.hand.now holder ends) inv.nests.entry_is
+    (subst (λ (k : Config). IsBoxOpened g.I.InEnd.log g.I.InEnd.faults g.O.OutEnd.log g.O.OutEnd.faults k mid.entry_id.number mid.entry_id.moment mid.hand.now holder ends) same step.opened) in
     record {
       nests = nests_both old mid new inv.nests step.nests;
       gained = gains_leg config number moment legs more holder old.hand.now mid.hand.now new.hand.now more_is inv.gained gained;
       done = one_done c.args.plan.now.plan call cell
-          (IsOpened g.I.InEnd.told g.I.InEnd.faults g.O.OutEnd.told g.O.OutEnd.faults config number moment old.hand.now)
+          (IsBoxOpened g.I.InEnd.log g.I.InEnd.faults g.O.OutEnd.log g.O.OutEnd.faults config number moment old.hand.now)
           c.args.pairs.leases.list c.loop-index.leases.list rest c.args.pairs.opened.list c.loop-index.opened.list open_rest c.loop-index.index legs more (parts_added c.args.prepare.now)
           (parts_added c.loop-index.prepare) (parts_added c.open_leg.new.prepare) lease ends leg inv.done left open_left says
-          (opened_since g.I.InEnd.told g.I.InEnd.faults g.O.OutEnd.told g.O.OutEnd.faults config number moment old.hand.now mid.hand.now (holder_for call cell lease leg) ends inv.nests.same
-          (subst (λ (h : Holder). IsOpened g.I.InEnd.told g.I.InEnd.faults g.O.OutEnd.told g.O.OutEnd.faults config number moment mid.hand.now h ends) same_holder opened))
+          (opened_since g.I.InEnd.log g.I.InEnd.faults g.O.OutEnd.log g.O.OutEnd.faults config number moment old.hand.now mid.hand.now (holder_for call cell lease leg) ends inv.nests.same
+          (subst (λ (h : Holder). IsBoxOpened g.I.InEnd.log g.I.InEnd.faults g.O.OutEnd.log g.O.OutEnd.faults config number moment mid.hand.now h ends) same_holder opened))
           (more_is ∙ ap (λ (h : Holder). legs ++ h ∷ []) same_holder) step.parts;
       leased = free.2;
-      shut = shut_still config number moment holder (pairs_of rest) mid.hand.now new.hand.now gained (subst (AreShut config (made_by mid.hand.now)) pairs inv.shut) free.1;
+      shut = shut_still config number moment holder (pairs_of_leases rest) mid.hand.now new.hand.now gained (subst (AreShut config (made_by mid.hand.now)) pairs inv.shut) free.1;
       ports = (subst (HavePorts config) left inv.ports).1;
-      opened = (subst (λ (ls : List Lease). AreOpened g.I.InEnd.told g.O.OutEnd.told config.interface ls (ends ∷ open_rest)) left
-          (subst (AreOpened g.I.InEnd.told g.O.OutEnd.told config.interface c.loop-index.leases.list) open_left inv.opened)).1;
+      opened = (subst (λ (ls : List Lease). ArePairsOpened g.I.InEnd.log g.O.OutEnd.log config.interface ls (ends ∷ open_rest)) left
+          (subst (ArePairsOpened g.I.InEnd.log g.O.OutEnd.log config.interface c.loop-index.leases.list) open_left inv.opened)).1;
       stands = λ keys dropped s. step.stands keys dropped (inv.stands keys dropped s);
       leg_room = let a = step.room.0 in let b = inv.leg_room in omega (arith, a, b);
       key_room = step.room.1 ∙ inv.key_room;

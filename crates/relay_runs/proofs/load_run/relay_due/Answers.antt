@@ -1,5 +1,5 @@
 use Rattle.std.proofs.Common.{rules, ◌≡◌, ◌∙◌, ap, sym, subst, refl, true, arith}
-use Rattle.relay_core.specs.Made.{list_of}
+use Rattle.relay_core.specs.Records.{list_of}
 use Rattle.board_turns.specs.Between.{board_of}
 use Rattle.relay_runs.specs.Threads.{HasLaneRoom, all_lanes, rows_each}
 use Rattle.relay_runs.proofs.Dues.{adds_least, all_done, same_taken}

@@ -1,5 +1,5 @@
 use Rattle.std.proofs.Common.{sym, subst}
-use Rattle.sdes_lines.specs.Reading.{IsTagNumeral}
+use Rattle.sdes_lines.specs.LineParts.{IsTagNumeral}
 use Rattle.sdes_lines.proofs.Tags.{tag_numeral, numeral_tag, tag_value}
 use Rattle.sdes_lines.proofs.read.tag_number.Goals as goal
 

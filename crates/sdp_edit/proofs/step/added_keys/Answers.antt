@@ -1,6 +1,6 @@
 use Rattle.std.proofs.Common.{◌≡◌, length, None, arith}
 use Rattle.sdp_edit.proofs.KeyLemmas.{two_keys}
-use Rattle.sdp_edit.specs.Editing.{added_keys}
+use Rattle.sdp_edit.specs.EditedText.{added_keys}
 use Rattle.sdp_edit.proofs.step.added_keys.Goals as goal
 
 pub returns-clause-text : goal.returns-clause-text

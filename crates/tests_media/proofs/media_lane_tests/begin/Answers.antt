@@ -5,7 +5,7 @@ use Rattle.call_board.specs.declared.board.Board as board
 use Rattle.call_cell.specs.declared.cell.Cell as cell
 use Rattle.relay_core.specs.declared.part.Part.{Part}
 use Rattle.relay_core.specs.declared.part.Part.TheVariants as part
-use Rattle.relay_core.specs.Standing.{IsCellPart}
+use Rattle.relay_core.specs.PlaceHistories.{IsCellPart}
 use Rattle.media_lane.specs.Starts.{HasCells, IsBoxOf, HasLaneStarts}
 use Rattle.tests_media.specs.declared.media_lane_tests.TheConstants.{CONFIG}
 use Rattle.tests_media.proofs.media_lane_tests.begin.Goals as goal

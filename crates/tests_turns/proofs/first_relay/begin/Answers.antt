@@ -3,9 +3,9 @@ use Rattle.relay_outside.specs.declared.settings.Config.{Config}
 use Rattle.turn_table.specs.declared.hands.Turns.{Turns}
 use Rattle.turn_table.specs.declared.hands.Hand.{Hand}
 use Rattle.relay_core.specs.declared.part.Part.{Part}
-use Rattle.relay_core.specs.Made.{Made}
+use Rattle.relay_core.specs.Records.{Made}
 use Rattle.board_turns.specs.Between.{IsBetween}
-use Rattle.board_turns.specs.Nesting.{MayNest}
+use Rattle.board_turns.specs.NestedSteps.{MayNest}
 use Rattle.board_turns.proofs.Firsts.{first_between}
 use Rattle.tests_turns.proofs.first_relay.begin.Goals as goal
 

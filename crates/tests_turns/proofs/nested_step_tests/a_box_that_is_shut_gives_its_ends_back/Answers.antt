@@ -2,8 +2,8 @@ use Rattle.std.proofs.Common.{◌≡◌, lit<, ap, sym, subst}
 use Rattle.std.specs.Prelude.{is_some, Option}
 use Rattle.port_pool.specs.declared.holder.Holder.{Holder}
 use Rattle.port_pool.specs.Ports.{pair_count}
-use Rattle.relay_core.specs.Turning.{made_by}
-use Rattle.board_turns.specs.Nesting.{IsOpen}
+use Rattle.relay_core.specs.Turns.{made_by}
+use Rattle.board_turns.specs.NestedSteps.{IsTurnOpen}
 use Rattle.board_turns.proofs.After.{gained_last, opened}
 use Rattle.board_turns.proofs.First.{first_shut}
 use Rattle.tests_turns.proofs.nested_step_tests.a_box_that_is_shut_gives_its_ends_back.Goals as goal
@@ -23,7 +23,7 @@ pub shut_box-requires-clause-open : goal.shut_box-requires-clause-open
 shut_box-requires-clause-open g c =
     let mid = c.open_box.new.main.hand.now in
     let left : mid ≡ c.hand-2-1.given.0 = sym (c.hand-2-1.given.1 (sym c.open_box.ensures.nests.hand_is)) in
-    subst (λ hand. IsOpen (made_by hand) 4) left
+    subst (λ hand. IsTurnOpen (made_by hand) 4) left
     (λ n above. ap (λ (o : Option Holder). is_some o) (opened (made_by c.in-Some.hand) (made_by mid) 4 _ (gained_last 0 5 _ c.in-Some.hand mid c.open_box.ensures.gained) n above))
 
 pub open_box-requires-clause-ends : goal.open_box-requires-clause-ends

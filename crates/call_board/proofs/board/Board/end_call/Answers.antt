@@ -1,12 +1,12 @@
 use Rattle.std.proofs.Common.{ap, sym, subst, ◌∙◌, ◌≡◌, ◌-◌, Some, List, Bool, false, set, arith}
 use Rattle.std.proofs.lemmas.List.{with_items_is}
 use Rattle.call_board.specs.declared.live_call.LiveCall.{LiveCall}
-use Rattle.call_board.specs.Boards.{CallsFor, CellsFor, ShowsCall}
+use Rattle.call_board.specs.Boards.{CallsFor, CellsFor, CallMatches}
 use Rattle.call_board.specs.Views.{CallView, without}
 use Rattle.std.specs.Option.{option_map}
 use Rattle.call_board.proofs.Shown.{shown_call}
 use Rattle.call_board.proofs.Ended.{removed, cells_after, is_positive}
-use Rattle.call_board.specs.Numbered.{AreBelow}
+use Rattle.call_board.specs.CallNumbers.{AreBelow}
 use Rattle.call_board.proofs.Numbered.{without_one}
 use Rattle.call_board.proofs.board.Board.end_call.Goals as goal
 
@@ -18,7 +18,7 @@ invariant_of-self c = record {
 
 pub returns-clause-shows : goal.returns-clause-shows
 returns-clause-shows c = λ config v s apart.
-    let shown = subst (λ (call : LiveCall). ShowsCall config v c.args.call call) (sym c.remove-ended.ensures.value)
+    let shown = subst (λ (call : LiveCall). CallMatches config v c.args.call call) (sym c.remove-ended.ensures.value)
     (shown_call config v c.args.self.now.calls.list c.args.call c.place-place.result c.remove-ended.result s.calls_for c.place-place.ensures.place) in
     record {
       config_is = s.config_is;
@@ -41,6 +41,6 @@ returns-clause-shows c = λ config v s apart.
 
 pub returns-clause-cell : goal.returns-clause-cell
 returns-clause-cell c = λ config v s.
-    let shown = subst (λ (call : LiveCall). ShowsCall config v c.args.call call) (sym c.remove-ended.ensures.value)
+    let shown = subst (λ (call : LiveCall). CallMatches config v c.args.call call) (sym c.remove-ended.ensures.value)
     (shown_call config v c.args.self.now.calls.list c.args.call c.place-place.result c.remove-ended.result s.calls_for c.place-place.ensures.place) in
     ap (option_map (λ (of : CallView). of.of.cell)) shown.found ∙ ap Some (sym shown.call_for.cell_is)

@@ -1,10 +1,10 @@
 use Rattle.std.proofs.Common.{sym, subst, List}
 use Rattle.call_board.specs.declared.live_call.LiveCall.{LiveCall}
 use Rattle.call_board.specs.Views.{CallView, with_round, goes_on}
-use Rattle.call_board.specs.Boards.{CallFor, CallsFor, ShowsCall}
+use Rattle.call_board.specs.Boards.{CallFor, CallsFor, CallMatches}
 use Rattle.call_board.proofs.Shown.{shown_call, shown_is, same_one}
 use Rattle.call_board.proofs.Applies.{went_on, cells_stay}
-use Rattle.call_board.specs.Numbered.{AreBelow}
+use Rattle.call_board.specs.CallNumbers.{AreBelow}
 use Rattle.call_board.proofs.Numbered.{with_changed}
 use Rattle.call_board.proofs.board.Board.go_on.Goals as goal
 
@@ -18,7 +18,7 @@ invariant_of-self c =
 pub returns-clause-taken : goal.returns-clause-taken
 returns-clause-taken c = λ config v of round s e begun p.
     let went = c.go_on.ensures in
-    let shown = subst (λ (call : LiveCall). ShowsCall config v c.args.call call) (sym went.before_is)
+    let shown = subst (λ (call : LiveCall). CallMatches config v c.args.call call) (sym went.before_is)
     (shown_call config v c.args.self.now.calls.list c.args.call c.place-place.result went.before s.calls_for c.place-place.ensures.place) in
     record {
       config_is = s.config_is;

@@ -1,14 +1,14 @@
 use Rattle.std.proofs.Common.{refl, ap, sym, subst, ◌∙◌, arith, ℕ, ◌≡◌, ◌<◌, List, length, drop}
 use Rattle.port_pool.specs.LeaseLists.{LeaseList}
-use Rattle.offer_answer.specs.Offering.{pair_count}
+use Rattle.offer_answer.specs.Offers.{pairs_demanded}
 use Rattle.call_board.specs.Views.{with_leases}
-use Rattle.call_board.specs.Boards.{Shows, leases_of}
+use Rattle.call_board.specs.Boards.{BoardMatches, front_leases}
 use Rattle.call_board.proofs.Leased.{none_leased, one_more_leased, one_more_lease, front_of, room_had}
 use Rattle.call_board.proofs.board.Board.lease.Goals as goal
 
 pub loop-made-init : goal.loop-made-init
 loop-made-init c =
-    let room = room_had (pair_count c.args.plan.now.plan) c.args.plan.now.leases c.take.result c.unwrap-leases.result c.requires.room.leases c.take.ensures.value c.unwrap-leases.ensures in record {
+    let room = room_had (pairs_demanded c.args.plan.now.plan) c.args.plan.now.leases c.take.result c.unwrap-leases.result c.requires.room.leases c.take.ensures.value c.unwrap-leases.ensures in record {
       shows = λ config v s. none_leased config c.args.self.now v s;
       leases = λ config v s free. room.0;
       free = omega arith;
@@ -54,10 +54,10 @@ loop-made-preserved c =
 
 pub returns-clause-shows : goal.returns-clause-shows
 returns-clause-shows c = λ config v s.
-    let all : c.loop-made._made ≡ pair_count c.args.plan.now.plan = omega (arith, c.loop-made-test.false, c.loop-made.auto._made-end, c.pairs-made-end.ensures.count) in
-    subst (λ n. Shows config c.loop-made.self (with_leases v n)) all (c.loop-made.invariant.shows config v s)
+    let all : c.loop-made._made ≡ pairs_demanded c.args.plan.now.plan = omega (arith, c.loop-made-test.false, c.loop-made.auto._made-end, c.pairs-made-end.ensures.count) in
+    subst (λ n. BoardMatches config c.loop-made.self (with_leases v n)) all (c.loop-made.invariant.shows config v s)
 
 pub returns-clause-leases : goal.returns-clause-leases
 returns-clause-leases c = λ config v s free.
-    let all : c.loop-made._made ≡ pair_count c.args.plan.now.plan = omega (arith, c.loop-made-test.false, c.loop-made.auto._made-end, c.pairs-made-end.ensures.count) in
-    c.loop-made.invariant.leases config v s free ∙ ap (leases_of config v) all
+    let all : c.loop-made._made ≡ pairs_demanded c.args.plan.now.plan = omega (arith, c.loop-made-test.false, c.loop-made.auto._made-end, c.pairs-made-end.ensures.count) in
+    c.loop-made.invariant.leases config v s free ∙ ap (front_leases config v) all

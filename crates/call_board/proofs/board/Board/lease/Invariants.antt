@@ -3,13 +3,13 @@ use Rattle.relay_outside.specs.declared.settings.Config.{Config}
 use Rattle.port_pool.specs.Ports as ports
 use Rattle.port_pool.specs.Pools.{generation, AreFree}
 use Rattle.call_board.specs.Views.{View, with_leases}
-use Rattle.call_board.specs.Boards.{Shows, KeepsCalls, KeepsReplies, leases_of}
+use Rattle.call_board.specs.Boards.{BoardMatches, KeepsCalls, KeepsReplies, front_leases}
 use Rattle.call_board.proofs.board.Board.lease.Given as goal
 
 abbrev pub invariant-loop-made : goal.invariant-loop-made
 invariant-loop-made l = record {
-  shows : (config : Config) (v : View) → Shows config l.initial.self v → Shows config l.self (with_leases v l._made);
-  leases : (config : Config) (v : View) → Shows config l.initial.self v → AreFree (ports.pair_count config) v.free → l.leases.list ≡ leases_of config v l._made;
+  shows : (config : Config) (v : View) → BoardMatches config l.initial.self v → BoardMatches config l.self (with_leases v l._made);
+  leases : (config : Config) (v : View) → BoardMatches config l.initial.self v → AreFree (ports.pair_count config) v.free → l.leases.list ≡ front_leases config v l._made;
   free : length l.self.pool.free + l._made ≡ length l.initial.self.pool.free;
   calls : KeepsCalls l.initial.self l.self;
   replies : KeepsReplies l.initial.self l.self;

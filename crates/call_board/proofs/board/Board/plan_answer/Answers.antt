@@ -3,7 +3,7 @@ use Rattle.std.specs.Str.{bytes_eq}
 use Rattle.call_board.specs.declared.fault.BoardFault.TheVariants.{UnknownCall}
 use Rattle.call_board.specs.declared.live_call.LiveCall.{LiveCall}
 use Rattle.call_board.specs.Views.{CallView, is_of_id}
-use Rattle.call_board.specs.Planned.{PlansAnswer}
+use Rattle.call_board.specs.Plans.{PlansAnswer}
 use Rattle.call_board.proofs.Shown.{no_call_found, asks_id}
 use Rattle.call_board.proofs.board.Board.plan_answer.Goals as goal
 

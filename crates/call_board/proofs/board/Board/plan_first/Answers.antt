@@ -2,7 +2,7 @@ use Rattle.std.proofs.Common.{inr, true, [], subst, sym, ◌∙◌, refl, List, 
 use Rattle.std.proofs.lemmas.Result.{err_from_is_err_and}
 use Rattle.relay_outside.specs.declared.settings.Config.{Config}
 use Rattle.offer_answer.specs.Plans.{OfferPlan}
-use Rattle.call_board.specs.Planned.{NewFor}
+use Rattle.call_board.specs.Plans.{NewFor}
 use Rattle.call_board.proofs.Plans.{refused_by, answers_full, answers_short, answers_none, has_session}
 use Rattle.call_board.proofs.Shown.{same_one, lent_for}
 use Rattle.call_board.proofs.board.Board.plan_first.Goals as goal

@@ -7,7 +7,7 @@ use Rattle.offer_answer.specs.Plans.{OfferPlan}
 use Rattle.call_board.specs.declared.fault.BoardFault.TheVariants.{NoPair}
 use Rattle.call_board.specs.declared.live_call.LiveCall.{LiveCall}
 use Rattle.call_board.specs.Views.{CallView, is_of_id}
-use Rattle.call_board.specs.Planned.{PlansFor, target_by, board_fault}
+use Rattle.call_board.specs.Plans.{PlansFor, target_by, board_fault}
 use Rattle.call_board.proofs.Shown.{IsFirst, call_at_place, asks_id, lent_for}
 use Rattle.call_board.proofs.Plans.{refused_by, answers_short, answers_none}
 use Rattle.call_board.proofs.board.Board.plan_later.Goals as goal

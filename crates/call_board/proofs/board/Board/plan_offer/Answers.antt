@@ -2,7 +2,7 @@ use Rattle.std.proofs.Common.{sym, subst, Option}
 use Rattle.std.specs.Str.{bytes_eq}
 use Rattle.call_board.specs.declared.live_call.LiveCall.{LiveCall}
 use Rattle.call_board.specs.Views.{CallView, is_of_id}
-use Rattle.call_board.specs.Planned.{PlansFor, target_by}
+use Rattle.call_board.specs.Plans.{PlansFor, target_by}
 use Rattle.call_board.proofs.Shown.{no_call_found, asks_id}
 use Rattle.call_board.proofs.board.Board.plan_offer.Goals as goal
 

@@ -6,7 +6,7 @@ use Rattle.offer_answer.specs.Dialogs.{DialogFor}
 use Rattle.offer_answer.specs.Plans.{AnswerPlan}
 use Rattle.call_board.specs.declared.live_call.LiveCall.{LiveCall}
 use Rattle.call_board.specs.Views.{CallView, is_of_id}
-use Rattle.call_board.specs.Planned.{PlansAnswer, board_fault}
+use Rattle.call_board.specs.Plans.{PlansAnswer, board_fault}
 use Rattle.call_board.proofs.Shown.{IsFirst, call_at_place, asks_id, lent_for}
 use Rattle.call_board.proofs.Plans.{answer_refused_by}
 use Rattle.call_board.proofs.board.Board.plan_reply.Goals as goal

@@ -33,7 +33,7 @@ returns-clause-shows c = λ config v s. (
     drawn_is = s.drawn_is;
     calls_for = s.calls_for;
     cells_for = s.cells_for;
-    pool_for = subst (λ (pool : Pairs). pools.StandsFor config (v.free ++ c.in-Some.lease.pair ∷ []) v.leases pool) (sym c.give_back.ensures)
+    pool_for = subst (λ (pool : Pairs). pools.PoolStandsFor config (v.free ++ c.in-Some.lease.pair ∷ []) v.leases pool) (sym c.give_back.ensures)
         (returned_stands config v.free v.leases c.args.self.now.pool c.in-Some.lease.pair s.pool_for);
     replies_for = s.replies_for;
   },

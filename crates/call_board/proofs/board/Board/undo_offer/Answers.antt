@@ -1,7 +1,7 @@
 use Rattle.std.proofs.Common.{refl, ap, sym, subst, ◌∙◌, arith, ℕ, ◌≡◌, ◌++◌, ◌∷◌, [], List, length, append_assoc, append-nil}
 use Rattle.port_pool.specs.declared.pairs.Lease.{Lease}
 use Rattle.call_board.specs.Views.{with_returned}
-use Rattle.call_board.specs.Boards.{Shows, pairs_in}
+use Rattle.call_board.specs.Boards.{BoardMatches, pairs_in}
 use Rattle.call_board.proofs.Given.{one_more_returned, none_returned, none_left}
 use Rattle.call_board.proofs.board.Board.undo_offer.Goals as goal
 
@@ -37,5 +37,5 @@ pub returns-clause-returned : goal.returns-clause-returned
 returns-clause-returned c = λ config v s.
     let former = c.loop-back.invariant.shows config v s in
     let done : length c.loop-back.left.list ≡ 0 = omega (arith, c.loop-back-test.false, c.loop-back.auto._back-end, c.loop-back.invariant.count) in
-    subst (λ (pairs : List ℕ). Shows config c.loop-back.self (with_returned v pairs))
+    subst (λ (pairs : List ℕ). BoardMatches config c.loop-back.self (with_returned v pairs))
     (sym (append-nil former.0) ∙ ap (λ (left : List Lease). former.0 ++ pairs_in left) (sym (none_left c.loop-back.left.list done)) ∙ former.1) former.2

@@ -5,7 +5,7 @@ use Rattle.std.specs.Map.{lookup, values_of}
 use Rattle.ng_bencode.specs.Room.{Room}
 use Rattle.indexmap.proofs.CallerLemmas.{insert_entry-new}
 use Rattle.call_board.specs.declared.live_call.LiveCall.{LiveCall}
-use Rattle.call_board.specs.Keyed.{AreUnderTheirIds}
+use Rattle.call_board.specs.CallIds.{AreUnderTheirIds}
 use Rattle.call_board.proofs.Keyed.{has_bytes, has_id, not_there, on_ok, under-insert, values-push}
 use Rattle.call_board.proofs.live_calls.LiveCalls.append.Goals as goal
 

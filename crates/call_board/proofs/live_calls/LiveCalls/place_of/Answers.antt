@@ -4,7 +4,7 @@ use Rattle.std.specs.Result.{result_ok}
 use Rattle.std.proofs.lemmas.List.Sorted.{answers_always}
 use Rattle.ng_bencode.specs.Room.{Room}
 use Rattle.call_board.specs.declared.live_call.LiveCall.{LiveCall}
-use Rattle.call_board.specs.Numbered.{NumbersRise}
+use Rattle.call_board.specs.CallNumbers.{NumbersRise}
 use Rattle.call_board.proofs.Numbered.{found}
 use Rattle.call_board.proofs.live_calls.LiveCalls.place_of.Goals as goal
 

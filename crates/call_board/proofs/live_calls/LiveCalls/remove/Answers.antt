@@ -3,7 +3,7 @@ use Rattle.std.specs.Map.{values_of}
 use Rattle.std.proofs.lemmas.Map.Entries.{length-values_of}
 use Rattle.ng_bencode.specs.Room.{Room}
 use Rattle.call_board.specs.declared.live_call.LiveCall.{LiveCall}
-use Rattle.call_board.specs.Keyed.{AreUnderTheirIds}
+use Rattle.call_board.specs.CallIds.{AreUnderTheirIds}
 use Rattle.call_board.proofs.Keyed.{call_at, none_past, under-remove, values-remove}
 use Rattle.call_board.proofs.live_calls.LiveCalls.remove.Goals as goal
 

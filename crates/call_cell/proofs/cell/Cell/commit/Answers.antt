@@ -2,8 +2,8 @@ use Rattle.std.proofs.Common.{refl, ◌∙◌, ap, arith, subst, List, length}
 use Rattle.std.proofs.lemmas.List.{with_items_is}
 use Rattle.call_cell.specs.declared.leg.Leg.{Leg}
 use Rattle.call_cell.specs.Cells.{since_end}
-use Rattle.call_cell.specs.Committing.{LegsCommit}
-use Rattle.call_cell.specs.Parting.{Part}
+use Rattle.call_cell.specs.Commits.{LegsCommit}
+use Rattle.call_cell.specs.DroppedLegs.{Part}
 use Rattle.call_cell.proofs.Answered.{cell_commits, answered}
 use Rattle.call_cell.proofs.cell.Cell.commit.Goals as goal
 

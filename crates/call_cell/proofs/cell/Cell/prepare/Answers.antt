@@ -4,9 +4,9 @@ use Rattle.std.proofs.lemmas.List.Sums.{length-filter}
 use Rattle.port_pool.specs.declared.pairs.Lease.{Lease}
 use Rattle.call_cell.specs.declared.leg.Leg.{Leg}
 use Rattle.call_cell.specs.Cells.{since_end}
-use Rattle.call_cell.specs.Parting.{stays}
-use Rattle.call_cell.specs.Standing.{AreApart}
-use Rattle.call_cell.specs.Preparing.{with_keys}
+use Rattle.call_cell.specs.DroppedLegs.{stays}
+use Rattle.call_cell.specs.LegHistories.{AreApart}
+use Rattle.call_cell.specs.Preparations.{with_keys}
 use Rattle.call_cell.proofs.Offered.{cell_prepares, offered}
 use Rattle.call_cell.proofs.cell.Cell.prepare.Goals as goal
 

@@ -2,7 +2,7 @@ use Rattle.std.proofs.Common.{refl, arith, sym, subst, List}
 use Rattle.std.proofs.lemmas.List.{with_items_is}
 use Rattle.call_cell.specs.declared.leg.Leg.{Leg}
 use Rattle.call_cell.specs.Cells.{since_end}
-use Rattle.call_cell.specs.Standing.{LegsFor, LegsRelay, receipt_of}
+use Rattle.call_cell.specs.LegHistories.{LegsStandFor, LegsRelay, receipt_of}
 use Rattle.call_cell.proofs.Handing.{cell_relays}
 use Rattle.call_cell.proofs.cell.Cell.relay.Goals as goal
 
@@ -11,8 +11,8 @@ returns g c config h number for =
     let p = receipt_of number c.args.packet.now c.args.buf.now in
     let those = c.relay_legs-outcome.new.legs in
     let value = c.as_mut_slice.ensures.value in
-    let legs_for = subst (λ (l : List (Leg _)). LegsFor config (since_end h) l) (sym value) for.legs_for in
-    let relays = subst (λ (l : List (Leg _)). LegsRelay g.O.OutEnd.told g.O.OutEnd.faults config (since_end h) p l those c.relay_legs-outcome.new.buf c.relay_legs-outcome.result) value
+    let legs_for = subst (λ (l : List (Leg _)). LegsStandFor config (since_end h) l) (sym value) for.legs_for in
+    let relays = subst (λ (l : List (Leg _)). LegsRelay g.O.OutEnd.log g.O.OutEnd.faults config (since_end h) p l those c.relay_legs-outcome.new.buf c.relay_legs-outcome.result) value
     (c.relay_legs-outcome.ensures.relays config (since_end h) number legs_for) in
-    cell_relays g.O.OutEnd.told g.O.OutEnd.faults config c.args.self.now _ h p c.args.now c.relay_legs-outcome.new.buf c.relay_legs-outcome.result those for refl
+    cell_relays g.O.OutEnd.log g.O.OutEnd.faults config c.args.self.now _ h p c.args.now c.relay_legs-outcome.new.buf c.relay_legs-outcome.result those for refl
     c.max-self.ensures refl refl refl c.active_after-self.ensures (with_items_is c.args.self.now.legs those (omega (arith, c.relay_legs-outcome.auto.legs, c.as_mut_slice.ensures.len))) relays

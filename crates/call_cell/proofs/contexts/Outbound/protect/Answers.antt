@@ -1,9 +1,9 @@
 use Rattle.std.proofs.Common.{ap, subst, sym, ◌∙◌, take}
 use Rattle.rtp_packet.specs.declared.head.Half.{Half}
 use Rattle.call_cell.specs.declared.heads.Head.{Head}
-use Rattle.call_cell.specs.Keyed.{wrapped_under}
+use Rattle.call_cell.specs.Protection.{wrapped_under}
 use Rattle.call_cell.specs.Heads.{half_of, IsHead}
-use Rattle.call_cell.specs.Contexts.{WrapsTo}
+use Rattle.call_cell.specs.Contexts.{OutboundWrapsTo}
 use Rattle.call_cell.proofs.HeadLemmas.{no_packet_by, read_is}
 use Rattle.call_cell.proofs.BothHalves.{wraps_nothing}
 use Rattle.call_cell.proofs.contexts.Outbound.protect.Goals as goal
@@ -30,12 +30,12 @@ pub returns-in-Rtp-clause-wraps : goal.returns-in-Rtp-clause-wraps
 returns-in-Rtp-clause-wraps c key notes for =
     let bytes = take c.args.len c.args.buf.now in
     let read = read_is c.args.half bytes c.args.head c.in-Some.head c.requires.head c.in-Some.is in
-    subst (λ (k : Half). WrapsTo (wrapped_under key notes k bytes) key notes c.args.self.now c.protect_rtp.new.self c.protect_rtp.new.buf c.protect_rtp.result)
+    subst (λ (k : Half). OutboundWrapsTo (wrapped_under key notes k bytes) key notes c.args.self.now c.protect_rtp.new.self c.protect_rtp.new.buf c.protect_rtp.result)
     (sym (ap (λ (h : Head). half_of h) c.in-Rtp.is) ∙ read.half_is) (c.protect_rtp.ensures.wraps key notes for)
 
 pub returns-in-Rtcp-clause-wraps : goal.returns-in-Rtcp-clause-wraps
 returns-in-Rtcp-clause-wraps c key notes for =
     let bytes = take c.args.len c.args.buf.now in
     let read = read_is c.args.half bytes c.args.head c.in-Some.head c.requires.head c.in-Some.is in
-    subst (λ (k : Half). WrapsTo (wrapped_under key notes k bytes) key notes c.args.self.now c.protect_rtcp.new.self c.protect_rtcp.new.buf c.protect_rtcp.result)
+    subst (λ (k : Half). OutboundWrapsTo (wrapped_under key notes k bytes) key notes c.args.self.now c.protect_rtcp.new.self c.protect_rtcp.new.buf c.protect_rtcp.result)
     (sym (ap (λ (h : Head). half_of h) c.in-Rtcp.is) ∙ read.half_is) (c.protect_rtcp.ensures.wraps key notes for)

@@ -1,7 +1,7 @@
 use Rattle.std.proofs.Common.{◌∙◌, sym}
 use Rattle.rtp_packet.specs.declared.head.Half.TheVariants.{Rtp}
 use Rattle.call_cell.specs.Parts.{learner_in}
-use Rattle.call_cell.specs.Standing.{in_force_with}
+use Rattle.call_cell.specs.LegHistories.{in_force_with}
 use Rattle.call_cell.proofs.Learners.{goes, reports}
 use Rattle.call_cell.proofs.leg.Leg.report.Goals as goal
 

@@ -4,8 +4,8 @@ use Rattle.std.specs.Map.{lookup, remove_entry}
 use Rattle.indexmap.specs.IndexMap.{spare}
 use Rattle.indexmap.proofs.CallerLemmas.{insert_entry-new}
 use Rattle.cookie_cache.specs.declared.kept_reply.KeptReply.{KeptReply}
-use Rattle.cookie_cache.specs.Keepings.{Keeping, moment_used, last_moment}
-use Rattle.cookie_cache.specs.Entries.{all_shown, shown, key_of}
+use Rattle.cookie_cache.specs.Keepings.{Keeping, moment_used, last_keeping_moment}
+use Rattle.cookie_cache.specs.Entries.{all_shown, shown, cache_key}
 use Rattle.cookie_cache.proofs.Shown.{has_bytes, is_other, push-shown, remove-shown}
 use Rattle.cookie_cache.proofs.Keeping.{keeps, on_ok}
 use Rattle.cookie_cache.proofs.cache.CookieCache.keep.Goals as goal
@@ -16,8 +16,8 @@ returns c = λ keepings stands.
     let es = old.entries.entries in
     let keeping : Keeping = record { source = c.args.source; cookie = c.args.cookie.list; reply = c.args.reply.list; moment = moment_used keepings c.args.now } in
     let moment : c.max-moment.result ≡ keeping.moment = c.max-moment.ensures ∙ ap (max c.args.now) stands.moment_is in
-    let key : c.new-bytes.result ≡ key_of c.args.source c.args.cookie.list = c.new-bytes.ensures.bytes ∙ ap (key_of c.args.source) c.as_slice.ensures in
-    let bytes : c.as_slice-3.result.now ≡ key_of c.args.source c.args.cookie.list = c.as_slice-3.ensures.bytes ∙ key in
+    let key : c.new-bytes.result ≡ cache_key c.args.source c.args.cookie.list = c.new-bytes.ensures.bytes ∙ ap (cache_key c.args.source) c.as_slice.ensures in
+    let bytes : c.as_slice-3.result.now ≡ cache_key c.args.source c.args.cookie.list = c.as_slice-3.ensures.bytes ∙ key in
     let none : lookup (has_bytes c.as_slice-3.result.now) c.shift_remove.new.self.entries ≡ None = c.shift_remove.ensures.updates.1 in
     let removed : c.shift_remove.new.self.entries ≡ remove_entry (has_bytes c.as_slice-3.result.now) es = c.shift_remove.ensures.entries in
     let taken : all_shown c.shift_remove.new.self.entries ≡ filter (is_other c.as_slice-3.result.now) (all_shown es) =
@@ -40,7 +40,7 @@ returns c = λ keepings stands.
     let came : all_shown c.insert.new.self.entries ≡ all_shown c.shift_remove.new.self.entries ++ shown (c.extend_from_slice.new.self, kept) ∷ [] =
     ap all_shown (put ∙ insert_entry-new (λ x y. pointwise nat_eq x.items y.items) c.shift_remove.new.self c.extend_from_slice.new.self kept absent)
     ∙ push-shown c.shift_remove.new.self.entries (c.extend_from_slice.new.self, kept) in
-    let low : last_moment keepings ≤ moment_used keepings c.args.now = omega arith in
+    let low : last_keeping_moment keepings ≤ moment_used keepings c.args.now = omega arith in
     keeps old c.drop_oldest.new.self keepings keeping c.shift_remove.new.self.entries (all_shown c.insert.new.self.entries) stands c.new-bytes.ensures.source low (record {
       taken = taken ∙ ap (λ b. filter (is_other b) (all_shown es)) bytes;
       came_is = came ∙ (λ i. all_shown c.shift_remove.new.self.entries ++ record { key = (same ∙ bytes) i; number = old.count; reply = c.args.reply.list; moment = moment i } ∷ []);

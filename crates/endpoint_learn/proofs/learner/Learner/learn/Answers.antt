@@ -1,5 +1,5 @@
 use Rattle.std.proofs.Common.{◌∙◌, sym, ap}
-use Rattle.endpoint_learn.specs.Learning.{taught}
+use Rattle.endpoint_learn.specs.Lessons.{taught}
 use Rattle.endpoint_learn.proofs.learner.Learner.learn.Goals as goal
 use Rattle.endpoint_learn.proofs.Lessons.{learned_more}
 

@@ -8,5 +8,5 @@ invariant_of-self c =
     record {
       few = before.few;
       left = before.left;
-      told = noted_other c.self.inside.given c.self.inside.well c.self.inside.told c.note.new.self _ refl refl c.note.ensures before.told;
+      log = noted_other c.self.inside.given c.self.inside.well c.self.inside.log c.note.new.self _ refl refl c.note.ensures before.log;
     }

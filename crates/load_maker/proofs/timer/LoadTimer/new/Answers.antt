@@ -3,4 +3,4 @@ use Rattle.load_maker.specs.Moments.{AreZero}
 use Rattle.load_maker.proofs.timer.LoadTimer.new.Goals as goal
 
 pub invariant_of-result : goal.invariant_of-result
-invariant_of-result c = subst (λ told. AreZero told) (sym c.new.ensures) refl
+invariant_of-result c = subst (λ log. AreZero log) (sym c.new.ensures) refl

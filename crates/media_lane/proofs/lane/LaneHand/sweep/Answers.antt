@@ -1,7 +1,7 @@
 use Rattle.std.proofs.Common.{◌≡◌, sym, ◌∙◌, ap, subst, arith, ℕ, ◌+◌, ◌%◌}
 use Rattle.std.proofs.Math.Nat.{add-mod_right, mod-eq_of_lt}
 use Rattle.media_lane.specs.Lanes.{lanes_in}
-use Rattle.media_lane.specs.Covering.{Covers}
+use Rattle.media_lane.specs.Progress.{Covers}
 use Rattle.media_lane.proofs.Counting.{covers_nothing, covers_next, covers_all}
 use Rattle.media_lane.proofs.lane.LaneHand.sweep.Goals as goal
 

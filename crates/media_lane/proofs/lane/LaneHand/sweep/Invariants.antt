@@ -1,6 +1,6 @@
 use Rattle.std.proofs.Common.{◌≡◌, ◌-◌, ◌%◌}
 use Rattle.media_lane.specs.Lanes.{index_in, lanes_in}
-use Rattle.media_lane.specs.Covering.{Covers}
+use Rattle.media_lane.specs.Progress.{Covers}
 use Rattle.media_lane.proofs.lane.LaneHand.sweep.Given as goal
 
 abbrev pub invariant-loop-pair : goal.invariant-loop-pair

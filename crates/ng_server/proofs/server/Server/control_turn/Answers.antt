@@ -1,16 +1,16 @@
 use Rattle.std.proofs.Common.{◌≡◌, ◌∙◌, refl, sym, subst, ap, length, le_refl}
-use Rattle.relay_outside.specs.Told.{is_done}
+use Rattle.relay_outside.specs.DeviceLogs.{is_done}
 use Rattle.turn_table.specs.Hands.{IsSameHand, entries}
-use Rattle.relay_core.specs.Turning.{made_by}
+use Rattle.relay_core.specs.Turns.{made_by}
 use Rattle.relay_core.specs.Safe.{BoardSafe}
 use Rattle.relay_core.proofs.Safety.{board_is_safe}
 use Rattle.board_turns.specs.Between.{IsBetween}
-use Rattle.board_turns.specs.Ties.{Ties}
+use Rattle.board_turns.specs.Ties.{PortsFollowRows}
 use Rattle.ng_server.specs.Servers.{OpensJust, history_of}
-use Rattle.ng_server.specs.Taking.{Turned}
+use Rattle.ng_server.specs.ControlTurns.{Turned}
 use Rattle.ng_server.proofs.Resting.{rested_between, rested_opens}
 use Rattle.board_turns.proofs.Tying.{ties_none}
-use Rattle.ng_server.specs.declared.taking.ControlTurn.TheVariants as turn
+use Rattle.ng_server.specs.declared.control_turn.ControlTurn.TheVariants as turn
 use Rattle.ng_server.proofs.Taken.{is_request, none_replies, reply_reads, reply_rose, responded, silent, took_none, took_seen}
 use Rattle.ng_server.proofs.server.Server.control_turn.Goals as goal
 
@@ -30,7 +30,7 @@ pub returns-in-Err-clause-open : goal.returns-in-Err-clause-open
 returns-in-Err-clause-open g c = c.requires.«open»
 
 pub returns-in-Err-clause-ties : goal.returns-in-Err-clause-ties
-returns-in-Err-clause-ties g c = ties_none c.args.self.now.config (g.P.PortMaker.told c.args.ports.now) (entries c.args.hand.now)
+returns-in-Err-clause-ties g c = ties_none c.args.self.now.config (g.P.PortMaker.log c.args.ports.now) (entries c.args.hand.now)
 
 pub returns-in-Err-clause-later : goal.returns-in-Err-clause-later
 returns-in-Err-clause-later g c = (c.take_datagram.ensures.later, le_refl _, le_refl _)
@@ -38,7 +38,7 @@ returns-in-Err-clause-later g c = (c.take_datagram.ensures.later, le_refl _, le_
 pub returns-in-Err-clause-turned : goal.returns-in-Err-clause-turned
 returns-in-Err-clause-turned g c =
     took_none c.args.self.now.config c.args.hand.now c.args.now c.in-Err.turn (g.P.PortMaker.faults c.args.ports.now) (g.P.PortMaker.faults c.args.ports.now) (g.K.KeySource.faults c.args.keys.now)
-    (g.K.KeySource.faults c.args.keys.now) (g.P.PortMaker.told c.args.ports.now) (g.K.KeySource.told c.args.keys.now) (g.N.ControlLink.told c.args.link.now) (g.N.ControlLink.told c.take_datagram.new.link) c.in-Err.ensures.none
+    (g.K.KeySource.faults c.args.keys.now) (g.P.PortMaker.log c.args.ports.now) (g.K.KeySource.log c.args.keys.now) (g.N.ControlLink.log c.args.link.now) (g.N.ControlLink.log c.take_datagram.new.link) c.in-Err.ensures.none
 
 pub returns-in-Err-clause-read_fault : goal.returns-in-Err-clause-read_fault
 returns-in-Err-clause-read_fault g c = c.in-Err.ensures.read_fault
@@ -59,7 +59,7 @@ pub returns-in_default-clause-open : goal.returns-in_default-clause-open
 returns-in_default-clause-open g c = c.requires.«open»
 
 pub returns-in_default-clause-ties : goal.returns-in_default-clause-ties
-returns-in_default-clause-ties g c = ties_none c.args.self.now.config (g.P.PortMaker.told c.args.ports.now) (entries c.args.hand.now)
+returns-in_default-clause-ties g c = ties_none c.args.self.now.config (g.P.PortMaker.log c.args.ports.now) (entries c.args.hand.now)
 
 pub returns-in_default-clause-later : goal.returns-in_default-clause-later
 returns-in_default-clause-later g c = (c.take_datagram.ensures.later, le_refl _, le_refl _)
@@ -68,7 +68,7 @@ pub returns-in_default-clause-turned : goal.returns-in_default-clause-turned
 returns-in_default-clause-turned g c =
     took_seen c.args.self.now.config c.args.hand.now c.args.hand.now c.args.now turn.Silent _ _ _ _ _ _ _ _ _ _ _ c.take_datagram.new.room _ _ _ c.in-Ok.from c.in-Ok.len c.as_slice.ensures.value
     (c.take_datagram.auto.room ∙ ap length c.as_mut_slice.ensures.value ∙ sym c.desk.inside.datagram.ok.0) c.in-Ok.ensures.taken
-    (silent c.args.self.now.config c.args.hand.now c.args.now c.in-Ok.from _ _ _ _ _ _ _ (g.N.ControlLink.told c.take_datagram.new.link) c.in_default.ensures.frame)
+    (silent c.args.self.now.config c.args.hand.now c.args.now c.in-Ok.from _ _ _ _ _ _ _ (g.N.ControlLink.log c.take_datagram.new.link) c.in_default.ensures.frame)
 
 pub answer_datagram-requires-clause-rests : goal.answer_datagram-requires-clause-rests
 answer_datagram-requires-clause-rests g c = record { between = c.requires.between; opens = c.requires.«open»; empty = c.desk.invariant.1 }
@@ -90,7 +90,7 @@ returns-clause-between g c =
     let new = c.answer_datagram.new.at in
     let left : new.hand.now ≡ c.hand-1.given.0 = sym (c.hand-1.given.1 (sym rests.hand_is)) in
     let ports : new.ports.now ≡ c.ports-1.given.0 = sym (c.ports-1.given.1 (sym rests.ports_are)) in
-    subst (λ hand. IsBetween c.args.self.now.config c.args.self.now.turns hand) left (rested_between g.P.PortMaker.told g.P.PortMaker.faults _ new rests)
+    subst (λ hand. IsBetween c.args.self.now.config c.args.self.now.turns hand) left (rested_between g.P.PortMaker.log g.P.PortMaker.faults _ new rests)
 
 pub returns-clause-safe : goal.returns-clause-safe
 returns-clause-safe g c =
@@ -99,7 +99,7 @@ returns-clause-safe g c =
     let left : new.hand.now ≡ c.hand-1.given.0 = sym (c.hand-1.given.1 (sym rests.hand_is)) in
     let ports : new.ports.now ≡ c.ports-1.given.0 = sym (c.ports-1.given.1 (sym rests.ports_are)) in
     subst (λ hand. BoardSafe c.args.self.now.config (made_by hand)) left
-    (board_is_safe c.args.self.now.config (made_by new.hand.now) (rested_between g.P.PortMaker.told g.P.PortMaker.faults _ new rests).orderly)
+    (board_is_safe c.args.self.now.config (made_by new.hand.now) (rested_between g.P.PortMaker.log g.P.PortMaker.faults _ new rests).orderly)
 
 pub returns-clause-open : goal.returns-clause-open
 returns-clause-open g c =
@@ -108,8 +108,8 @@ returns-clause-open g c =
     let left : new.hand.now ≡ c.hand-1.given.0 = sym (c.hand-1.given.1 (sym rests.hand_is)) in
     let ports : new.ports.now ≡ c.ports-1.given.0 = sym (c.ports-1.given.1 (sym rests.ports_are)) in
     let config = c.args.self.now.config in
-    subst (λ hand. OpensJust config (history_of hand) (g.P.PortMaker.told c.ports-1.given.0)) left
-    (subst (λ p. OpensJust config (history_of new.hand.now) (g.P.PortMaker.told p)) ports (rested_opens g.P.PortMaker.told g.P.PortMaker.faults _ new rests))
+    subst (λ hand. OpensJust config (history_of hand) (g.P.PortMaker.log c.ports-1.given.0)) left
+    (subst (λ p. OpensJust config (history_of new.hand.now) (g.P.PortMaker.log p)) ports (rested_opens g.P.PortMaker.log g.P.PortMaker.faults _ new rests))
 
 pub returns-clause-ties : goal.returns-clause-ties
 returns-clause-ties g c =
@@ -118,8 +118,8 @@ returns-clause-ties g c =
     let left : new.hand.now ≡ c.hand-1.given.0 = sym (c.hand-1.given.1 (sym rests.hand_is)) in
     let ports : new.ports.now ≡ c.ports-1.given.0 = sym (c.ports-1.given.1 (sym rests.ports_are)) in
     let config = c.args.self.now.config in
-    subst (λ hand. Ties config (g.P.PortMaker.told c.args.ports.now) (g.P.PortMaker.told c.ports-1.given.0) (entries c.args.hand.now) (entries hand)) left
-    (subst (λ p. Ties config (g.P.PortMaker.told c.args.ports.now) (g.P.PortMaker.told p) (entries c.args.hand.now) (entries new.hand.now)) ports rests.ties)
+    subst (λ hand. PortsFollowRows config (g.P.PortMaker.log c.args.ports.now) (g.P.PortMaker.log c.ports-1.given.0) (entries c.args.hand.now) (entries hand)) left
+    (subst (λ p. PortsFollowRows config (g.P.PortMaker.log c.args.ports.now) (g.P.PortMaker.log p) (entries c.args.hand.now) (entries new.hand.now)) ports rests.ties)
 
 pub returns-clause-turned : goal.returns-clause-turned
 returns-clause-turned g c =
@@ -131,13 +131,13 @@ returns-clause-turned g c =
     took_seen c.args.self.now.config c.args.hand.now new.hand.now c.args.now c.turn_after.result _ _ _ _ _ _ _ _ _ _ _ c.take_datagram.new.room _ _ _ c.in-Ok.from c.in-Ok.len c.as_slice.ensures.value
     (c.take_datagram.auto.room ∙ ap length c.as_mut_slice.ensures.value ∙ sym c.desk.inside.datagram.ok.0) c.in-Ok.ensures.taken
     (responded c.args.self.now.config c.args.hand.now new.hand.now c.args.now c.in-Ok.from _ _ c.turn_after.result c.answer_datagram.result _ _ _ _ _ _ _ _
-    (g.N.ControlLink.told c.take_datagram.new.link) (g.N.ControlLink.told c.answer_datagram.new.link) c.in-Some.ensures.frame refl refl c.turn_after.ensures c.answer_datagram.ensures.answers) in
+    (g.N.ControlLink.log c.take_datagram.new.link) (g.N.ControlLink.log c.answer_datagram.new.link) c.in-Some.ensures.frame refl refl c.turn_after.ensures c.answer_datagram.ensures.answers) in
     subst (λ hand. Turned c.args.self.now.config c.args.hand.now hand c.args.now c.turn_after.result (g.P.PortMaker.faults c.args.ports.now) (g.P.PortMaker.faults c.ports-1.given.0)
-    (g.K.KeySource.faults c.args.keys.now) (g.K.KeySource.faults c.answer_datagram.new.keys) (g.P.PortMaker.told c.args.ports.now) (g.P.PortMaker.told c.ports-1.given.0)
-    (g.K.KeySource.told c.args.keys.now) (g.K.KeySource.told c.answer_datagram.new.keys) (g.N.ControlLink.told c.args.link.now) (g.N.ControlLink.told c.answer_datagram.new.link)) left
+    (g.K.KeySource.faults c.args.keys.now) (g.K.KeySource.faults c.answer_datagram.new.keys) (g.P.PortMaker.log c.args.ports.now) (g.P.PortMaker.log c.ports-1.given.0)
+    (g.K.KeySource.log c.args.keys.now) (g.K.KeySource.log c.answer_datagram.new.keys) (g.N.ControlLink.log c.args.link.now) (g.N.ControlLink.log c.answer_datagram.new.link)) left
     (subst (λ p. Turned c.args.self.now.config c.args.hand.now new.hand.now c.args.now c.turn_after.result (g.P.PortMaker.faults c.args.ports.now) (g.P.PortMaker.faults p)
-    (g.K.KeySource.faults c.args.keys.now) (g.K.KeySource.faults c.answer_datagram.new.keys) (g.P.PortMaker.told c.args.ports.now) (g.P.PortMaker.told p)
-    (g.K.KeySource.told c.args.keys.now) (g.K.KeySource.told c.answer_datagram.new.keys) (g.N.ControlLink.told c.args.link.now) (g.N.ControlLink.told c.answer_datagram.new.link)) ports turned)
+    (g.K.KeySource.faults c.args.keys.now) (g.K.KeySource.faults c.answer_datagram.new.keys) (g.P.PortMaker.log c.args.ports.now) (g.P.PortMaker.log p)
+    (g.K.KeySource.log c.args.keys.now) (g.K.KeySource.log c.answer_datagram.new.keys) (g.N.ControlLink.log c.args.link.now) (g.N.ControlLink.log c.answer_datagram.new.link)) ports turned)
 
 pub returns-clause-read_fault : goal.returns-clause-read_fault
 returns-clause-read_fault g c is = reply_reads (is_done c.answer_datagram.result) c.turn_after.result c.turn_after.ensures is

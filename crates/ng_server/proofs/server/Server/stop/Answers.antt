@@ -1,12 +1,12 @@
 use Rattle.std.proofs.Common.{◌≡◌, ◌≤◌, sym, subst, []}
-use Rattle.relay_outside.specs.Told.{Gained}
+use Rattle.relay_outside.specs.DeviceLogs.{Gained}
 use Rattle.turn_table.specs.Hands.{IsSameHand, entries}
-use Rattle.media_ports.specs.Asked.{OpensNone}
-use Rattle.media_ports.specs.Held.{TellsHeld}
-use Rattle.relay_core.specs.Turning.{made_by}
+use Rattle.media_ports.specs.Openings.{NoneOpened}
+use Rattle.media_ports.specs.OpenPorts.{LogsHeld}
+use Rattle.relay_core.specs.Turns.{made_by}
 use Rattle.board_turns.specs.Between.{IsBetween, MakesTurn, board_of}
-use Rattle.board_turns.specs.Ties.{Ties}
-use Rattle.board_turns.specs.Stopping.{stop_entry}
+use Rattle.board_turns.specs.Ties.{PortsFollowRows}
+use Rattle.board_turns.specs.Stops.{stop_entry}
 use Rattle.ng_server.proofs.Resting.{rested_between}
 use Rattle.ng_server.proofs.server.Server.stop.Goals as goal
 
@@ -27,7 +27,7 @@ returns-clause-between g c =
     let new = c.stop_turn.new.at in
     let left : new.hand.now ≡ c.hand-1.given.0 = sym (c.hand-1.given.1 (sym rests.hand_is)) in
     let ports : new.ports.now ≡ c.ports-1.given.0 = sym (c.ports-1.given.1 (sym rests.ports_are)) in
-    subst (λ hand. IsBetween c.args.self.now.config c.args.self.now.turns hand) left (rested_between g.P.PortMaker.told g.P.PortMaker.faults _ new rests)
+    subst (λ hand. IsBetween c.args.self.now.config c.args.self.now.turns hand) left (rested_between g.P.PortMaker.log g.P.PortMaker.faults _ new rests)
 
 pub returns-clause-closes : goal.returns-clause-closes
 returns-clause-closes g c =
@@ -35,7 +35,7 @@ returns-clause-closes g c =
     let new = c.stop_turn.new.at in
     let left : new.hand.now ≡ c.hand-1.given.0 = sym (c.hand-1.given.1 (sym rests.hand_is)) in
     let ports : new.ports.now ≡ c.ports-1.given.0 = sym (c.ports-1.given.1 (sym rests.ports_are)) in
-    subst (λ p. Gained (g.P.PortMaker.told c.args.ports.now) (g.P.PortMaker.told p) OpensNone) ports c.stop_turn.ensures.closes
+    subst (λ p. Gained (g.P.PortMaker.log c.args.ports.now) (g.P.PortMaker.log p) NoneOpened) ports c.stop_turn.ensures.closes
 
 pub returns-clause-ties : goal.returns-clause-ties
 returns-clause-ties g c =
@@ -44,8 +44,8 @@ returns-clause-ties g c =
     let left : new.hand.now ≡ c.hand-1.given.0 = sym (c.hand-1.given.1 (sym rests.hand_is)) in
     let ports : new.ports.now ≡ c.ports-1.given.0 = sym (c.ports-1.given.1 (sym rests.ports_are)) in
     let config = c.args.self.now.config in
-    subst (λ hand. Ties config (g.P.PortMaker.told c.args.ports.now) (g.P.PortMaker.told c.ports-1.given.0) (entries c.args.hand.now) (entries hand)) left
-    (subst (λ p. Ties config (g.P.PortMaker.told c.args.ports.now) (g.P.PortMaker.told p) (entries c.args.hand.now) (entries new.hand.now)) ports rests.ties)
+    subst (λ hand. PortsFollowRows config (g.P.PortMaker.log c.args.ports.now) (g.P.PortMaker.log c.ports-1.given.0) (entries c.args.hand.now) (entries hand)) left
+    (subst (λ p. PortsFollowRows config (g.P.PortMaker.log c.args.ports.now) (g.P.PortMaker.log p) (entries c.args.hand.now) (entries new.hand.now)) ports rests.ties)
 
 pub returns-clause-later : goal.returns-clause-later
 returns-clause-later g c =
@@ -72,4 +72,4 @@ returns-clause-shut g c =
     let new = c.stop_turn.new.at in
     let left : new.hand.now ≡ c.hand-1.given.0 = sym (c.hand-1.given.1 (sym rests.hand_is)) in
     let ports : new.ports.now ≡ c.ports-1.given.0 = sym (c.ports-1.given.1 (sym rests.ports_are)) in
-    subst (λ p. TellsHeld c.args.self.now.config (g.P.PortMaker.told p) []) ports c.stop_turn.ensures.shut
+    subst (λ p. LogsHeld c.args.self.now.config (g.P.PortMaker.log p) []) ports c.stop_turn.ensures.shut

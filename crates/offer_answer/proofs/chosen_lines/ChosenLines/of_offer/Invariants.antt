@@ -1,5 +1,5 @@
 use Rattle.std.proofs.Common.{◌≡◌, ◌<◌, ℕ, length, None, slice_index_or}
-use Rattle.sdp_edit.specs.Choosing.{section_lines, IsFirstOf, IsAny}
+use Rattle.sdp_edit.specs.ChosenLines.{section_lines, IsFirstOf, IsAny}
 use Rattle.offer_answer.proofs.chosen_lines.ChosenLines.of_offer.Given as goal
 
 -- the sections so far have their first usable line

@@ -1,9 +1,9 @@
 use Rattle.std.proofs.Common.{subst, arith, ◌∙◌, List, Option, None}
 use Rattle.std.proofs.lemmas.List.{length-set}
 use Rattle.sdes_lines.specs.declared.crypto_line.CryptoLine.{CryptoLine}
-use Rattle.sdp_edit.specs.Choosing.{section_lines, IsFirstOf, IsOffered}
+use Rattle.sdp_edit.specs.ChosenLines.{section_lines, IsFirstOf, IsOffered}
 use Rattle.offer_answer.specs.Keys.{last_lines}
-use Rattle.offer_answer.specs.Plan.{AnswerHeard}
+use Rattle.offer_answer.specs.Plan.{AnswerRead}
 use Rattle.offer_answer.proofs.Arrays.{one-more}
 use Rattle.offer_answer.proofs.HeardLines.{first-heard}
 use Rattle.offer_answer.proofs.dialog.Dialog.hear.Goals as goal
@@ -20,7 +20,7 @@ loop-section-preserved c = record {
 }
 
 pub returns : goal.returns
-unfolding AnswerHeard
+unfolding AnswerRead
 returns c = λ config rounds ask s read is.
     first-heard (λ section. IsOffered (last_lines rounds section)) c.args.sdp.now ask.sdp ask.chosen c.loop-section.lines c.section_count-count.result
     read is c.section_count-count.ensures.count (omega (arith, c.loop-section.invariant.full, c.section_count-count.ensures.most))

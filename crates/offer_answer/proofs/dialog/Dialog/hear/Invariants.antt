@@ -1,6 +1,6 @@
 use Rattle.std.proofs.Common.{◌≡◌, ◌<◌, ℕ, List, length, None, slice_index_or}
 use Rattle.relay_outside.specs.declared.settings.Config.{Config}
-use Rattle.sdp_edit.specs.Choosing.{section_lines, IsFirstOf, IsOffered}
+use Rattle.sdp_edit.specs.ChosenLines.{section_lines, IsFirstOf, IsOffered}
 use Rattle.offer_answer.specs.Rounds.{Round}
 use Rattle.offer_answer.specs.Keys.{last_lines}
 use Rattle.offer_answer.specs.Dialogs.{DialogFor}

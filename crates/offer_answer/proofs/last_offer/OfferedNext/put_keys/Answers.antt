@@ -1,7 +1,7 @@
 use Rattle.std.proofs.Common.{map, sym, ◌∙◌, subst}
 use Rattle.std.proofs.lemmas.List.{length-map}
-use Rattle.offer_answer.specs.Offering.{key_asked}
-use Rattle.offer_answer.specs.Filled.{FilledFor}
+use Rattle.offer_answer.specs.Offers.{key_asked}
+use Rattle.offer_answer.specs.PortsAndKeys.{FilledFor}
 use Rattle.offer_answer.specs.Widths.{SameOffer}
 use Rattle.offer_answer.specs.Nexts.{numbered_keys}
 use Rattle.offer_answer.proofs.Nexts.{numbered-places}

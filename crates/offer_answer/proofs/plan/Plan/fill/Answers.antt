@@ -1,6 +1,6 @@
 use Rattle.std.proofs.Common.{ap, sym, subst, ◌∙◌}
 use Rattle.offer_answer.specs.Plan.{demand}
-use Rattle.offer_answer.specs.Offering.{PlanFor}
+use Rattle.offer_answer.specs.Offers.{PlanFor}
 use Rattle.offer_answer.specs.Nexts.{numbered_keys}
 use Rattle.offer_answer.specs.Plans.{OfferFilled}
 use Rattle.offer_answer.specs.Widths.{WritesNext}

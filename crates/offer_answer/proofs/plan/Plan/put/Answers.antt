@@ -1,6 +1,6 @@
 use Rattle.std.proofs.Common.{[], map, ap, subst, ◌∙◌}
 use Rattle.offer_answer.specs.Plan.{demand}
-use Rattle.offer_answer.specs.Offering.{leg_asked, key_asked}
+use Rattle.offer_answer.specs.Offers.{leg_asked, key_asked}
 use Rattle.offer_answer.specs.Plans.{OfferNext}
 use Rattle.offer_answer.proofs.plan.Plan.put.Goals as goal
 

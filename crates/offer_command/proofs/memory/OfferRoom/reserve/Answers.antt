@@ -1,12 +1,12 @@
 use Rattle.std.proofs.Common.{◌≡◌, ap, arith}
-use Rattle.offer_answer.specs.Offering.{pair_count, key_count}
+use Rattle.offer_answer.specs.Offers.{pairs_demanded, key_count}
 use Rattle.media_ports.specs.Draws.{KeyBytes}
 use Rattle.media_ports.specs.Ends.{EndsList}
 use Rattle.offer_command.proofs.memory.OfferRoom.reserve.Goals as goal
 
 pub returns-in-Ok : goal.returns-in-Ok
 returns-in-Ok g c =
-    let pairs : c.pairs-pairs.result ≡ pair_count c.args.plan.now = c.pairs-pairs.ensures.count in
+    let pairs : c.pairs-pairs.result ≡ pairs_demanded c.args.plan.now = c.pairs-pairs.ensures.count in
     let keys : c.keys-keys.result ≡ key_count c.args.plan.now = c.keys-keys.ensures.count in
     let len = c.reply_len.ensures in
     let opened_room = ap (λ (x : EndsList g.row.I.Denot g.row.O.Denot). x.room) c.in_ok-opened.ensures in

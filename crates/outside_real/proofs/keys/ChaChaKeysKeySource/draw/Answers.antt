@@ -23,8 +23,8 @@ returns-clause-counted c =
     let kept = fill_keeps _ _ _ c.fill_bytes_via_u32.ensures in
     rw (← c.self.view_is) (λ i. record { seed_words = kept.0 i; drawn = c.saturating_add-self-inside.ensures i })
 
-pub returns-clause-told : goal.returns-clause-told
-returns-clause-told c =
+pub returns-clause-log : goal.returns-clause-log
+returns-clause-log c =
     let kept = fill_keeps _ _ _ c.fill_bytes_via_u32.ensures in
     let key = λ (few : c.self.inside.drawn < 2 ^ 64 - 1). gives_key _ _ _ c.self.inside.drawn c.self.invariant.0 (c.self.invariant.1 few) (omega arith) c.fill_bytes_via_u32.ensures in
     rw (← c.self.view_is, kept.0) (told_more c.self.inside.generator.key c.self.inside.drawn c.saturating_add-self-inside.result c.fill_bytes_via_u32.new.dst c.saturating_add-self-inside.ensures key)

@@ -1,7 +1,7 @@
 use Rattle.std.proofs.Common.{◌≡◌, ◌++◌, take, drop}
 use Rattle.std.specs.Prelude.{map}
-use Rattle.replay_devices.specs.Failures.{opened_at}
+use Rattle.replay_devices.specs.Failures.{after_open_at}
 use Rattle.replay_devices.proofs.failures.SendFailures.opened.Given as goal
 
 abbrev pub invariant-loop-failure : goal.invariant-loop-failure
-invariant-loop-failure l = l.failure-items ≡ map (opened_at l.fn.port) (take l.failure-index l.fn.self) ++ drop l.failure-index l.fn.self
+invariant-loop-failure l = l.failure-items ≡ map (after_open_at l.fn.port) (take l.failure-index l.fn.self) ++ drop l.failure-index l.fn.self

@@ -9,7 +9,7 @@ use Rattle.srtp_keys.specs.declared.faults.ProtectFault.TheVariants as fault
 use Rattle.srtp_sources.specs.Notes.{indices}
 use Rattle.srtp_sources.proofs.Tabling.{noted_found}
 use Rattle.srtp_sources.proofs.Judging.{sends_none, sends}
-use Rattle.srtp_context.specs.Contexts.{OutFor}
+use Rattle.srtp_context.specs.Contexts.{OutRtpFor}
 use Rattle.srtp_context.proofs.Sending.{near_is, at_index, fresh_by, wrapping_is}
 use Rattle.srtp_context.proofs.outbound.OutRtp.protect_with_head.Goals as goal
 
@@ -20,35 +20,35 @@ wrap-size-requires-clause-within c =
 
 pub returns-in-Below-clause-wraps : goal.returns-in-Below-clause-wraps
 returns-in-Below-clause-wraps c master suite notes for =
-    sends_none (OutFor master suite) notes c.args.self.now _ c.args.buf.now _ fault.TooOld
+    sends_none (OutRtpFor master suite) notes c.args.self.now _ c.args.buf.now _ fault.TooOld
     (wrapping_is master suite notes _ c.args.found (Err fault.TooOld) c.requires.head
     (near_is notes c.args.found c.find-source.result.ssrc Below c.find-source.ensures.ssrc
     (c.in-Below.ensures.nearest Rtp notes for.sources))) refl
 
 pub returns-in-Beyond-clause-wraps : goal.returns-in-Beyond-clause-wraps
 returns-in-Beyond-clause-wraps c master suite notes for =
-    sends_none (OutFor master suite) notes c.args.self.now _ c.args.buf.now _ fault.KeySpent
+    sends_none (OutRtpFor master suite) notes c.args.self.now _ c.args.buf.now _ fault.KeySpent
     (wrapping_is master suite notes _ c.args.found (Err fault.KeySpent) c.requires.head
     (near_is notes c.args.found c.find-source.result.ssrc Beyond c.find-source.ensures.ssrc
     (c.in-Beyond.ensures.nearest Rtp notes for.sources))) refl
 
 pub returns-in-TooOld-clause-wraps : goal.returns-in-TooOld-clause-wraps
 returns-in-TooOld-clause-wraps c master suite notes for =
-    sends_none (OutFor master suite) notes c.args.self.now _ c.args.buf.now _ fault.TooOld
+    sends_none (OutRtpFor master suite) notes c.args.self.now _ c.args.buf.now _ fault.TooOld
     (wrapping_is master suite notes _ c.args.found (Err fault.TooOld) c.requires.head
     (at_index notes c.args.found c.find-source.result.ssrc c.in-At.index TooOld c.find-source.ensures.ssrc
     (c.in-At.ensures.nearest Rtp notes for.sources) (c.in-TooOld.ensures Rtp notes for.sources))) refl
 
 pub returns-in-Used-clause-wraps : goal.returns-in-Used-clause-wraps
 returns-in-Used-clause-wraps c master suite notes for =
-    sends_none (OutFor master suite) notes c.args.self.now _ c.args.buf.now _ fault.IndexUsed
+    sends_none (OutRtpFor master suite) notes c.args.self.now _ c.args.buf.now _ fault.IndexUsed
     (wrapping_is master suite notes _ c.args.found (Err fault.IndexUsed) c.requires.head
     (at_index notes c.args.found c.find-source.result.ssrc c.in-At.index Used c.find-source.ensures.ssrc
     (c.in-At.ensures.nearest Rtp notes for.sources) (c.in-Used.ensures Rtp notes for.sources))) refl
 
 pub returns-then-not-has_room_for-clause-wraps : goal.returns-then-not-has_room_for-clause-wraps
 returns-then-not-has_room_for-clause-wraps c master suite notes for =
-    sends_none (OutFor master suite) notes c.args.self.now _ c.args.buf.now _ fault.TooManySources
+    sends_none (OutRtpFor master suite) notes c.args.self.now _ c.args.buf.now _ fault.TooManySources
     (wrapping_is master suite notes _ c.args.found (Err fault.TooManySources) c.requires.head
     (fresh_by c.args.found.ssrc notes c.in-At.index c.find-source.result.ssrc false c.find-source.ensures.ssrc
     (sym c.if-not-has_room_for.true ∙ c.has_room_for.ensures.notes Rtp notes for.sources)
@@ -57,7 +57,7 @@ returns-then-not-has_room_for-clause-wraps c master suite notes for =
 
 pub returns-clause-wraps : goal.returns-clause-wraps
 returns-clause-wraps c master suite notes for =
-    sends (OutFor master suite) notes c.args.self.now _ c.args.buf.now _ _ c.wrap-size.new.buf c.wrap-size.result
+    sends (OutRtpFor master suite) notes c.args.self.now _ c.args.buf.now _ _ c.wrap-size.new.buf c.wrap-size.result
     (wrapping_is master suite notes _ c.args.found (Ok c.in-At.index) c.requires.head
     (fresh_by c.args.found.ssrc notes c.in-At.index c.find-source.result.ssrc true c.find-source.ensures.ssrc
     (sym c.if-not-has_room_for.false ∙ c.has_room_for.ensures.notes Rtp notes for.sources)

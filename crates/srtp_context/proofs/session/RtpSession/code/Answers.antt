@@ -1,6 +1,6 @@
-use Rattle.srtp_context.specs.Packets.{code_of}
+use Rattle.srtp_context.specs.Packets.{rtp_code}
 use Rattle.srtp_context.proofs.session.RtpSession.code.Goals as goal
 
 pub returns : goal.returns
-unfolding code_of
+unfolding rtp_code
 returns c master suite for = cc

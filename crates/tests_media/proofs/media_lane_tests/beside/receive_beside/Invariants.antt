@@ -1,4 +1,4 @@
-use Rattle.media_lane.specs.Taking.{box_take_made}
+use Rattle.media_lane.specs.Takes.{box_take_made}
 use Rattle.tests_media.proofs.media_lane_tests.beside.receive_beside.Given as goal
 
 abbrev pub ghosts-put_take : goal.ghosts-put_take

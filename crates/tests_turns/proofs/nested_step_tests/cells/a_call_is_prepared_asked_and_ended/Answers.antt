@@ -1,6 +1,6 @@
 use Rattle.std.proofs.Common.{◌≡◌, refl, sym, subst, ◌∙◌}
 use Rattle.turn_table.specs.Hands.{HasNoTurn}
-use Rattle.relay_core.specs.Turning.{made_by}
+use Rattle.relay_core.specs.Turns.{made_by}
 use Rattle.board_turns.specs.InCells.{HasNewKeys}
 use Rattle.board_turns.proofs.After.{keys_still}
 use Rattle.board_turns.proofs.First.{first_new, first_comes, first_opened, new_first}

@@ -1,5 +1,5 @@
 use Rattle.std.proofs.Common.{◌≡◌, refl, sym, subst, inl}
-use Rattle.relay_core.specs.Turning.{made_by}
+use Rattle.relay_core.specs.Turns.{made_by}
 use Rattle.board_turns.specs.InCells.{HasNewKeys}
 use Rattle.board_turns.proofs.After.{keys_still}
 use Rattle.board_turns.proofs.First.{first_new, first_room, new_first}

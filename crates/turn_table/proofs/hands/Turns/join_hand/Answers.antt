@@ -1,7 +1,7 @@
 use Rattle.std.proofs.Common.{arith, ◌≡◌, ◌≢◌, Bool, true, false, sym, refl, ap, ◌∙◌, subst}
 use Rattle.atomic_table.specs.Table.{Joins}
 use Rattle.turn_table.specs.Histories.{seen_at, phase_at}
-use Rattle.turn_table.specs.Kept.{Kept, spent_view}
+use Rattle.turn_table.specs.Invariant.{Kept, spent_view}
 use Rattle.turn_table.specs.Steps.{glued}
 use Rattle.turn_table.proofs.Lists.{seen_append}
 use Rattle.turn_table.proofs.Spans.{joins}

@@ -3,7 +3,7 @@ use Rattle.atomic_table.specs.Table.{rest}
 use Rattle.atomic_table.specs.Seated.{TableId}
 use Rattle.turn_table.specs.declared.view.Phase.TheVariants.{Marked, Out, Held}
 use Rattle.turn_table.specs.Histories.{seen_at, phase_at}
-use Rattle.turn_table.specs.Steps.{noted, tried, phased, Given}
+use Rattle.turn_table.specs.Steps.{noted, tried, phased, GivenView}
 use Rattle.turn_table.proofs.Lists.{phase_here}
 use Rattle.turn_table.proofs.Calls.{no_turn, got_is, held_out, sees, after_mark, after_look, after_count, after_return, after_empty, swapped, taken_view, returned_view, taken_turns, returned_turns}
 use Rattle.turn_table.proofs.Keeps.{IsAt}
@@ -250,7 +250,7 @@ returns-clause-turn g c =
         λ j ne. ap (λ m. phase_at m.0.turns j) e₄ ∙ ts.1 j ne,
         (ap (λ m. seen_at m.0.seen k) e₄ ∙ s.0, λ j ne. ap (λ m. seen_at m.0.seen j) e₄ ∙ s.1 j ne),
       ),
-      subst (λ y. Given rel res k v n y) is h₂.3,
+      subst (λ y. GivenView rel res k v n y) is h₂.3,
     )
 
 pub returns-then-compare_exchange-ne0-clause-tried : goal.returns-then-compare_exchange-ne0-clause-tried

@@ -1,0 +1,188 @@
+use Rattle.std.proofs.Common.{◌≡◌, ◌∙◌, refl, ap, subst, ℕ, List, [], ◌∷◌, sym, arith}
+use Rattle.relay_outside.specs.declared.ports.PortCall.{PortCall}
+use Rattle.relay_outside.specs.declared.settings.Config.{Config}
+use Rattle.relay_outside.specs.DeviceLogs.{Gained, WhereLogged}
+use Rattle.relay_outside.proofs.Telling.{gained_less}
+use Rattle.turn_table.specs.Hands.{entries}
+use Rattle.call_cell.specs.Cells.{End}
+use Rattle.call_board.specs.Boards.{BoardMatches, pairs_in}
+use Rattle.call_board.specs.Views.{with_returned, without_call}
+use Rattle.call_board.proofs.Found.{found_is_live}
+use Rattle.relay_core.specs.Entries.{Cell}
+use Rattle.relay_core.specs.Scripts.{Owed}
+use Rattle.relay_core.specs.PlaceHistories.{GoneHome}
+use Rattle.relay_core.specs.Turns.{made_by}
+use Rattle.board_turns.specs.Ties.{TiesTakes}
+use Rattle.media_ports.specs.OpenPorts.{OpensHeld}
+use Rattle.board_turns.specs.InCells.{in_cell_of, HasNewKeys}
+use Rattle.board_turns.proofs.Nesting.{above_rows}
+use Rattle.board_turns.proofs.Staying.{may_again, same_config, nests_both, makes_both}
+use Rattle.board_turns.specs.BoardTurns.{MakesNested}
+use Rattle.board_turns.specs.Closings.{CanClose, ClosesLegs, closings_of, leases_of_legs, pairs_left}
+use Rattle.board_turns.specs.CallEnds.{ClosesTheirs, ending_of}
+use Rattle.board_turns.proofs.Ended.{cell_is, went_are, pairs_are, ports_are, closings_are, can_close}
+use Rattle.board_turns.proofs.Tying.{legs_leave, ties_gone}
+use Rattle.board_turns.proofs.call_end.end_call.Goals as goal
+
+pub end_call-cell-requires : goal.end_call-cell-requires
+end_call-cell-requires g c =
+    let can = c.requires.can.2 in
+    found_is_live c.args.turn.now.main.config.now c.args.turn.now.board.now can.view c.args.call can.seen can.shows can.found
+
+pub end_cell-requires-clause-may : goal.end_cell-requires-clause-may
+end_cell-requires-clause-may g c =
+    c.requires.may
+
+pub end_cell-requires-clause-cell : goal.end_cell-requires-clause-cell
+end_cell-requires-clause-cell g c =
+    let can = c.requires.can.2 in
+    let is = cell_is c.args.turn.now.main.config.now (made_by c.args.turn.now.main.hand.now) c.args.turn.now.board.now (g.P.PortMaker.log c.args.turn.now.ports.now) c.args.call c.requires.can.0 c.requires.can.1
+    c.end_call-cell.result can c.end_call-cell.ensures.cell in
+    let low = can.low in
+    let high = can.high in
+    (omega (arith, is, low), omega (arith, is, high))
+
+pub end_cell-requires-clause-keys : goal.end_cell-requires-clause-keys
+end_cell-requires-clause-keys g c =
+    let can = c.requires.can.2 in
+    let is = cell_is c.args.turn.now.main.config.now (made_by c.args.turn.now.main.hand.now) c.args.turn.now.board.now (g.P.PortMaker.log c.args.turn.now.ports.now) c.args.call c.requires.can.0 c.requires.can.1
+    c.end_call-cell.result can c.end_call-cell.ensures.cell in
+    subst (λ (k : ℕ). HasNewKeys (made_by c.args.turn.now.main.hand.now) k) (sym is) can.keys
+
+pub end_cell-requires-clause-empty : goal.end_cell-requires-clause-empty
+end_cell-requires-clause-empty g c =
+    c.requires.empty
+
+pub close_legs-requires-clause-may : goal.close_legs-requires-clause-may
+close_legs-requires-clause-may g c =
+    may_again c.args.turn.now.main c.end_cell.new.main c.end_cell.ensures.nests
+
+pub close_legs-requires-clause-can : goal.close_legs-requires-clause-can
+close_legs-requires-clause-can g c =
+    let of = c.requires.can.0 in
+    let legs = c.requires.can.1 in
+    let can = c.requires.can.2 in
+    let config = c.args.turn.now.main.config.now in
+    let log = g.P.PortMaker.log c.args.turn.now.ports.now in
+    let l = made_by c.args.turn.now.main.hand.now in
+    let cell = c.end_call-cell.result in
+    let gone = c.end_cell.new.gone in
+    let is = cell_is config l c.args.turn.now.board.now log c.args.call of legs cell can c.end_call-cell.ensures.cell in
+    let was = c.end_cell.ensures.ended.was in
+    let are = went_are config l c.args.turn.now.board.now log c.args.call of legs cell was.number gone can is c.end_cell.ensures.went
+    (above_rows (entries c.args.turn.now.main.hand.now) cell was.number was.given.above) in
+    let main = c.args.turn.now.main in
+    subst (λ (k : Config). CanClose k (made_by c.end_cell.new.main.hand.now) c.end_call-cell.new.self log gone)
+    (sym (same_config main c.end_cell.new.main c.end_cell.ensures.nests))
+    (can_close config main.entry_id.number main.entry_id.moment main.hand.now c.end_cell.new.main.hand.now c.args.turn.now.board.now c.end_call-cell.new.self log c.args.call of legs
+    cell gone can is c.end_cell.ensures.gained c.end_call-cell.ensures.shows are)
+
+pub close_legs-requires-clause-home : goal.close_legs-requires-clause-home
+close_legs-requires-clause-home g c =
+    subst (λ (k : Config). GoneHome g.P.Out.OutEnd.log k c.end_cell.new.gone) (sym (same_config c.args.turn.now.main c.end_cell.new.main c.end_cell.ensures.nests))
+    c.end_cell.ensures.home
+
+pub returns-clause-gained : goal.returns-clause-gained
+returns-clause-gained g c of legs can =
+    let config = c.args.turn.now.main.config.now in
+    let log = g.P.PortMaker.log c.args.turn.now.ports.now in
+    let l = made_by c.args.turn.now.main.hand.now in
+    let cell = c.end_call-cell.result in
+    let gone = c.end_cell.new.gone in
+    let is = cell_is config l c.args.turn.now.board.now log c.args.call of legs cell can c.end_call-cell.ensures.cell in
+    let was = c.end_cell.ensures.ended.was in
+    let are = went_are config l c.args.turn.now.board.now log c.args.call of legs cell was.number gone can is c.end_cell.ensures.went
+    (above_rows (entries c.args.turn.now.main.hand.now) cell was.number was.given.above) in
+    let main = c.args.turn.now.main in
+    let mid = c.end_cell.new.main in
+    let new = c.close_legs.new.turn.main in
+    let all = makes_both (in_cell_of cell End ∷ []) (closings_of config gone) main mid new c.end_cell.ensures.nests c.end_cell.ensures.gained
+    (subst (λ (k : Config). MakesNested (closings_of k gone) mid new) (same_config main mid c.end_cell.ensures.nests) c.close_legs.ensures.gained) in
+    let same : in_cell_of cell End ∷ closings_of config gone ≡ ending_of config of legs
+    = ap (λ (k : ℕ). in_cell_of k End ∷ closings_of config gone) is
+    ∙ ap (λ (ws : List Owed). in_cell_of of.cell End ∷ ws) (closings_are config gone legs are) in
+    subst (λ (ws : List Owed). MakesNested ws main new) same all
+
+pub returns-clause-ended : goal.returns-clause-ended
+returns-clause-ended g c of legs can other v shows apart =
+    let config = c.args.turn.now.main.config.now in
+    let log = g.P.PortMaker.log c.args.turn.now.ports.now in
+    let l = made_by c.args.turn.now.main.hand.now in
+    let cell = c.end_call-cell.result in
+    let gone = c.end_cell.new.gone in
+    let is = cell_is config l c.args.turn.now.board.now log c.args.call of legs cell can c.end_call-cell.ensures.cell in
+    let was = c.end_cell.ensures.ended.was in
+    let are = went_are config l c.args.turn.now.board.now log c.args.call of legs cell was.number gone can is c.end_cell.ensures.went
+    (above_rows (entries c.args.turn.now.main.hand.now) cell was.number was.given.above) in
+    subst (λ (ps : List ℕ). BoardMatches other c.close_legs.new.turn.board.now (with_returned (without_call v c.args.call) ps)) (pairs_are config gone legs are)
+    (c.close_legs.ensures.returned other (without_call v c.args.call) (c.end_call-cell.ensures.shows other v shows apart))
+
+pub returns-clause-closes : goal.returns-clause-closes
+returns-clause-closes g c of legs can =
+    let config = c.args.turn.now.main.config.now in
+    let log = g.P.PortMaker.log c.args.turn.now.ports.now in
+    let l = made_by c.args.turn.now.main.hand.now in
+    let cell = c.end_call-cell.result in
+    let gone = c.end_cell.new.gone in
+    let is = cell_is config l c.args.turn.now.board.now log c.args.call of legs cell can c.end_call-cell.ensures.cell in
+    let was = c.end_cell.ensures.ended.was in
+    let are = went_are config l c.args.turn.now.board.now log c.args.call of legs cell was.number gone can is c.end_cell.ensures.went
+    (above_rows (entries c.args.turn.now.main.hand.now) cell was.number was.given.above) in
+    let same = same_config c.args.turn.now.main c.end_cell.new.main c.end_cell.ensures.nests in
+    let after = g.P.PortMaker.log c.close_legs.new.turn.ports.now in
+    gained_less log after (ClosesLegs g.P.Out.OutEnd.log config.interface gone)
+    (ClosesTheirs g.P.Out.OutEnd.log config legs) (λ calls closes. (gone, are, closes))
+    (subst (λ (k : Config). Gained log after (ClosesLegs g.P.Out.OutEnd.log k.interface gone)) same c.close_legs.ensures.closes)
+
+pub returns-clause-open : goal.returns-clause-open
+returns-clause-open g c of legs can held opens =
+    let config = c.args.turn.now.main.config.now in
+    let log = g.P.PortMaker.log c.args.turn.now.ports.now in
+    let l = made_by c.args.turn.now.main.hand.now in
+    let cell = c.end_call-cell.result in
+    let gone = c.end_cell.new.gone in
+    let is = cell_is config l c.args.turn.now.board.now log c.args.call of legs cell can c.end_call-cell.ensures.cell in
+    let was = c.end_cell.ensures.ended.was in
+    let are = went_are config l c.args.turn.now.board.now log c.args.call of legs cell was.number gone can is c.end_cell.ensures.went
+    (above_rows (entries c.args.turn.now.main.hand.now) cell was.number was.given.above) in
+    let same = same_config c.args.turn.now.main c.end_cell.new.main c.end_cell.ensures.nests in
+    let after = g.P.PortMaker.log c.close_legs.new.turn.ports.now in
+    let closed = subst (λ (k : Config). WhereLogged log (λ (calls : List PortCall). OpensHeld k calls held)
+    → WhereLogged after (λ (calls : List PortCall). OpensHeld k calls (pairs_left (pairs_in (leases_of_legs gone)) held))) same (c.close_legs.ensures.«open» held) opens in
+    subst (λ (ps : List ℕ). WhereLogged after (λ (calls : List PortCall). OpensHeld config calls (pairs_left ps held)))
+    (pairs_are config gone legs are) closed
+
+pub returns-clause-works : goal.returns-clause-works
+returns-clause-works g c =
+    let of = c.requires.can.0 in
+    let legs = c.requires.can.1 in
+    let can = c.requires.can.2 in
+    let config = c.args.turn.now.main.config.now in
+    let log = g.P.PortMaker.log c.args.turn.now.ports.now in
+    let l = made_by c.args.turn.now.main.hand.now in
+    let cell = c.end_call-cell.result in
+    let gone = c.end_cell.new.gone in
+    let is = cell_is config l c.args.turn.now.board.now log c.args.call of legs cell can c.end_call-cell.ensures.cell in
+    let was = c.end_cell.ensures.ended.was in
+    let are = went_are config l c.args.turn.now.board.now log c.args.call of legs cell was.number gone can is c.end_cell.ensures.went
+    (above_rows (entries c.args.turn.now.main.hand.now) cell was.number was.given.above) in
+    let same = same_config c.args.turn.now.main c.end_cell.new.main c.end_cell.ensures.nests in
+    let after = g.P.PortMaker.log c.close_legs.new.turn.ports.now in
+    let main = c.args.turn.now.main in
+    let mid = c.end_cell.new.main in
+    let new = c.close_legs.new.turn.main in
+    let closed = c.close_legs.ensures.stays in
+    let sent = g.P.Out.OutEnd.log in
+    record {
+      stays = record {
+        nests = nests_both main mid new c.end_cell.ensures.nests closed.nests;
+        devices = record { board_is = closed.devices.board_is; ports_are = closed.devices.ports_are; gone_is = closed.devices.gone_is };
+        replies = closed.replies ∙ c.end_call-cell.ensures.replies;
+        later = closed.later;
+      };
+      ties = ties_gone sent config log after (entries main.hand.now) (entries mid.hand.now) (entries new.hand.now) gone
+          (ports_are config gone legs are) (legs_leave sent gone cell (Cell End) main.hand.now mid.hand.now refl c.end_cell.ensures.row)
+          (subst (λ (k : Config). TiesTakes k log after (entries mid.hand.now) (entries new.hand.now)) same c.close_legs.ensures.takes)
+          (subst (λ (k : Config). Gained log after (ClosesLegs sent k.interface gone)) same c.close_legs.ensures.closes);
+      empty = c.close_legs.ensures.empty;
+    }

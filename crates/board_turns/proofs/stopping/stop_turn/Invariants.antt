@@ -1,8 +1,0 @@
-use Rattle.turn_table.specs.Hands.{front_of}
-use Rattle.relay_core.specs.Entries.{board_history}
-use Rattle.relay_core.specs.Turning.{made_by}
-use Rattle.board_turns.specs.Stopping.{stop_made}
-use Rattle.board_turns.proofs.stopping.stop_turn.Given as goal
-
-abbrev pub ghosts-put_entry : goal.ghosts-put_entry
-ghosts-put_entry g a = record { made = stop_made (board_history (made_by a.hand.now) (front_of a.turn)) }

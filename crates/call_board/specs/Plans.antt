@@ -1,0 +1,133 @@
+-- What the board plans, by what it keeps.
+use Rattle.std.specs.Prelude.{◌≡◌, ◌≢◌, ◌<◌, ◌≤◌, ℕ, Bool, true, false, ◌&&◌, List, [], map, length, nat_lt, nat_le, Option, Some, None, Result, Ok, Err, if◌then◌else◌}
+use Rattle.relay_outside.specs.declared.settings.Config.{Config}
+use Rattle.ng_reply.specs.declared.code.ErrorCode.{ErrorCode}
+use Rattle.ng_reply.specs.declared.code.ErrorCode.TheVariants.{E8, E9, E10, E11, E12, E13, E14}
+use Rattle.port_pool.specs.LeaseLists.{LeaseList}
+use Rattle.offer_answer.specs.Rounds.{Round, OfferAsk, AnswerAsk}
+use Rattle.offer_answer.specs.Plan as plan
+use Rattle.offer_answer.specs.Dialogs.{DialogFor, Awaits}
+use Rattle.offer_answer.specs.Offers.{pairs_demanded}
+use Rattle.offer_answer.specs.Plans.{OfferPlan, AnswerPlan}
+use Rattle.offer_answer.specs.Answers.{AsksAnswer}
+use Rattle.ng_command.specs.declared.command.AnswerIn.{AnswerIn}
+use Rattle.offer_answer.specs.declared.fault.OaFault.{OaFault}
+use Rattle.offer_answer.specs.declared.fault.OaFault.TheVariants as oa
+use Rattle.call_board.specs.declared.fault.BoardFault.{BoardFault}
+use Rattle.call_board.specs.declared.fault.BoardFault.TheVariants as faults
+use Rattle.call_board.specs.declared.board_plan.NewCall.{NewCall}
+use Rattle.call_board.specs.declared.board_plan.BoardPlan.{BoardPlan}
+use Rattle.call_board.specs.declared.board.Board.{Board}
+use Rattle.call_board.specs.Acts.{Call}
+use Rattle.call_board.specs.Calls.{lowest_but}
+use Rattle.call_board.specs.Views.{CallView, View, call_of_id}
+
+-- the error code of a fault
+abbrev pub board_code : BoardFault → Option ErrorCode
+board_code faults.UnknownCall = Some E9
+board_code faults.UnknownTag = Some E10
+board_code faults.OtherSide = Some E11
+board_code faults.MediaCount = Some E12
+board_code faults.NoCrypto = Some E8
+board_code faults.SessionLimit = Some E14
+board_code faults.NoPair = Some E13
+board_code faults.OutOfMemory = None
+
+-- the board's fault for that of a plan
+abbrev pub board_fault : OaFault → BoardFault
+board_fault oa.UnknownTag = faults.UnknownTag
+board_fault oa.OtherSide = faults.OtherSide
+board_fault oa.MediaCount = faults.MediaCount
+board_fault oa.NoCrypto = faults.NoCrypto
+board_fault oa.OutOfMemory = faults.OutOfMemory
+
+-- the shortage of an offer without a fault: of sessions, where it begins a call, and then of pairs
+abbrev pub shortage : Config → View → Bool → List Round → OfferAsk → Option ErrorCode
+shortage config v begins rounds ask =
+    if begins && nat_le config.max_sessions (length v.calls) then Some E14
+    else if nat_lt (length v.free) (length (plan.demand rounds ask).pairs) then Some E13
+    else None
+
+abbrev pub fault_or : Option ErrorCode → Option ErrorCode → Option ErrorCode
+fault_or (Some code) other = Some code
+fault_or None other = other
+
+-- the first fault or shortage of an offer of a call with these rounds
+abbrev pub refusal : Config → View → Bool → List Round → OfferAsk → Option ErrorCode
+refusal config v begins rounds ask = fault_or (plan.offer_fault rounds ask) (shortage config v begins rounds ask)
+
+-- the call that an offer of this call-id begins
+abbrev pub next_call : View → List ℕ → Call
+next_call v id = record { number = v.begun; cell = lowest_but (map (λ (c : CallView). c.of.cell) v.calls); id = id }
+
+-- an offer is of the live call of its call-id, or else of the one that it begins
+pub record Target : Type 0 where
+  pub of : Call
+  pub begins : Bool
+  pub rounds : List Round
+
+abbrev pub target_by : View → List ℕ → Option CallView → Target
+target_by v id None = record { of = next_call v id; begins = true; rounds = [] }
+target_by v id (Some c) = record { of = c.of; begins = false; rounds = c.rounds }
+
+abbrev pub target : View → List ℕ → Target
+target v id = target_by v id (call_of_id v id)
+
+-- what is kept for a call that is to begin
+pub record NewFor (config : Config) (id tag : List ℕ) (new : NewCall) : Type 0 where
+  pub id_is : new.id.list ≡ id
+  pub dialog_for : DialogFor config new.dialog.value []
+  pub awaits : Awaits new.dialog.value tag
+
+abbrev pub BeginsFor : Config → Target → List ℕ → Option NewCall → Type 0
+BeginsFor config t tag None = t.begins ≡ false
+BeginsFor config t tag (Some new) = (t.begins ≡ true) × NewFor config t.of.id tag new
+
+-- room for that many leases, none made yet
+abbrev pub RoomFor : ℕ → Option LeaseList → Type 0
+RoomFor count None = ⊥
+RoomFor count (Some leases) = (leases.list ≡ []) × (leases.room ≡ count)
+
+-- the plan of an offer
+pub record OfferPlanFor (config : Config) (t : Target) (ask : OfferAsk) (p : BoardPlan) : Type 0 where
+  pub call_is : p.call ≡ t.of.number
+  pub cell_is : p.cell ≡ t.of.cell
+  pub plan_for : OfferPlan config t.rounds ask p.plan
+  pub begins : BeginsFor config t ask.from_tag p.begun
+
+-- the result of planning an offer: its first fault or shortage, a plan, or out of memory
+abbrev pub PlansFor : Config → View → Target → OfferAsk → Result BoardPlan BoardFault → Type 0
+PlansFor config v t ask (Err fault) = fault ≢ faults.OutOfMemory → refusal config v t.begins t.rounds ask ≡ board_code fault
+PlansFor config v t ask (Ok p) = (refusal config v t.begins t.rounds ask ≡ None) × OfferPlanFor config t ask p
+
+abbrev pub PlansOffer : Config → View → List ℕ → OfferAsk → Result BoardPlan BoardFault → Type 0
+PlansOffer config v id ask result = PlansFor config v (target v id) ask result
+
+abbrev pub CallRoom : Board → Option NewCall → Type 0
+CallRoom board None = Unit {0}
+CallRoom board (Some new) = 0 < board.calls.spare
+
+-- the board has the room that the plan needs when it is leased and applied, and enough pairs
+pub record HasRoomForPlan (board : Board) (p : BoardPlan) : Type 0 where
+  pub leases : RoomFor (pairs_demanded p.plan) p.leases
+  pub call : CallRoom board p.begun
+  pub pairs : pairs_demanded p.plan ≤ length board.pool.free
+
+-- the plan once its leases were handed out
+abbrev pub leased : BoardPlan → BoardPlan
+leased p = record { plan = p.plan; call = p.call; cell = p.cell; begun = p.begun; leases = None }
+
+-- the plan of an answer to a live call's last offer
+pub record AnswerPlanFor (config : Config) (c : CallView) (ask : AnswerAsk) (lines : List (List ℕ)) (p : BoardPlan) : Type 0 where
+  pub call_is : p.call ≡ c.of.number
+  pub cell_is : p.cell ≡ c.of.cell
+  pub plan_for : AnswerPlan config c.rounds ask lines p.plan
+  pub begins_none : p.begun ≡ None
+
+-- the result of planning an answer: that no live call has its call-id, its first fault, a plan, or out of memory
+abbrev pub PlansAnswer : Config → AnswerIn → List (List ℕ) → Option CallView → Result BoardPlan BoardFault → Type 0
+PlansAnswer config input lines None result = result ≡ Err faults.UnknownCall
+PlansAnswer config input lines (Some c) (Err fault) =
+    (ask : AnswerAsk) → AsksAnswer input lines c.rounds ask → fault ≢ faults.OutOfMemory → plan.answer_fault c.rounds ask ≡ board_code fault
+PlansAnswer config input lines (Some c) (Ok p) =
+    (ask : AnswerAsk) → AsksAnswer input lines c.rounds ask → (plan.answer_fault c.rounds ask ≡ None) × AnswerPlanFor config c ask lines p

@@ -1,0 +1,13 @@
+use Rattle.std.proofs.Common.{arith}
+use Rattle.call_cell.proofs.Joined.{one_put, all_put, nil_of}
+use Rattle.call_cell.proofs.new_legs.put_keys.Goals as goal
+
+pub loop-key-preserved : goal.loop-key-preserved
+loop-key-preserved g c apart =
+    one_put c.args.keys.items c.loop-key.keys.items c.pop.new.self.items c.in-Some.key c.args.legs.now c.loop-key.legs c.put_key.new.legs
+    c.in-Some.ensures.items (c.loop-key.invariant apart) c.put_key.ensures
+
+pub returns : goal.returns
+returns g c apart =
+    all_put c.args.keys.items c.loop-key.keys.items c.args.legs.now c.loop-key.legs
+    (nil_of c.loop-key.keys.items (omega (arith, c.in_default.ensures.cases.0, c.loop-key.keys.ok.0))) (c.loop-key.invariant apart).1

@@ -1,0 +1,12 @@
+use Rattle.std.proofs.Common.{◌≡◌, vec_len, map}
+use Rattle.call_cell.specs.LegHistories.{AreApart}
+use Rattle.call_cell.specs.Preparations.{with_keys}
+use Rattle.call_cell.proofs.new_legs.put_keys.Given as goal
+
+abbrev pub invariant-loop-key : goal.invariant-loop-key
+invariant-loop-key g l =
+    AreApart l.initial.legs → AreApart l.legs
+    × (map (λ leg. with_keys l.keys.items leg) l.legs ≡ map (λ leg. with_keys l.initial.keys.items leg) l.initial.legs)
+
+abbrev pub decreases-loop-key : goal.decreases-loop-key
+decreases-loop-key g l = vec_len l.keys

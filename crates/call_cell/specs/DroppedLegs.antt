@@ -1,0 +1,28 @@
+-- Legs of some sections go from a cell, and the others stay.
+use Rattle.std.specs.Prelude.{◌≡◌, ◌<◌, ◌+◌, ◌≤◌, ◌++◌, ℕ, Bool, false, not, List, [], ◌∷◌, map, filter, length, slice_index_or, if◌then◌else◌}
+use Rattle.port_pool.specs.declared.pairs.Lease.{Lease}
+use Rattle.call_cell.specs.declared.leg.Leg.{Leg}
+use Rattle.call_cell.specs.CellEnds.{parts_of}
+
+-- the flags of 8 sections say this
+abbrev pub FlagsAre : List Bool → (ℕ → Bool) → Type 0
+FlagsAre flags test = (section : ℕ) → section < 8 → slice_index_or flags section false ≡ test section
+
+abbrev pub goes : {O : Type 0} → List Bool → Leg O → Bool
+goes flags leg = slice_index_or flags leg.holder.section false
+
+abbrev pub stays : {O : Type 0} → List Bool → Leg O → Bool
+stays flags leg = not (goes flags leg)
+
+-- the leg, where it stays
+abbrev pub staying : {O : Type 0} → List Bool → Leg O → List (Leg O)
+staying flags leg = if stays flags leg then leg ∷ [] else []
+
+-- what goes with the leg, where it goes
+abbrev pub going : {O : Type 0} → List Bool → Leg O → List (Lease × O × O)
+going flags leg = if goes flags leg then parts_of leg ∷ [] else []
+
+-- where there is room, the legs of the sections with a flag went, in their order
+abbrev pub Part : {O : Type 0} → List Bool → List (Leg O) → List (Leg O) → List (Lease × O × O) → List (Lease × O × O) → Type 0
+Part {O} flags old new before after = length before + length old ≤ 16 → (new ≡ filter (λ (leg : Leg O). stays flags leg) old)
+    × (after ≡ before ++ map (λ (leg : Leg O). parts_of leg) (filter (λ (leg : Leg O). goes flags leg) old))

@@ -1,0 +1,189 @@
+ghost use Rattle.std.specs.Prelude.{ℕ, ◌≡◌, ◌≤◌, false, true, List, take, Option, Some, None, IfOk};
+ghost use Rattle.sdes_lines.specs.declared.crypto_line.Suite.{Suite};
+ghost use Rattle.srtp_sources.specs.Notes.{Note};
+ghost use Rattle.port_pool.specs.declared.holder.Holder.{Holder};
+ghost use Rattle.port_pool.specs.Signals.{NewKey};
+ghost use Rattle.call_cell.specs.Protection.{wrapped_with};
+ghost use Rattle.call_cell.specs.Heads.{head_of};
+ghost use Rattle.call_cell.specs.Parts.{OutboundIn, WrapsInTo, boxed_in, is_numbered, key_number_in, send_answer};
+
+use crate::contexts::Outbound;
+use crate::heads::Head;
+use crate::outcome::{Lost, PacketBuffer};
+use port_pool::LegSignal;
+use relay_outside::{Addr, OutEnd};
+use rtp_packet::Half;
+use sdes_lines::Suite;
+
+/// How a leg sends: the out ends of its ports, and the contexts of the keys that were drawn for it.
+#[derive(Drop)]
+pub(crate) struct Sending<O> {
+    rtp: O,
+    rtcp: O,
+    /// The contexts of its key for the suite with tags of 80 bits.
+    tag80: Option<Box<Option<Outbound>>>,
+    /// The contexts of its key for the suite with tags of 32 bits.
+    tag32: Option<Box<Option<Outbound>>>,
+}
+
+/// Whether the contexts in this place are those of the key of this number.
+fn is_numbered(place: &Option<Box<Option<Outbound>>>, number: u64) -> bool
+    ensures { result ≡ is_numbered (boxed_in place.now) number }
+{
+    let Some(place) = place else {
+        return false;
+    };
+    match &**place {
+        None => false,
+        Some(contexts) => contexts.number() == number,
+    }
+}
+
+/// Protects a packet in place under the key of this number, where its contexts stand in this place.
+fn protect_under(
+    place: &mut Option<Box<Option<Outbound>>>,
+    number: u64,
+    half: Half,
+    head: Option<Head>,
+    buf: &mut PacketBuffer,
+    len: usize,
+) -> Result<usize, Lost>
+    requires held { len ≤ 2000 }
+    requires head { head ≡ head_of half (take len buf.old) }
+    ensures fits { IfOk result (λ size. size ≤ 2064) }
+    ensures number { key_number_in (boxed_in place.new) ≡ key_number_in (boxed_in place.old) }
+    ensures wraps { (leg : Holder) (suite : Suite) (keys : ℕ → Option NewKey) (notes : ℕ → List Note) → OutboundIn leg suite keys notes (boxed_in place.old) →
+        is_numbered (boxed_in place.old) number ≡ true →
+        WrapsInTo (wrapped_with (keys number) (notes number) half (take len buf.old)) leg suite keys notes place.old place.new buf.new result }
+{
+    let Some(place) = place else {
+        return Err(Lost::KeySpent);
+    };
+    match (**place).as_mut() {
+        None => Err(Lost::KeySpent),
+        Some(contexts) => contexts.protect(half, head, buf, len),
+    }
+}
+
+/// The result of a send of this many bytes by a local port.
+fn send_answer(port: u16, size: usize, done: bool) -> Result<usize, Lost>
+    ensures { result ≡ send_answer port size done }
+{
+    if done {
+        Ok(size)
+    } else {
+        Err(Lost::SendFault { port })
+    }
+}
+
+impl<O> Sending<O> {
+    ghost use Rattle.call_cell.specs.Parts.{contexts_of};
+    ghost use Rattle.call_cell.specs.Preparations.{with_contexts};
+
+    /// The out ends for RTP and for RTCP, and no key.
+    pub(crate) fn new(rtp: O, rtcp: O) -> Sending<O>
+        ensures ends { (result.rtp ≡ rtp) × (result.rtcp ≡ rtcp) }
+        ensures keyless { (suite : Suite) → contexts_of suite result ≡ None }
+    {
+        Sending {
+            rtp,
+            rtcp,
+            tag80: None,
+            tag32: None,
+        }
+    }
+
+    /// Takes the contexts of a key for a suite.
+    pub(crate) fn put(&mut self, suite: Suite, contexts: Box<Option<Outbound>>)
+        ensures { self.new ≡ with_contexts suite contexts self.old }
+    {
+        match suite {
+            Suite::Tag80 => self.tag80 = Some(contexts),
+            Suite::Tag32 => self.tag32 = Some(contexts),
+        }
+    }
+
+    /// The out ends, for RTP and for RTCP.
+    pub(crate) fn into_ends(self) -> (O, O)
+        ensures { result ≡ (self.rtp, self.rtcp) }
+    {
+        let Sending {
+            rtp,
+            rtcp,
+            tag80: _,
+            tag32: _,
+        } = self;
+        (rtp, rtcp)
+    }
+}
+
+impl<O: OutEnd> Sending<O> {
+    ghost use Rattle.relay_outside.specs.declared.address.Addr.{Addr};
+    ghost use Rattle.call_cell.specs.Parts.{SendingFor, HasNamed, ProtectsTo, SameEnds, SameKeys, SameNumbers, SendsBy, ForwardsTo, wrapped_by, wrapped_for};
+
+    /// Protects in place the packet in the buffer's first `len` bytes, under the key of this number where there is one, and
+    /// returns its length. After a refusal nothing has changed.
+    fn protect(
+        &mut self,
+        number: Option<u64>,
+        half: Half,
+        head: Option<Head>,
+        buf: &mut PacketBuffer,
+        len: usize,
+    ) -> Result<usize, Lost>
+        requires held { len ≤ 2000 }
+        requires head { head ≡ head_of half (take len buf.old) }
+        ensures fits { IfOk result (λ size. size ≤ 2064) }
+        ensures ends { SameEnds self.old self.new }
+        ensures numbers { SameNumbers self.old self.new }
+        ensures protects { (leg : Holder) (keys : ℕ → Option NewKey) (notes : ℕ → List Note) → SendingFor leg keys notes self.old → HasNamed number keys self.old →
+            ProtectsTo (wrapped_by keys notes number half (take len buf.old)) leg keys notes self.old self.new buf.new result }
+    {
+        let Some(number) = number else {
+            return Ok(len);
+        };
+        if is_numbered(&self.tag80, number) {
+            return protect_under(&mut self.tag80, number, half, head, buf, len);
+        }
+        if is_numbered(&self.tag32, number) {
+            return protect_under(&mut self.tag32, number, half, head, buf, len);
+        }
+        Err(Lost::KeySpent)
+    }
+
+    /// Sends a datagram by the end of a half, and returns whether that succeeded.
+    fn send(&mut self, half: Half, to: Addr, bytes: &[u8]) -> bool
+        ensures sends { SendsBy O.log O.faults half to bytes.now result self.old self.new }
+        ensures keys { SameKeys self.old self.new }
+    {
+        match half {
+            Half::Rtp => self.rtp.send(to, bytes).is_ok(),
+            Half::Rtcp => self.rtcp.send(to, bytes).is_ok(),
+        }
+    }
+
+    /// Sends what stands in the buffer's first `len` bytes to a leg with that in force, by the end of a half, whose local port is
+    /// this, and returns how many bytes were sent.
+    pub(crate) fn forward(
+        &mut self,
+        signal: &LegSignal,
+        half: Half,
+        head: Option<Head>,
+        port: u16,
+        to: Addr,
+        buf: &mut PacketBuffer,
+        len: usize,
+    ) -> Result<usize, Lost>
+        requires held { len ≤ 2000 }
+        requires head { head ≡ head_of half (take len buf.old) }
+        ensures numbers { SameNumbers self.old self.new }
+        ensures forwards { (leg : Holder) (keys : ℕ → Option NewKey) (notes : ℕ → List Note) → SendingFor leg keys notes self.old → HasNamed signal.now.outbound keys self.old →
+            ForwardsTo O.log O.faults (wrapped_for keys notes signal.now half (take len buf.old)) leg keys notes half port to self.old self.new buf.new result }
+    {
+        if signal.hold {
+            return Err(Lost::Hold);
+        }
+        let size = self.protect(signal.outbound, half, head, buf, len)?;
+        send_answer(port, size, self.send(half, to, &buf[..size]))
+    }
+}

@@ -1,0 +1,59 @@
+-- What a command says, without memory or spare room.
+use Rattle.std.specs.Prelude.{ℕ, List, [], Bool, Option, Some, None, codes, unwrap_or}
+use Rattle.ng_bencode.specs.Room.{Room}
+use Rattle.ng_bencode.specs.Tree.{Entries}
+use Rattle.ng_bencode.specs.Lookup.{value_at}
+use Rattle.ng_command.specs.Values.{text_at}
+use Rattle.ng_command.specs.Effects.{flags_of, replaces, protocol_in, source_of, has_flag, limit_of}
+use Rattle.ng_command.specs.declared.kind.Kind.{Kind}
+use Rattle.ng_command.specs.declared.kind.Kind.TheVariants as kinds
+use Rattle.ng_command.specs.declared.command.Options.{Options}
+use Rattle.ng_command.specs.declared.command.Command.{Command}
+use Rattle.ng_command.specs.declared.command.Command.TheVariants as command
+
+pub data Said : Type 0 where
+  Ping : Said
+  Offer : (call_id from_tag sdp : List ℕ) → Options → Said
+  Answer : (call_id from_tag to_tag sdp : List ℕ) → Options → Said
+  Delete : (call_id : List ℕ) → (from_tag : Option (List ℕ)) → (fatal : Bool) → Said
+  Query : (call_id : List ℕ) → Said
+  Listing : (limit : ℕ) → Said
+
+-- the bytes of a text that may be missing
+abbrev pub strings_in_list : Option (Room ℕ) → Option (List ℕ)
+strings_in_list None = None
+strings_in_list (Some text) = Some text.list
+
+abbrev pub said : Command → Said
+said command.Ping = Ping
+said (command.Offer offer) = Offer offer.call_id.list offer.from_tag.list offer.sdp.list offer.options
+said (command.Answer answer) = Answer answer.call_id.list answer.from_tag.list answer.to_tag.list answer.sdp.list answer.options
+said (command.Delete delete) = Delete delete.call_id.list (strings_in_list delete.from_tag) delete.fatal
+said (command.Query query) = Query query.call_id.list
+said (command.List limit) = Listing limit
+
+-- a byte string that is there
+abbrev pub text_in : Entries → List ℕ → List ℕ
+text_in pairs key = unwrap_or (text_at pairs key) []
+
+abbrev pub options_of : Entries → Option (List ℕ) → Options
+options_of pairs protocol = record {
+  flags = flags_of pairs;
+  replace_origin = replaces pairs (codes "origin");
+  replace_session = replaces pairs (codes "session connection");
+  transport = protocol_in protocol;
+  source = source_of pairs;
+}
+
+-- what the keys of a command without a fault say; an answer's `transport protocol` is ignored
+abbrev pub meaning : Kind → Entries → Said
+meaning kinds.Ping pairs = Ping
+meaning kinds.Offer pairs =
+    Offer (text_in pairs (codes "call-id")) (text_in pairs (codes "from-tag")) (text_in pairs (codes "sdp"))
+    (options_of pairs (text_at pairs (codes "transport protocol")))
+meaning kinds.Answer pairs =
+    Answer (text_in pairs (codes "call-id")) (text_in pairs (codes "from-tag")) (text_in pairs (codes "to-tag")) (text_in pairs (codes "sdp"))
+    (options_of pairs None)
+meaning kinds.Delete pairs = Delete (text_in pairs (codes "call-id")) (text_at pairs (codes "from-tag")) (has_flag pairs (codes "fatal"))
+meaning kinds.Query pairs = Query (text_in pairs (codes "call-id"))
+meaning kinds.List pairs = Listing (unwrap_or (limit_of (value_at pairs (codes "limit"))) 32)

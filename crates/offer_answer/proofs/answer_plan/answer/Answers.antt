@@ -1,0 +1,28 @@
+use Rattle.std.proofs.Common.{map, ap}
+use Rattle.std.proofs.lemmas.Result.{err_from_is_err_and}
+use Rattle.offer_answer.specs.Offers.{leg_asked, key_asked}
+use Rattle.offer_answer.proofs.Kept.{none-set}
+use Rattle.offer_answer.proofs.answer_plan.answer.Goals as goal
+
+pub returns-in_err-last-clause-answered : goal.returns-in_err-last-clause-answered
+returns-in_err-last-clause-answered c =
+    let p = err_from_is_err_and c.from_residual.result c.from_residual.ensures.1 in
+    rw (p.1, p.2) (λ rounds ask s a memory. c.in_err-last.ensures.fault c.args.config.now rounds ask s a)
+
+pub returns-clause-answered : goal.returns-clause-answered
+returns-clause-answered c = λ rounds ask s a.
+    let last = c.in_ok-last.ensures.offer c.args.config.now rounds ask s a in
+    let offer = last.1.0 in
+    let is = last.1.1 in (
+      last.0,
+      record {
+        demands = record {
+          pairs_are = ap (map leg_asked) c.new.ensures.items;
+          keys_are = ap (map key_asked) c.new-2.ensures.items;
+          drops_are = none-set 8;
+        };
+        next_for = c.in_ok-next.ensures c.args.config.now rounds offer ask s is a;
+        signal_is = c.in_ok-signal.ensures c.args.config.now rounds offer ask s is a.hears a.options_are;
+        text_is = c.in_ok-edit.ensures.text rounds offer ask s is.offer_is is.kept is.kept.heard a.options_are a.hears.lines_are;
+      },
+    )

@@ -1,0 +1,30 @@
+use Rattle.std.proofs.Common.{◌≡◌, ◌<◌, ◌≤◌, true, false, sym, ◌∙◌, arith}
+use Rattle.offer_answer.specs.Sections.{section_count, committed_count}
+use Rattle.offer_answer.specs.Faults.{is_strangers}
+use Rattle.offer_answer.proofs.Offering.{count-heard, fault-strangers, fault-few, fault-lines}
+use Rattle.offer_answer.proofs.offer_plan.fault_of.Goals as goal
+
+pub returns-then-is_strangers : goal.returns-then-is_strangers
+returns-then-is_strangers c = λ config rounds ask s a.
+    fault-strangers rounds ask (sym (c.is_strangers.ensures config rounds ask s (a.from_tag_is ∙ sym c.as_slice.ensures)) ∙ c.if-is_strangers.true)
+
+pub returns-then-section_count-committed_count : goal.returns-then-section_count-committed_count
+returns-then-section_count-committed_count c = λ config rounds ask s a.
+    let known : is_strangers rounds ask ≡ false = sym (c.is_strangers.ensures config rounds ask s (a.from_tag_is ∙ sym c.as_slice.ensures)) ∙ c.if-is_strangers.false in
+    let few : section_count ask.sdp < committed_count rounds =
+    omega (arith, c.if-section_count-committed_count.true, c.section_count.ensures.count, c.committed_count.ensures, s.committed_count_is, count-heard c.args.sdp.now ask a.hears) in
+    fault-few rounds ask known few
+
+pub returns-then-lacks_lines : goal.returns-then-lacks_lines
+returns-then-lacks_lines c = λ config rounds ask s a.
+    let known : is_strangers rounds ask ≡ false = sym (c.is_strangers.ensures config rounds ask s (a.from_tag_is ∙ sym c.as_slice.ensures)) ∙ c.if-is_strangers.false in
+    let enough : committed_count rounds ≤ section_count ask.sdp =
+    omega (arith, c.if-section_count-committed_count.false, c.section_count.ensures.count, c.committed_count.ensures, s.committed_count_is, count-heard c.args.sdp.now ask a.hears) in
+    fault-lines rounds ask true known enough (sym (c.lacks_lines.ensures config rounds ask s a.hears) ∙ c.if-lacks_lines.true)
+
+pub returns : goal.returns
+returns c = λ config rounds ask s a.
+    let known : is_strangers rounds ask ≡ false = sym (c.is_strangers.ensures config rounds ask s (a.from_tag_is ∙ sym c.as_slice.ensures)) ∙ c.if-is_strangers.false in
+    let enough : committed_count rounds ≤ section_count ask.sdp =
+    omega (arith, c.if-section_count-committed_count.false, c.section_count.ensures.count, c.committed_count.ensures, s.committed_count_is, count-heard c.args.sdp.now ask a.hears) in
+    fault-lines rounds ask false known enough (sym (c.lacks_lines.ensures config rounds ask s a.hears) ∙ c.if-lacks_lines.false)

@@ -1,0 +1,19 @@
+use Rattle.std.proofs.Common.{ap, sym, ◌∙◌, refl}
+use Rattle.offer_answer.specs.Plan.{demand}
+use Rattle.offer_answer.proofs.offer_plan.offer.Goals as goal
+
+pub returns-clause-answered : goal.returns-clause-answered
+unfolding demand
+returns-clause-answered c = λ rounds ask s a.
+    let side = c.offerer-side.ensures c.args.config.now rounds ask s (a.from_tag_is ∙ sym c.as_slice.ensures) in (
+      c.in_default.ensures c.args.config.now rounds ask s a,
+      record {
+        demands = record {
+          pairs_are = c.in_ok-legs.ensures c.args.config.now rounds ask s a.hears side;
+          keys_are = c.in_ok-key_places.ensures c.args.config.now rounds ask s a.hears (ap (λ o. o.transport) (sym a.options_are)) side;
+          drops_are = c.dropped.ensures c.args.config.now rounds ask s a.hears;
+        };
+        next_for = c.in_ok-next.ensures.next c.args.config.now rounds ask s a side;
+        interface_is = refl;
+      },
+    )

@@ -1,0 +1,22 @@
+use Rattle.std.proofs.Common.{◌∙◌, map, arith}
+use Rattle.std.proofs.lemmas.List.{length-set}
+use Rattle.offer_answer.specs.Dialogs.{no_state}
+use Rattle.offer_answer.specs.Offers.{key_asked}
+use Rattle.offer_answer.specs.Nexts.{SectionNext, numbered_keys}
+use Rattle.offer_answer.proofs.Arrays.{one-more}
+use Rattle.offer_answer.proofs.ports_and_keys.sections_with_keys.Goals as goal
+
+pub loop-index-preserved : goal.loop-index-preserved
+loop-index-preserved c = record {
+  full = length-set c.loop-index.sections c.loop-index.index c.section_with_keys.result ∙ c.loop-index.invariant.full;
+  done = λ config rounds ask ports each.
+      one-more (SectionNext config rounds ask ports (numbered_keys c.args.first_key c.args.keys.now (map key_asked c.args.places.now)))
+      c.loop-index.sections c.loop-index.index c.section_with_keys.result no_state
+      (omega (arith, c.loop-index-test.true, c.loop-index.invariant.full))
+      (c.loop-index.invariant.done config rounds ask ports each)
+      (c.section_with_keys.ensures config rounds ask ports (each c.loop-index.index c.loop-index-test.true));
+}
+
+pub returns : goal.returns
+returns c = λ config rounds ask ports each section below.
+    c.loop-index.invariant.done config rounds ask ports each section (omega (arith, below, c.loop-index-test.false))

@@ -1,0 +1,20 @@
+use Rattle.std.proofs.Common.{◌∙◌, arith}
+use Rattle.std.proofs.lemmas.List.{length-set}
+use Rattle.offer_answer.specs.Dialogs.{no_state}
+use Rattle.offer_answer.specs.Nexts.{SectionNext}
+use Rattle.offer_answer.proofs.Arrays.{one-more}
+use Rattle.offer_answer.proofs.ports_and_keys.sections_with_ports.Goals as goal
+
+pub loop-index-preserved : goal.loop-index-preserved
+loop-index-preserved c = record {
+  full = length-set c.loop-index.sections c.loop-index.index c.section_with_ports.result ∙ c.loop-index.invariant.full;
+  done = λ config rounds ask keys l each.
+      one-more (SectionNext config rounds ask c.args.ports.now keys) c.loop-index.sections c.loop-index.index c.section_with_ports.result no_state
+      (omega (arith, c.loop-index-test.true, c.loop-index.invariant.full))
+      (c.loop-index.invariant.done config rounds ask keys l each)
+      (c.section_with_ports.ensures config rounds ask keys l (each c.loop-index.index c.loop-index-test.true));
+}
+
+pub returns : goal.returns
+returns c = λ config rounds ask keys l each section below.
+    c.loop-index.invariant.done config rounds ask keys l each section (omega (arith, below, c.loop-index-test.false))

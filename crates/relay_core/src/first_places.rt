@@ -1,0 +1,61 @@
+//! The places of a relay before its first step.
+
+ghost use Rattle.std.specs.Prelude.{◌≡◌, IfOk, OnOk};
+ghost use Rattle.port_pool.specs.Ports.{pair_count};
+ghost use Rattle.relay_core.specs.FirstPlaces.{AreParts, AddsCells, AddsBoxes};
+
+use crate::part::Part;
+use call_board::Board;
+use call_cell::Cell;
+use port_pool::{PairBox, rtp_address};
+use relay_outside::{Config, InEnd, OutEnd, OutOfMemory};
+use std::alloc::Global;
+
+/// Adds an empty cell for each call that may be live.
+fn add_cells<I: InEnd + Drop, O: OutEnd + Drop>(
+    alloc: Global,
+    parts: &mut Vec<Part<I, O>>,
+    config: &Config,
+) -> Result<(), OutOfMemory>
+    ensures { OnOk result (AddsCells config.now parts.old.items parts.new.items config.now.max_sessions) }
+{
+    for _ in 0..config.max_sessions {
+        parts.push(Part::Cell(Cell::empty(alloc, config)))?;
+    }
+    Ok(())
+}
+
+/// Adds a closed box for each of the configuration's port pairs, in their order.
+fn add_boxes<I: InEnd + Drop, O: OutEnd + Drop>(
+    parts: &mut Vec<Part<I, O>>,
+    config: &Config,
+    pairs: usize,
+) -> Result<(), OutOfMemory>
+    requires { pairs ≡ pair_count config.now }
+    ensures { OnOk result (AddsBoxes config.now parts.old.items parts.new.items pairs) }
+{
+    for pair in 0..pairs {
+        let at = rtp_address(config, pair);
+        parts.push(Part::Pair(PairBox::empty(config.max_sessions, at)))?;
+    }
+    Ok(())
+}
+
+/// What the places of a relay hold before its first step: the board, an empty cell for each call that may be live, and a
+/// closed box for each port pair.
+/// A board and a cell stand for histories under one configuration, which is read off them: so what the places begin as
+/// is said once (`AreParts`).
+pub fn parts<I: InEnd + Drop, O: OutEnd + Drop>(
+    alloc: Global,
+    config: &Config,
+) -> Result<Vec<Part<I, O>>, OutOfMemory>
+    ensures { IfOk result (λ parts. AreParts config.now parts.items) }
+{
+    let board = Board::new(alloc, config)?;
+    let pairs = board.free_count();
+    let mut parts = Vec::new(alloc);
+    parts.push(Part::Board(board))?;
+    add_cells(alloc, &mut parts, config)?;
+    add_boxes(&mut parts, config, pairs)?;
+    Ok(parts)
+}

@@ -1,8 +1,0 @@
-use Rattle.std.proofs.Common.{drop}
-use Rattle.sdp_edit.specs.Choosing.{IsOffered}
-use Rattle.sdp_edit.proofs.choosing.is_offered.Given as goal
-
-abbrev pub invariant-loop-line : goal.invariant-loop-line
-invariant-loop-line l =
-    (IsOffered (drop l.line-index l.offered) l.key → IsOffered l.offered l.key)
-    × (IsOffered l.offered l.key → IsOffered (drop l.line-index l.offered) l.key)
