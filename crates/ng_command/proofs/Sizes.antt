@@ -18,7 +18,7 @@ abbrev pub sdp_in : Said → List ℕ
 sdp_in Ping = []
 sdp_in (Offer call_id from_tag sdp options) = sdp
 sdp_in (Answer call_id from_tag to_tag sdp options) = sdp
-sdp_in (Delete call_id from_tag fatal) = []
+sdp_in (Delete call_id from_tag fatal delay) = []
 sdp_in (Query call_id) = []
 sdp_in (Listing limit) = []
 

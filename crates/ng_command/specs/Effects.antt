@@ -1,5 +1,5 @@
 -- What the keys of a command say, where they say it in the right form.
-use Rattle.std.specs.Prelude.{ℕ, pos, negsuc, List, [], ◌∷◌, Bool, false, not, ◌&&◌, Option, Some, None, codes, min, find, if◌then◌else◌}
+use Rattle.std.specs.Prelude.{ℕ, pos, negsuc, List, [], ◌∷◌, Bool, false, not, ◌&&◌, Option, Some, None, codes, min, find, nat_le, if◌then◌else◌}
 use Rattle.std.specs.List.{starts_with}
 use Rattle.std.specs.Option.{option_map}
 use Rattle.std.specs.Prelude.{nat_eq}
@@ -79,3 +79,12 @@ limit_of (Some (Int (negsuc n))) = None
 limit_of (Some (Bytes text)) = None
 limit_of (Some (Items items)) = None
 limit_of (Some (Dict pairs)) = None
+
+-- how many seconds after its `delete` a call is to end: a number from 0 to 86,400, and 0 where nothing says so
+abbrev pub delay_of : Option Tree → Option ℕ
+delay_of None = Some 0
+delay_of (Some (Int (pos n))) = if nat_le n 86400 then Some n else None
+delay_of (Some (Int (negsuc n))) = None
+delay_of (Some (Bytes text)) = None
+delay_of (Some (Items items)) = None
+delay_of (Some (Dict pairs)) = None

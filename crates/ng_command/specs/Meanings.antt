@@ -4,7 +4,7 @@ use Rattle.ng_bencode.specs.Room.{Room}
 use Rattle.ng_bencode.specs.Tree.{Entries}
 use Rattle.ng_bencode.specs.Lookup.{value_at}
 use Rattle.ng_command.specs.Values.{text_at}
-use Rattle.ng_command.specs.Effects.{flags_of, replaces, protocol_in, source_of, has_flag, limit_of}
+use Rattle.ng_command.specs.Effects.{flags_of, replaces, protocol_in, source_of, has_flag, limit_of, delay_of}
 use Rattle.ng_command.specs.declared.kind.Kind.{Kind}
 use Rattle.ng_command.specs.declared.kind.Kind.TheVariants as kinds
 use Rattle.ng_command.specs.declared.command.Options.{Options}
@@ -15,7 +15,7 @@ pub data Said : Type 0 where
   Ping : Said
   Offer : (call_id from_tag sdp : List ℕ) → Options → Said
   Answer : (call_id from_tag to_tag sdp : List ℕ) → Options → Said
-  Delete : (call_id : List ℕ) → (from_tag : Option (List ℕ)) → (fatal : Bool) → Said
+  Delete : (call_id : List ℕ) → (from_tag : Option (List ℕ)) → (fatal : Bool) → (delay : ℕ) → Said
   Query : (call_id : List ℕ) → Said
   Listing : (limit : ℕ) → Said
 
@@ -28,7 +28,7 @@ abbrev pub said : Command → Said
 said command.Ping = Ping
 said (command.Offer offer) = Offer offer.call_id.list offer.from_tag.list offer.sdp.list offer.options
 said (command.Answer answer) = Answer answer.call_id.list answer.from_tag.list answer.to_tag.list answer.sdp.list answer.options
-said (command.Delete delete) = Delete delete.call_id.list (strings_in_list delete.from_tag) delete.fatal
+said (command.Delete delete) = Delete delete.call_id.list (strings_in_list delete.from_tag) delete.fatal delete.delay_s
 said (command.Query query) = Query query.call_id.list
 said (command.List limit) = Listing limit
 
@@ -54,6 +54,8 @@ meaning kinds.Offer pairs =
 meaning kinds.Answer pairs =
     Answer (text_in pairs (codes "call-id")) (text_in pairs (codes "from-tag")) (text_in pairs (codes "to-tag")) (text_in pairs (codes "sdp"))
     (options_of pairs None)
-meaning kinds.Delete pairs = Delete (text_in pairs (codes "call-id")) (text_at pairs (codes "from-tag")) (has_flag pairs (codes "fatal"))
+meaning kinds.Delete pairs =
+    Delete (text_in pairs (codes "call-id")) (text_at pairs (codes "from-tag")) (has_flag pairs (codes "fatal"))
+    (unwrap_or (delay_of (value_at pairs (codes "delete delay"))) 0)
 meaning kinds.Query pairs = Query (text_in pairs (codes "call-id"))
 meaning kinds.List pairs = Listing (unwrap_or (limit_of (value_at pairs (codes "limit"))) 32)

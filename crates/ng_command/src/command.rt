@@ -56,6 +56,8 @@ pub struct DeleteIn {
     pub from_tag: Option<Text>,
     /// Whether an unknown call or side is an error, and no warning.
     pub fatal: bool,
+    /// After how many seconds the call is to end, 0 to 86,400; 0 where nothing is said.
+    pub delay_s: u32,
 }
 
 /// A query.

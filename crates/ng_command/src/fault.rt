@@ -26,6 +26,8 @@ pub enum KeyName {
     ReceivedFrom,
     /// `limit`
     Limit,
+    /// `delete delay`
+    DeleteDelay,
     /// `ICE`
     Ice,
     /// `DTLS`

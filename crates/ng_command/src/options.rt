@@ -4,7 +4,7 @@ ghost use Rattle.std.specs.Option.{option_copied};
 ghost use Rattle.ng_bencode.specs.Row.{list_in};
 ghost use Rattle.ng_bencode.specs.Tree.{tree_of, trees_of, pairs_of, Items, Int};
 ghost use Rattle.ng_bencode.specs.Lookup.{value_at};
-ghost use Rattle.ng_command.specs.Effects.{has_flag, flags_of, replaces, signals_source, address_in, ip_of_tree, source_of, protocol_of, protocol_in, asks_dtls, limit_of};
+ghost use Rattle.ng_command.specs.Effects.{has_flag, flags_of, replaces, signals_source, address_in, ip_of_tree, source_of, protocol_of, protocol_in, asks_dtls, limit_of, delay_of};
 ghost use Rattle.ng_command.specs.Meanings.{options_of};
 
 use crate::command::Options;
@@ -17,6 +17,9 @@ use sdp_text::{Host, Proto, read_ipv4};
 pub(crate) const DEFAULT_LIMIT: u32 = 32;
 
 const MAX_LIMIT: u32 = 200;
+
+/// The longest delay of a delete, in seconds: a day.
+const MAX_DELAY_S: u32 = 86_400;
 
 /// Whether the flag is set.
 pub(crate) fn has_flag(pairs: &Pairs, flag: &[u8]) -> bool
@@ -166,6 +169,30 @@ fn capped(number: i64) -> Option<u32>
         None
     } else if number > MAX_LIMIT as i64 {
         Some(MAX_LIMIT)
+    } else {
+        Some(number as u32)
+    }
+}
+
+/// After how many seconds a deleted call is to end. `None` where what stands there is no delay.
+pub(crate) fn delay_of(pairs: &Pairs) -> Option<u32>
+    ensures { result ≡ delay_of (value_at (pairs_of (list_in pairs.now)) (codes "delete delay")) }
+{
+    match lookup(pairs, b"delete delay") {
+        Some(value) => match value.as_int() {
+            Some(number) => within_a_day(number),
+            None => None,
+        },
+        None => Some(0),
+    }
+}
+
+/// A delay, where the number is one: 0 to 86,400 seconds.
+fn within_a_day(number: i64) -> Option<u32>
+    ensures { result ≡ delay_of (Some (Int number)) }
+{
+    if number < 0 || number > MAX_DELAY_S as i64 {
+        None
     } else {
         Some(number as u32)
     }

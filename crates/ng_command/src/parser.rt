@@ -8,7 +8,7 @@ ghost use Rattle.ng_command.specs.Bodies.{kind_named, said_or_fault, Agrees, IsC
 use crate::command::{AnswerIn, Command, DeleteIn, OfferIn, QueryIn};
 use crate::fault::CommandFault;
 use crate::kind::{Kind, kind_of};
-use crate::options::{DEFAULT_LIMIT, has_flag, limit_of, options_of};
+use crate::options::{DEFAULT_LIMIT, delay_of, has_flag, limit_of, options_of};
 use crate::values::text_at;
 use crate::verdict::fault_of;
 use ng_bencode::{Pairs, Text, decode};
@@ -21,8 +21,8 @@ use std::alloc::Global;
 ///
 /// The first fault, by the order of the variants of `CommandFault`; of keys the first in the order
 /// `call-id`, `from-tag`, `to-tag`, `sdp`, `flags`, `replace`, `transport protocol`, `received from`,
-/// `limit`, and of options the first in the order `ICE`, `DTLS`, `transport protocol`, `record call`,
-/// `codec`. Keys that the command does not use are ignored, whatever they hold.
+/// `limit`, `delete delay`, and of options the first in the order `ICE`, `DTLS`, `transport protocol`,
+/// `record call`, `codec`. Keys that the command does not use are ignored, whatever they hold.
 pub fn read(alloc: Global, body: &[u8]) -> Result<Command, CommandFault>
     ensures { IsCommandRead body.now result }
 {
@@ -115,10 +115,12 @@ fn delete_of(alloc: Global, pairs: &Pairs) -> Result<Command, OutOfMemory>
     let call_id = copy_at(alloc, pairs, b"call-id")?;
     let from_tag = copy_if_there(alloc, pairs, b"from-tag")?;
     let fatal = has_flag(pairs, b"fatal");
+    let delay_s = delay_of(pairs).unwrap_or(0);
     Ok(Command::Delete(DeleteIn {
         call_id,
         from_tag,
         fatal,
+        delay_s,
     }))
 }
 

@@ -8,12 +8,12 @@ ghost use Rattle.ng_command.specs.Faults.{is_wrong, is_unsupported, first_wrong,
 
 use crate::fault::{CommandFault, KeyName};
 use crate::kind::Kind;
-use crate::options::{is_dtls, limit_of, protocol_in, received_from, signals_source};
+use crate::options::{delay_of, is_dtls, limit_of, protocol_in, received_from, signals_source};
 use crate::values::{has_key, is_name, is_there, is_wordless, text_at, text_of};
 use ng_bencode::{Pairs, lookup};
 
 /// The keys in the order in which a wrong one is named.
-const WRONG_KEYS: [KeyName; 9] = [
+const WRONG_KEYS: [KeyName; 10] = [
     KeyName::CallId,
     KeyName::FromTag,
     KeyName::ToTag,
@@ -23,6 +23,7 @@ const WRONG_KEYS: [KeyName; 9] = [
     KeyName::TransportProtocol,
     KeyName::ReceivedFrom,
     KeyName::Limit,
+    KeyName::DeleteDelay,
 ];
 
 /// The keys in the order in which an unsupported option is named.
@@ -98,6 +99,7 @@ fn is_wrong(kind: Kind, pairs: &Pairs, key: KeyName) -> bool
             && signals_source(pairs)
             && received_from(pairs).is_none(),
         KeyName::Limit => kind.is_list() && limit_of(pairs).is_none(),
+        KeyName::DeleteDelay => kind.is_delete() && delay_of(pairs).is_none(),
         _ => false,
     }
 }

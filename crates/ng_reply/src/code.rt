@@ -48,4 +48,6 @@ pub enum ErrorCode {
     E17,
     /// The datagram has more than 16,384 bytes.
     E18,
+    /// The call is ending: a delete gave it a delay.
+    E19,
 }

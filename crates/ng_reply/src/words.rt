@@ -113,6 +113,7 @@ fn head_of(code: ErrorCode) -> &'static [u8]
         ErrorCode::E16 => b"key source fault",
         ErrorCode::E17 => b"out of memory",
         ErrorCode::E18 => b"datagram too long",
+        ErrorCode::E19 => b"call is ending",
     }
 }
 
@@ -131,6 +132,7 @@ fn key_text(key: KeyName) -> &'static [u8]
         KeyName::TransportProtocol => b"transport protocol",
         KeyName::ReceivedFrom => b"received from",
         KeyName::Limit => b"limit",
+        KeyName::DeleteDelay => b"delete delay",
         KeyName::Ice => b"ICE",
         KeyName::Dtls => b"DTLS",
         KeyName::RecordCall => b"record call",

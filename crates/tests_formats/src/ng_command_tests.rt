@@ -129,6 +129,26 @@ const FAULTY: &[(&[u8], CommandFault)] = &[
         CommandFault::Key(KeyName::Limit),
     ),
     (
+        b"d7:call-id2:c17:command6:delete12:delete delayi-1ee",
+        CommandFault::Key(KeyName::DeleteDelay),
+    ),
+    (
+        b"d7:call-id2:c17:command6:delete12:delete delayi86401ee",
+        CommandFault::Key(KeyName::DeleteDelay),
+    ),
+    (
+        b"d7:call-id2:c17:command6:delete12:delete delay2:30e",
+        CommandFault::Key(KeyName::DeleteDelay),
+    ),
+    (
+        b"d7:call-id2:c17:command6:delete12:delete-delay1:012:delete delayi0ee",
+        CommandFault::Key(KeyName::DeleteDelay),
+    ),
+    (
+        b"d7:call-id2:c17:command6:delete12:delete delayi-1e5:flagsi1ee",
+        CommandFault::Key(KeyName::Flags),
+    ),
+    (
         b"d7:command5:offer7:call-id2:c18:from-tag1:a3:sdp3:v=03:ICE5:forcee",
         CommandFault::Unsupported(KeyName::Ice),
     ),
@@ -195,6 +215,7 @@ const UNUSED: &[&[u8]] = &[
     b"d7:command4:ping7:call-idi1e3:ICE5:forcee",
     b"d7:command6:delete7:call-id2:c15:flags5:fatal3:sdpi1e7:replacei1e5:limiti-1e3:ICE5:forcee",
     b"d7:command5:query7:call-id2:c15:flagsi1ee",
+    b"d7:call-id2:c17:command5:query12:delete delayi-1ee",
     b"d7:command5:offer7:call-id2:c18:from-tag1:a3:sdp3:v=03:ICE6:remove4:DTLS3:off11:record call2:no5:codecd5:stripl4:PCMUee18:transport protocol9:RTP/SAVPFe",
     b"d7:command6:answer7:call-id2:c18:from-tag1:a6:to-tag1:b3:sdp3:v=018:transport protocol16:UDP/TLS/RTP/SAVP4:DTLS7:disable11:record call3:off5:codec9:transcode5:limiti-1ee",
     b"d7:command5:offer7:call-id2:c18:from-tag1:a3:sdp3:v=05:flagsl18:SIP source address13:trust-addresse13:received fromi1ee",
@@ -293,6 +314,38 @@ fn is_delete(alloc: Global, body: &[u8], from_tag: Option<&[u8]>, fatal: bool) -
         && is_text(&delete.call_id, b"c1")
 }
 
+/// Bodies of deletes, and the delay of each.
+const DELETES: &[(&[u8], u32)] = &[
+    (b"d7:call-id2:c17:command6:deletee", 0),
+    (b"d7:call-id2:c17:command6:delete12:delete delayi0ee", 0),
+    (b"d7:call-id2:c17:command6:delete12:delete-delayi30ee", 30),
+    (
+        b"d7:call-id2:c17:command6:delete12:delete delayi86400ee",
+        86_400,
+    ),
+    (
+        b"d7:call-id2:c17:command6:delete12:delete delayi5e12:delete-delay1:0e",
+        5,
+    ),
+];
+
+/// The delay of a body that is a delete.
+fn delay_of(alloc: Global, body: &[u8]) -> Option<u32> {
+    match read(alloc, body) {
+        Ok(Command::Delete(delete)) => Some(delete.delay_s),
+        _ => None,
+    }
+}
+
+fn other_delay(alloc: Global) -> Option<usize> {
+    for (number, (body, delay)) in DELETES.iter().enumerate() {
+        if delay_of(alloc, body) != Some(*delay) {
+            return Some(number);
+        }
+    }
+    None
+}
+
 /// Bodies of lists, and the limit of each.
 const LISTS: &[(&[u8], u32)] = &[
     (b"d7:command4:liste", 32),
@@ -333,6 +386,7 @@ fn the_other_commands_say_what_they_ask_for(rt: HostRuntime) {
     assert!(rt; is_delete(alloc, b"d7:command6:delete7:call-id2:c1e", None, false));
     let fatal = b"d7:command6:delete7:call-id2:c18:from-tag1:a5:flagsl5:fatalee";
     assert!(rt; is_delete(alloc, fatal, Some(b"a"), true));
+    none_failed(&rt, "DELETES", other_delay(alloc));
     none_failed(&rt, "LISTS", other_limit(alloc));
     assert!(rt; is_query(alloc, b"d7:call-id2:c17:command5:querye"));
 }

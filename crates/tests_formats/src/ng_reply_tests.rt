@@ -40,6 +40,10 @@ const ERRORS: &[(ErrorCode, &[u8])] = &[
         b"5323_1 d12:error-reason40:missing or wrong key: transport protocol6:result5:errore",
     ),
     (
+        ErrorCode::E4(KeyName::DeleteDelay),
+        b"5323_1 d12:error-reason34:missing or wrong key: delete delay6:result5:errore",
+    ),
+    (
         ErrorCode::E5(KeyName::Ice),
         b"5323_1 d12:error-reason23:unsupported option: ICE6:result5:errore",
     ),
@@ -106,6 +110,10 @@ const ERRORS: &[(ErrorCode, &[u8])] = &[
     (
         ErrorCode::E18,
         b"5323_1 d12:error-reason17:datagram too long6:result5:errore",
+    ),
+    (
+        ErrorCode::E19,
+        b"5323_1 d12:error-reason14:call is ending6:result5:errore",
     ),
 ];
 
@@ -181,5 +189,8 @@ fn replies_in_json_are_written_without_memory(rt: HostRuntime) {
     let mut datagram = [0; 512];
     let len = fixed_json_error(b"6", ErrorCode::E6(12), &mut datagram);
     let want = b"6 {\"error-reason\":\"malformed SDP: line 12\",\"result\":\"error\"}";
+    assert!(rt; &datagram[..len] == want.as_slice());
+    let len = fixed_json_error(b"6", ErrorCode::E19, &mut datagram);
+    let want = b"6 {\"error-reason\":\"call is ending\",\"result\":\"error\"}";
     assert!(rt; &datagram[..len] == want.as_slice());
 }
