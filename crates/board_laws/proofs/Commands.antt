@@ -1,8 +1,9 @@
 -- Two turns of one command in which the devices returned the same have the same reply and do the same.
 use Rattle.std.proofs.Common.{◌≡◌, ◌∙◌, sym, ap, subst, refl, ℕ, ◌⊎◌, inl, inr, List, [], length, Bool, true, false, cond, not, Option, Some, None, Result, Ok, Err}
-use Rattle.std.specs.Prelude.{nat_le, ◌&&◌}
+use Rattle.std.specs.Prelude.{nat_le, ◌&&◌, ◌==◌}
 use Rattle.std.specs.List.{list_any}
 use Rattle.relay_outside.specs.declared.settings.Config.{Config}
+use Rattle.histories.specs.Words.{or_else}
 use Rattle.ng_command.specs.declared.command.Options.{Options}
 use Rattle.ng_command.specs.Meanings as said
 use Rattle.ng_command.specs.Meanings.{Said}
@@ -13,14 +14,14 @@ use Rattle.offer_answer.specs.Rounds.{Round, OfferAsk, AnswerAsk, Demand}
 use Rattle.offer_answer.specs.Plan as plan
 use Rattle.call_board.specs.Acts as act
 use Rattle.call_board.specs.Acts.{Act, Call, Given, Control, BoardEntry}
-use Rattle.call_board.specs.Calls.{live, find_call, new_call, rounds, rounds_of_call}
+use Rattle.call_board.specs.Calls.{live, find_call, new_call, rounds, rounds_of_call, is_ending}
 use Rattle.call_board.specs.Pairs.{free_in, is_short}
 use Rattle.call_board.specs.Replies.{Done}
-use Rattle.call_board.specs.Answers.{Answering, failing, leased_pairs, offer_ask, answer_ask, offer_leased, offer_unless, offer_to, answer_unless, answer_to, nothing_to_end, names_side, delete_of, query_of, answering_asked}
+use Rattle.call_board.specs.Answers.{Answering, failing, ending_error, deleting, leased_pairs, offer_ask, answer_ask, offer_leased, offer_unless, offer_to, answer_unless, answer_to, nothing_to_end, names_side, delete_of, query_of, answering_asked}
 use Rattle.call_board.specs.Fits.{GivesFor, GivesNothing, ReadsRequest, ReadsAnswerOf, is_request_read, demanded_by}
 use Rattle.call_board.proofs.Tells.{leased_case}
 use Rattle.board_laws.proofs.Spelled.{offer_once, answer_once}
-use Rattle.board_laws.proofs.Faults.{Chosen, offer_split, answer_split}
+use Rattle.board_laws.proofs.Faults.{Chosen, offer_refusal, offer_split, answer_refusal, answer_split}
 use Rattle.board_laws.proofs.Given.{Fed, nothing_same, report_same, leased_once}
 
 -- the devices returned the same, and the results are one
@@ -83,39 +84,39 @@ late_heard config h g ask of begins before fault (inr is) =
     ap (λ (f : Option ErrorCode). is_request_read (offer_unless config h g ask of begins before f).act) is
     ∙ planned_heard config h g ask of begins before (begins && nat_le config.max_sessions (length (live h))) (is_short (free_in config h) (plan.demand before ask).pairs)
 
--- an offer of this call with what was chosen, and what it demands
-abbrev offered : Config → List BoardEntry → Call → Bool → List Round → (from_tag sdp : List ℕ) → Options → Given → Chosen → Answering
-offered config h of begins before from_tag sdp options g xs =
-    offer_unless config h g (offer_ask from_tag sdp options xs) of begins before (plan.offer_fault before (offer_ask from_tag sdp options xs))
+-- an offer of this call, which is ending or isn't, with what was chosen, and what it demands
+abbrev offered : Config → List BoardEntry → Call → (begins ending : Bool) → List Round → (from_tag sdp : List ℕ) → Options → Given → Chosen → Answering
+offered config h of begins ending before from_tag sdp options g xs =
+    offer_unless config h g (offer_ask from_tag sdp options xs) of begins before (offer_refusal ending before from_tag sdp options xs)
 
 abbrev wanted : List Round → (from_tag sdp : List ℕ) → Options → Chosen → Demand
 wanted before from_tag sdp options xs = plan.demand before (offer_ask from_tag sdp options xs)
 
-offer_same : (config : Config) (h : List BoardEntry) (of : Call) (begins : Bool) (before : List Round) (from_tag sdp : List ℕ) (options : Options) (a b : Given) (xs ys : Chosen) → Fed a b
-    → (is_request_read (offered config h of begins before from_tag sdp options a xs).act ≡ true → plan.OfferRead (offer_ask from_tag sdp options xs))
-    → (is_request_read (offered config h of begins before from_tag sdp options b ys).act ≡ true → plan.OfferRead (offer_ask from_tag sdp options ys))
-    → GivesFor (wanted before from_tag sdp options xs) a (offered config h of begins before from_tag sdp options a xs).act
-    → GivesFor (wanted before from_tag sdp options ys) b (offered config h of begins before from_tag sdp options b ys).act
-    → Same a b (offered config h of begins before from_tag sdp options a xs) (offered config h of begins before from_tag sdp options b ys)
-offer_same config h of begins before from_tag sdp options a b xs ys fed hear_a hear_b m n =
-    elim (offer_split before from_tag sdp options) [
+offer_same : (config : Config) (h : List BoardEntry) (of : Call) (begins ending : Bool) (before : List Round) (from_tag sdp : List ℕ) (options : Options) (a b : Given) (xs ys : Chosen) → Fed a b
+    → (is_request_read (offered config h of begins ending before from_tag sdp options a xs).act ≡ true → plan.OfferRead (offer_ask from_tag sdp options xs))
+    → (is_request_read (offered config h of begins ending before from_tag sdp options b ys).act ≡ true → plan.OfferRead (offer_ask from_tag sdp options ys))
+    → GivesFor (wanted before from_tag sdp options xs) a (offered config h of begins ending before from_tag sdp options a xs).act
+    → GivesFor (wanted before from_tag sdp options ys) b (offered config h of begins ending before from_tag sdp options b ys).act
+    → Same a b (offered config h of begins ending before from_tag sdp options a xs) (offered config h of begins ending before from_tag sdp options b ys)
+offer_same config h of begins ending before from_tag sdp options a b xs ys fed hear_a hear_b m n =
+    elim (offer_split ending before from_tag sdp options) [
       | inl early ↦
-          let left : offered config h of begins before from_tag sdp options a xs ≡ failing early.0 =
+          let left : offered config h of begins ending before from_tag sdp options a xs ≡ failing early.0 =
           ap (λ (f : Option ErrorCode). offer_unless config h a (offer_ask from_tag sdp options xs) of begins before f) (early.1 xs) in
-          let right : offered config h of begins before from_tag sdp options b ys ≡ failing early.0 =
+          let right : offered config h of begins ending before from_tag sdp options b ys ≡ failing early.0 =
           ap (λ (f : Option ErrorCode). offer_unless config h b (offer_ask from_tag sdp options ys) of begins before f) (early.1 ys) in
           nothing a b _ _ fed
           (subst (λ (x : Answering). GivesFor (wanted before from_tag sdp options xs) a x.act) left m)
           (subst (λ (x : Answering). GivesFor (wanted before from_tag sdp options ys) b x.act) right n) (left ∙ sym right)
       | inr late ↦
           let one : xs ≡ ys = offer_once from_tag sdp options xs ys
-          (hear_a (late_heard config h a (offer_ask from_tag sdp options xs) of begins before (plan.offer_fault before (offer_ask from_tag sdp options xs)) (late xs)))
-          (hear_b (late_heard config h b (offer_ask from_tag sdp options ys) of begins before (plan.offer_fault before (offer_ask from_tag sdp options ys)) (late ys))) in
+          (hear_a (late_heard config h a (offer_ask from_tag sdp options xs) of begins before (offer_refusal ending before from_tag sdp options xs) (late xs)))
+          (hear_b (late_heard config h b (offer_ask from_tag sdp options ys) of begins before (offer_refusal ending before from_tag sdp options ys) (late ys))) in
           subst
-          (λ (zs : Chosen). GivesFor (wanted before from_tag sdp options zs) b (offered config h of begins before from_tag sdp options b zs).act
-          → Same a b (offered config h of begins before from_tag sdp options a xs) (offered config h of begins before from_tag sdp options b zs))
+          (λ (zs : Chosen). GivesFor (wanted before from_tag sdp options zs) b (offered config h of begins ending before from_tag sdp options b zs).act
+          → Same a b (offered config h of begins ending before from_tag sdp options a xs) (offered config h of begins ending before from_tag sdp options b zs))
           one
-          (λ there. fault_same config h (offer_ask from_tag sdp options xs) of begins before (plan.offer_fault before (offer_ask from_tag sdp options xs))
+          (λ there. fault_same config h (offer_ask from_tag sdp options xs) of begins before (offer_refusal ending before from_tag sdp options xs)
           (wanted before from_tag sdp options xs) a b fed m there)
           n
     ]
@@ -127,9 +128,9 @@ offers_same : (config : Config) (h : List BoardEntry) (id from_tag sdp : List �
     → GivesFor (wanted (rounds_of_call h found) from_tag sdp options ys) b (offer_to config h b id (offer_ask from_tag sdp options ys) found).act
     → Same a b (offer_to config h a id (offer_ask from_tag sdp options xs) found) (offer_to config h b id (offer_ask from_tag sdp options ys) found)
 offers_same config h id from_tag sdp options None a b xs ys fed hear_a hear_b m n =
-    offer_same config h (new_call h id) true [] from_tag sdp options a b xs ys fed hear_a hear_b m n
+    offer_same config h (new_call h id) true false [] from_tag sdp options a b xs ys fed hear_a hear_b m n
 offers_same config h id from_tag sdp options (Some of) a b xs ys fed hear_a hear_b m n =
-    offer_same config h of false (rounds h of.number) from_tag sdp options a b xs ys fed hear_a hear_b m n
+    offer_same config h of false (is_ending h of.number) (rounds h of.number) from_tag sdp options a b xs ys fed hear_a hear_b m n
 
 -- Answers.
 
@@ -141,31 +142,31 @@ unless_nothing config ask of before d g None gives = gives
 answer_nothing : (config : Config) (h : List BoardEntry) (ask : AnswerAsk) (d : Demand) (g : Given) (found : Option Call)
     → GivesFor d g (answer_to config h ask found).act → Nothing g
 answer_nothing config h ask d g None gives = gives
-answer_nothing config h ask d g (Some of) gives = unless_nothing config ask of (rounds h of.number) d g (plan.answer_fault (rounds h of.number) ask) gives
+answer_nothing config h ask d g (Some of) gives = unless_nothing config ask of (rounds h of.number) d g (or_else (ending_error (is_ending h of.number)) (plan.answer_fault (rounds h of.number) ask)) gives
 
 answer_late : (config : Config) (ask : AnswerAsk) (of : Call) (before : List Round) (fault : Option ErrorCode)
     → (fault ≡ Some E8) ⊎ (fault ≡ None) → is_request_read (answer_unless config ask of before fault).act ≡ true
 answer_late config ask of before fault (inl is) = ap (λ (f : Option ErrorCode). is_request_read (answer_unless config ask of before f).act) is
 answer_late config ask of before fault (inr is) = ap (λ (f : Option ErrorCode). is_request_read (answer_unless config ask of before f).act) is
 
-abbrev answered : Config → Call → List Round → (from_tag to_tag sdp : List ℕ) → Options → Chosen → Answering
-answered config of before from_tag to_tag sdp options xs =
-    answer_unless config (answer_ask from_tag to_tag sdp options xs) of before (plan.answer_fault before (answer_ask from_tag to_tag sdp options xs))
+abbrev answered : Config → Call → (ending : Bool) → List Round → (from_tag to_tag sdp : List ℕ) → Options → Chosen → Answering
+answered config of ending before from_tag to_tag sdp options xs =
+    answer_unless config (answer_ask from_tag to_tag sdp options xs) of before (answer_refusal ending before from_tag to_tag sdp options xs)
 
-answer_same : (config : Config) (of : Call) (before : List Round) (from_tag to_tag sdp : List ℕ) (options : Options) (xs ys : Chosen)
-    → (is_request_read (answered config of before from_tag to_tag sdp options xs).act ≡ true → plan.AnswerRead before (answer_ask from_tag to_tag sdp options xs))
-    → (is_request_read (answered config of before from_tag to_tag sdp options ys).act ≡ true → plan.AnswerRead before (answer_ask from_tag to_tag sdp options ys))
-    → answered config of before from_tag to_tag sdp options xs ≡ answered config of before from_tag to_tag sdp options ys
-answer_same config of before from_tag to_tag sdp options xs ys hear_a hear_b =
-    elim (answer_split before from_tag to_tag sdp options) [
+answer_same : (config : Config) (of : Call) (ending : Bool) (before : List Round) (from_tag to_tag sdp : List ℕ) (options : Options) (xs ys : Chosen)
+    → (is_request_read (answered config of ending before from_tag to_tag sdp options xs).act ≡ true → plan.AnswerRead before (answer_ask from_tag to_tag sdp options xs))
+    → (is_request_read (answered config of ending before from_tag to_tag sdp options ys).act ≡ true → plan.AnswerRead before (answer_ask from_tag to_tag sdp options ys))
+    → answered config of ending before from_tag to_tag sdp options xs ≡ answered config of ending before from_tag to_tag sdp options ys
+answer_same config of ending before from_tag to_tag sdp options xs ys hear_a hear_b =
+    elim (answer_split ending before from_tag to_tag sdp options) [
       | inl early ↦
           ap (λ (f : Option ErrorCode). answer_unless config (answer_ask from_tag to_tag sdp options xs) of before f) (early.1 xs)
           ∙ sym (ap (λ (f : Option ErrorCode). answer_unless config (answer_ask from_tag to_tag sdp options ys) of before f) (early.1 ys))
       | inr late ↦
-          ap (answered config of before from_tag to_tag sdp options)
+          ap (answered config of ending before from_tag to_tag sdp options)
           (answer_once before from_tag to_tag sdp options xs ys
-          (hear_a (answer_late config (answer_ask from_tag to_tag sdp options xs) of before (plan.answer_fault before (answer_ask from_tag to_tag sdp options xs)) (late xs)))
-          (hear_b (answer_late config (answer_ask from_tag to_tag sdp options ys) of before (plan.answer_fault before (answer_ask from_tag to_tag sdp options ys)) (late ys))))
+          (hear_a (answer_late config (answer_ask from_tag to_tag sdp options xs) of before (answer_refusal ending before from_tag to_tag sdp options xs) (late xs)))
+          (hear_b (answer_late config (answer_ask from_tag to_tag sdp options ys) of before (answer_refusal ending before from_tag to_tag sdp options ys) (late ys))))
     ]
 
 answers_same : (config : Config) (h : List BoardEntry) (from_tag to_tag sdp : List ℕ) (options : Options) (found : Option Call) (xs ys : Chosen)
@@ -174,7 +175,7 @@ answers_same : (config : Config) (h : List BoardEntry) (from_tag to_tag sdp : Li
     → answer_to config h (answer_ask from_tag to_tag sdp options xs) found ≡ answer_to config h (answer_ask from_tag to_tag sdp options ys) found
 answers_same config h from_tag to_tag sdp options None xs ys hear_a hear_b = refl
 answers_same config h from_tag to_tag sdp options (Some of) xs ys hear_a hear_b =
-    answer_same config of (rounds h of.number) from_tag to_tag sdp options xs ys hear_a hear_b
+    answer_same config of (is_ending h of.number) (rounds h of.number) from_tag to_tag sdp options xs ys hear_a hear_b
 
 -- Deletes and queries.
 
@@ -182,15 +183,19 @@ missing_nothing : (d : Demand) (g : Given) (fatal : Bool) (code : ErrorCode) →
 missing_nothing d g true code gives = gives
 missing_nothing d g false code gives = gives
 
-named_nothing : (d : Demand) (g : Given) (fatal : Bool) (of : Call) (named : Bool)
-    → GivesFor d g (cond named (record { reply = Done; act = act.Deleted of }) (nothing_to_end fatal E10)).act → Nothing g
-named_nothing d g fatal of true gives = gives
-named_nothing d g fatal of false gives = missing_nothing d g fatal E10 gives
+deleting_nothing : (d : Demand) (g : Given) (of : Call) (seconds : ℕ) (at_once : Bool) → GivesFor d g (cond at_once (act.Deleted of) (act.Delayed of seconds)) → Nothing g
+deleting_nothing d g of seconds true gives = gives
+deleting_nothing d g of seconds false gives = gives
 
-delete_nothing : (h : List BoardEntry) (tag : Option (List ℕ)) (fatal : Bool) (d : Demand) (g : Given) (found : Option Call)
-    → GivesFor d g (delete_of h tag fatal found).act → Nothing g
-delete_nothing h tag fatal d g None gives = missing_nothing d g fatal E9 gives
-delete_nothing h tag fatal d g (Some of) gives = named_nothing d g fatal of (names_side (rounds h of.number) tag) gives
+named_nothing : (d : Demand) (g : Given) (fatal : Bool) (seconds : ℕ) (of : Call) (named : Bool)
+    → GivesFor d g (cond named (record { reply = Done; act = deleting of seconds }) (nothing_to_end fatal E10)).act → Nothing g
+named_nothing d g fatal seconds of true gives = deleting_nothing d g of seconds (seconds == 0) gives
+named_nothing d g fatal seconds of false gives = missing_nothing d g fatal E10 gives
+
+delete_nothing : (h : List BoardEntry) (tag : Option (List ℕ)) (fatal : Bool) (seconds : ℕ) (d : Demand) (g : Given) (found : Option Call)
+    → GivesFor d g (delete_of h tag fatal seconds found).act → Nothing g
+delete_nothing h tag fatal seconds d g None gives = missing_nothing d g fatal E9 gives
+delete_nothing h tag fatal seconds d g (Some of) gives = named_nothing d g fatal seconds of (names_side (rounds h of.number) tag) gives
 
 -- both asked after one call, and were told the same
 abbrev pub ToldAlike : Given → Given → Act → Act → Type 0
@@ -218,10 +223,10 @@ asked_same config h c d (Ok (said.Answer id from_tag to_tag sdp options)) fed lo
     (answer_nothing config h (answer_ask from_tag to_tag sdp options c.chosen) (demanded_by h c (Ok (said.Answer id from_tag to_tag sdp options))) c.given (find_call h id) m)
     (answer_nothing config h (answer_ask from_tag to_tag sdp options d.chosen) (demanded_by h d (Ok (said.Answer id from_tag to_tag sdp options))) d.given (find_call h id) n)
     (answers_same config h from_tag to_tag sdp options (find_call h id) c.chosen d.chosen hear_c hear_d)
-asked_same config h c d (Ok (said.Delete id from_tag fatal)) fed log hear_c hear_d m n =
+asked_same config h c d (Ok (said.Delete id from_tag fatal seconds)) fed log hear_c hear_d m n =
     nothing c.given d.given _ _ fed
-    (delete_nothing h from_tag fatal (demanded_by h c (Ok (said.Delete id from_tag fatal))) c.given (find_call h id) m)
-    (delete_nothing h from_tag fatal (demanded_by h d (Ok (said.Delete id from_tag fatal))) d.given (find_call h id) n) refl
+    (delete_nothing h from_tag fatal seconds (demanded_by h c (Ok (said.Delete id from_tag fatal seconds))) c.given (find_call h id) m)
+    (delete_nothing h from_tag fatal seconds (demanded_by h d (Ok (said.Delete id from_tag fatal seconds))) d.given (find_call h id) n) refl
 asked_same config h c d (Ok (said.Query id)) fed log hear_c hear_d m n =
     query_same h (demanded_by h c (Ok (said.Query id))) (demanded_by h d (Ok (said.Query id))) c.given d.given (find_call h id) fed log m n
 asked_same config h c d (Ok (said.Listing limit)) fed log hear_c hear_d m n = nothing c.given d.given _ _ fed m n refl

@@ -2,6 +2,7 @@
 use Rattle.std.proofs.Common.{◌≡◌, ◌∙◌, ap, refl, ℕ, List, [], length, Bool, true, false, cond, not, Option, Some, None, Result, Ok, Err}
 use Rattle.std.specs.Prelude.{nat_le, ◌&&◌}
 use Rattle.std.specs.List.{list_any}
+use Rattle.histories.specs.Words.{or_else}
 use Rattle.relay_outside.specs.declared.settings.Config.{Config}
 use Rattle.ng_command.specs.Meanings as said
 use Rattle.ng_command.specs.Meanings.{Said}
@@ -10,14 +11,13 @@ use Rattle.ng_reply.specs.declared.code.ErrorCode.TheVariants.{E9, E10, E13, E14
 use Rattle.sdes_lines.specs.declared.crypto_line.CryptoLine.{CryptoLine}
 use Rattle.offer_answer.specs.Rounds.{Round, OfferAsk, AnswerAsk}
 use Rattle.offer_answer.specs.Plan as plan
-use Rattle.call_board.specs.Acts as act
-use Rattle.call_board.specs.Acts.{Act, Call, Given, Control, BoardEntry}
-use Rattle.call_board.specs.Calls.{live, find_call, new_call, rounds}
+use Rattle.call_board.specs.Acts.{Call, Given, Control, BoardEntry}
+use Rattle.call_board.specs.Calls.{live, find_call, new_call, rounds, is_ending}
 use Rattle.call_board.specs.KeptReplies.{kept_reply}
 use Rattle.call_board.specs.Pairs.{free, free_in, is_short}
 use Rattle.call_board.specs.Replies.{Done}
 use Rattle.call_board.specs.Requests.{asked}
-use Rattle.call_board.specs.Answers.{Answering, failing, leased_pairs, offer_ask, answer_ask, offer_unless, offer_to, answer_unless, answer_to, nothing_to_end, names_side, delete_of, query_of, answering, answering_asked, answering_unless, spelled}
+use Rattle.call_board.specs.Answers.{Answering, failing, ending_error, deleting, leased_pairs, offer_ask, answer_ask, offer_unless, offer_to, answer_unless, answer_to, nothing_to_end, names_side, delete_of, query_of, answering, answering_asked, answering_unless, spelled}
 use Rattle.call_board.specs.Fits.{FitsControl, answered_in}
 use Rattle.call_board.proofs.Fixed.{unless_out_of_memory}
 use Rattle.call_board.proofs.Tells.{leased_case, false_in}
@@ -29,7 +29,7 @@ use Rattle.relay_outside.specs.declared.ports.PortCall.{PortCall}
 use Rattle.board_laws.specs.Answers.{FailsNowhere, ComesFirst, IsSuccess, given_this, IsAnswered, well, failed, no_memory}
 use Rattle.board_laws.proofs.Answered.{act_of, bytes_of}
 use Rattle.board_laws.proofs.Commands.{planned}
-use Rattle.board_laws.proofs.First.{IsFirst, FailsFirst, asked_first, offer_first, answer_first}
+use Rattle.board_laws.proofs.First.{IsFirst, FailsFirst, asked_first, ending_first, offer_first, answer_first}
 
 -- a success with what was given, or an error that comes first, whatever is given
 data Ends (a : Given → Answering) (given : Given) : Type 0 where
@@ -71,7 +71,9 @@ offer_ends : (config : Config) (h : List BoardEntry) (id : List ℕ) (ask : Offe
     → Ends (λ g. offer_to config h g id ask found) given
 offer_ends config h id ask None given none = unless_ends config h ask (new_call h id) true [] (plan.offer_fault [] ask) (offer_first [] ask) given none
 offer_ends config h id ask (Some of) given none =
-    unless_ends config h ask of false (rounds h of.number) (plan.offer_fault (rounds h of.number) ask) (offer_first (rounds h of.number) ask) given none
+    let fault = plan.offer_fault (rounds h of.number) ask in
+    unless_ends config h ask of false (rounds h of.number) (or_else (ending_error (is_ending h of.number)) fault)
+    (ending_first (is_ending h of.number) fault (offer_first (rounds h of.number) ask)) given none
 
 -- Answers, deletes and queries.
 
@@ -83,19 +85,23 @@ replied_ends config ask of before None first given = succeeds tt
 answer_ends : (config : Config) (h : List BoardEntry) (ask : AnswerAsk) (found : Option Call) (given : Given) → Ends (λ g. answer_to config h ask found) given
 answer_ends config h ask None given = fails E9 tt (λ g. refl)
 answer_ends config h ask (Some of) given =
-    replied_ends config ask of (rounds h of.number) (plan.answer_fault (rounds h of.number) ask) (answer_first (rounds h of.number) ask) given
+    let fault = plan.answer_fault (rounds h of.number) ask in
+    replied_ends config ask of (rounds h of.number) (or_else (ending_error (is_ending h of.number)) fault)
+    (ending_first (is_ending h of.number) fault (answer_first (rounds h of.number) ask)) given
 
 missing_ends : (fatal : Bool) (code : ErrorCode) → ComesFirst code → (given : Given) → Ends (λ g. nothing_to_end fatal code) given
 missing_ends true code first given = fails code first (λ g. refl)
 missing_ends false code first given = succeeds tt
 
-named_ends : (of : Call) (fatal named : Bool) (given : Given) → Ends (λ g. cond named (record { reply = Done; act = act.Deleted of }) (nothing_to_end fatal E10)) given
-named_ends of fatal true given = succeeds tt
-named_ends of fatal false given = missing_ends fatal E10 tt given
+named_ends : (of : Call) (seconds : ℕ) (fatal named : Bool) (given : Given)
+    → Ends (λ g. cond named (record { reply = Done; act = deleting of seconds }) (nothing_to_end fatal E10)) given
+named_ends of seconds fatal true given = succeeds tt
+named_ends of seconds fatal false given = missing_ends fatal E10 tt given
 
-delete_ends : (h : List BoardEntry) (tag : Option (List ℕ)) (fatal : Bool) (found : Option Call) (given : Given) → Ends (λ g. delete_of h tag fatal found) given
-delete_ends h tag fatal None given = missing_ends fatal E9 tt given
-delete_ends h tag fatal (Some of) given = named_ends of fatal (names_side (rounds h of.number) tag) given
+delete_ends : (h : List BoardEntry) (tag : Option (List ℕ)) (fatal : Bool) (seconds : ℕ) (found : Option Call) (given : Given)
+    → Ends (λ g. delete_of h tag fatal seconds found) given
+delete_ends h tag fatal seconds None given = missing_ends fatal E9 tt given
+delete_ends h tag fatal seconds (Some of) given = named_ends of seconds fatal (names_side (rounds h of.number) tag) given
 
 query_ends : (h : List BoardEntry) (found : Option Call) (given : Given) → Ends (λ g. query_of h g found) given
 query_ends h None given = fails E9 tt (λ g. refl)
@@ -111,7 +117,7 @@ asked_ends config h c (Ok (said.Offer id from_tag sdp options)) first given none
     offer_ends config h id (offer_ask from_tag sdp options c.chosen) (find_call h id) given none
 asked_ends config h c (Ok (said.Answer id from_tag to_tag sdp options)) first given none =
     answer_ends config h (answer_ask from_tag to_tag sdp options c.chosen) (find_call h id) given
-asked_ends config h c (Ok (said.Delete id from_tag fatal)) first given none = delete_ends h from_tag fatal (find_call h id) given
+asked_ends config h c (Ok (said.Delete id from_tag fatal seconds)) first given none = delete_ends h from_tag fatal seconds (find_call h id) given
 asked_ends config h c (Ok (said.Query id)) first given none = query_ends h (find_call h id) given
 asked_ends config h c (Ok (said.Listing limit)) first given none = succeeds tt
 
@@ -142,7 +148,7 @@ unanswered_asked config h c d (Ok (said.Offer id from_tag sdp options)) chosen g
     ∙ ap (λ (g : Given). offer_to config h g id (offer_ask from_tag sdp options d.chosen) (find_call h id)) given
 unanswered_asked config h c d (Ok (said.Answer id from_tag to_tag sdp options)) chosen given =
     ap (λ (xs : List (Option CryptoLine)). answer_to config h (answer_ask from_tag to_tag sdp options xs) (find_call h id)) chosen
-unanswered_asked config h c d (Ok (said.Delete id from_tag fatal)) chosen given = refl
+unanswered_asked config h c d (Ok (said.Delete id from_tag fatal seconds)) chosen given = refl
 unanswered_asked config h c d (Ok (said.Query id)) chosen given = ap (λ (g : Given). query_of h g (find_call h id)) given
 unanswered_asked config h c d (Ok (said.Listing limit)) chosen given = refl
 

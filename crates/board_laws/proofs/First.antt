@@ -30,6 +30,7 @@ use Rattle.offer_answer.specs.Sides.{MadeOffer, last_offer, is_some_sides}
 use Rattle.offer_answer.specs.Sections.{active_sections, all_sections, section_count, committed_count}
 use Rattle.offer_answer.specs.Faults.{is_strangers, lacks_line, may_answer, takes_no_line, fault_of_answer_to}
 use Rattle.offer_answer.specs.Plan.{offer_fault, answer_fault}
+use Rattle.call_board.specs.Answers.{ending_error}
 use Rattle.call_board.specs.Requests.{or_code, code_if, v6_error, sdp_error, description_error, unless, asked_by, asked}
 use Rattle.board_laws.specs.Answers.{ComesFirst}
 
@@ -97,7 +98,7 @@ described_first : (config : Config) (says : Said) → IsFirst (description_error
 described_first config said.Ping = tt
 described_first config (said.Offer call_id from_tag sdp options) = sdp_first config sdp
 described_first config (said.Answer call_id from_tag to_tag sdp options) = sdp_first config sdp
-described_first config (said.Delete call_id from_tag fatal) = tt
+described_first config (said.Delete call_id from_tag fatal seconds) = tt
 described_first config (said.Query call_id) = tt
 described_first config (said.Listing limit) = tt
 
@@ -142,6 +143,11 @@ by_cases code p true fewer lacks = p
 by_cases code p false true lacks = tt
 by_cases code p false false true = tt
 by_cases code p false false false = tt
+
+-- the call is ending, or an error comes first
+pub ending_first : (ending : Bool) (fault : Option ErrorCode) → IsFirst fault → IsFirst (words.or_else (ending_error ending) fault)
+ending_first true fault p = tt
+ending_first false fault p = p
 
 -- an error of an offer
 pub offer_first : (before : List Round) (ask : OfferAsk) → IsFirst (offer_fault before ask)

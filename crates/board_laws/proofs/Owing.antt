@@ -21,7 +21,7 @@ module _ (config : Config) (h : List BoardEntry) (now : ℕ) (c d : Control) (gi
   reading_same (Ok Ping) = refl
   reading_same (Ok (Offer id from sdp options)) = refl
   reading_same (Ok (Answer id from to sdp options)) = refl
-  reading_same (Ok (Delete id from fatal)) = refl
+  reading_same (Ok (Delete id from fatal seconds)) = refl
   reading_same (Ok (Listing limit)) = refl
   reading_same (Err code) = refl
 
@@ -36,6 +36,7 @@ module _ (config : Config) (h : List BoardEntry) (now : ℕ) (c d : Control) (gi
   by_act asks (act.Deleted of) = ap (λ (ws : List Owed). in_cell of End ∷ ws) (closings_same of)
   by_act asks (act.Queried of) = ap (λ (g : Given). reading (Some of) g.report) given
   by_act asks act.Told = refl
+  by_act asks (act.Delayed of s) = refl
 
   pub scripts_same : asked config c.too_long c.pairs ≡ asked config d.too_long d.pairs → script config h (turn_entry now c) ≡ script config h (turn_entry now d)
   scripts_same asks = by_act asks c.act ∙ ap (script_of_act config h (turn_entry now d) d) same

@@ -46,8 +46,8 @@ pub fn dialects_are_one()
 {}
 
 /// Theorem (no run-time code): a datagram with a frame, for which no reply is kept, is answered: where memory did not run out, and no port and no
-/// key failed, with the success that is due, or with one of the errors that come before the devices (E1 to E14 and E18, so no E15, E16 or E17), which
-/// it would get whatever these return; and where memory ran out with the error that says so (E17).
+/// key failed, with the success that is due, or with one of the errors that come before the devices (E1 to E14, E18 and E19, so no E15, E16 or E17),
+/// which it would get whatever these return; and where memory ran out with the error that says so (E17).
 ///
 /// A port or a key can have failed only where a count of faults rose: `counted` says it so, of a turn whose entry says what the devices told.
 /// When each error comes, and which success is due, is what `answering` says (`call_board/specs/Answers.antt`).

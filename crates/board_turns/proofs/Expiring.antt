@@ -1,6 +1,6 @@
--- A call that is asked whether it is due may still be ended.
-use Rattle.std.proofs.Common.{◌≡◌, ◌∙◌, refl, sym, ap, subst, ℕ, zero, suc, max, ◌<◌, ◌≤◌, Bool, false, cond, List, [], ◌∷◌, ◌++◌, Option, Some, map, filter, length, arith}
-use Rattle.std.specs.Prelude.{slice_get}
+-- A call that is asked whether it has timed out may still be ended.
+use Rattle.std.proofs.Common.{◌≡◌, ◌∙◌, refl, sym, ap, subst, ℕ, zero, suc, max, ◌<◌, ◌≤◌, Bool, true, false, cond, List, [], ◌∷◌, ◌++◌, Option, Some, map, filter, length, arith}
+use Rattle.std.specs.Prelude.{slice_get, if◌then◌else◌}
 use Rattle.std.specs.List.{filter_map, cons_option}
 use Rattle.std.proofs.lemmas.List.Elements.{filter-append, filter_map-append}
 use Rattle.relay_outside.specs.declared.ports.PortCall.{PortCall}
@@ -24,8 +24,10 @@ use Rattle.call_cell.proofs.Nested.{legs_kept}
 use Rattle.call_cell.proofs.NewKeys.{brings_same}
 use Rattle.call_board.specs.Acts.{Call}
 use Rattle.call_board.specs.declared.board.Board.{Board}
-use Rattle.call_board.specs.Views.{View, CallView}
-use Rattle.call_board.specs.Boards.{BoardMatches}
+use Rattle.call_board.specs.Calls.{is_due_by}
+use Rattle.call_board.specs.Views.{View, CallView, call_numbered}
+use Rattle.call_board.specs.Boards.{BoardMatches, IsLive}
+use Rattle.call_board.proofs.Found.{found_is_live}
 use Rattle.relay_core.specs.Entries as event
 use Rattle.relay_core.specs.Entries.{Event, Cell, Box, Entry, is_at, cell_at, cell_entry, cell_history, history, box_of}
 use Rattle.relay_core.specs.Scripts.{Owed, owed_by}
@@ -110,26 +112,29 @@ still_can config l ns board log call of its can passes apart =
       are_held = can.are_held;
     }
 
--- The question as a step.
+-- The question as a step, before the end of a call: one that is overdue isn't asked.
 
-only_one : (w : Owed) (ns : List Entry) → map owed_by ns ≡ w ∷ [] → (x : Entry) → In x ns → owed_by x ≡ w
-only_one w ns owes x i = by_case (subst (λ (ws : List Owed). In (owed_by x) ws) owes (maps owed_by ns i))
-  where
-    by_case : In (owed_by x) (w ∷ []) → owed_by x ≡ w
-    by_case (here q) = q
-    by_case (there j) = elim j [ ]
+abbrev pub question : (cell : ℕ) (overdue : Bool) → List Owed
+question cell overdue = if overdue then [] else in_cell_of cell (Expire true) ∷ []
+
+in_question : (cell : ℕ) (overdue : Bool) (w : Owed) → In w (question cell overdue) → w ≡ in_cell_of cell (Expire true)
+in_question cell true w i = elim i [ ]
+in_question cell false w (here q) = q
+in_question cell false w (there j) = elim j [ ]
+
+only_asked : (cell : ℕ) (overdue : Bool) (ns : List Entry) → map owed_by ns ≡ question cell overdue → (x : Entry) → In x ns → owed_by x ≡ in_cell_of cell (Expire true)
+only_asked cell overdue ns owes x i = in_question cell overdue (owed_by x) (subst (λ (ws : List Owed). In (owed_by x) ws) owes (maps owed_by ns i))
 
 module _ {M S T : Type 0} {g : _} where
-  pub asked_can : (config : Config) (number moment cell : ℕ) (due : Bool) (old new : Hand M S Made T g) (board : Board) (log : Option (List PortCall)) (call : ℕ) (of : Call) (legs : List Holder)
+  pub asked_can : (config : Config) (number moment cell : ℕ) (overdue : Bool) (old new : Hand M S Made T g) (board : Board) (log : Option (List PortCall)) (call : ℕ) (of : Call) (legs : List Holder)
       → CanEnd config (made_by old) board log of.number of legs → call ≡ of.number → cell ≡ of.cell
-      → GainsNested number moment (in_cell_of cell (Expire due) ∷ []) old new → CanEnd config (made_by new) board log call of legs
-  asked_can config number moment cell due old new board log call of legs can call_is cell_is gains =
-      let w = in_cell_of cell (Expire due) in
+      → GainsNested number moment (question cell overdue) old new → CanEnd config (made_by new) board log call of legs
+  asked_can config number moment cell overdue old new board log call of legs can call_is cell_is gains =
       let ns = list_of gains.rows in
-      let is = only_one w ns gains.gained.owes in
+      let is = only_asked cell overdue ns gains.gained.owes in
       let high = can.high in
       subst (λ (k : ℕ). CanEnd config (made_by new) board log k of legs) (sym call_is)
-      (subst (λ (l : List Entry). CanEnd config l board log of.number of legs) (sym (list_gained number moment (w ∷ []) old new gains))
+      (subst (λ (l : List Entry). CanEnd config l board log of.number of legs) (sym (list_gained number moment (question cell overdue) old new gains))
       (still_can config (made_by old) ns board log of.number of legs can (λ x i p. ap (λ (v : Owed). lasts v.event) (is x i))
       (λ x i pair p. let place = ap (λ (v : Owed). v.place) (is x i) in omega (arith, place, cell_is, high, p))))
 
@@ -180,7 +185,8 @@ below [] i x at = absurd (let q = at in cc)
 below (y ∷ ys) zero x at = omega arith
 below (y ∷ ys) (suc i) x at = let rest = below ys i x at in omega (arith, rest)
 
-module _ (config : Config) (l : List Entry) (board : Board) (log : Option (List PortCall)) (index : ℕ) (of : Call) (legs : List Holder) (asks : CanExpire config l board log index of legs) where
+module _ (config : Config) (l : List Entry) (board : Board) (log : Option (List PortCall)) (moment index : ℕ) (of : Call) (legs : List Holder) (overdue : Bool)
+    (asks : CanExpire config l board log moment index of legs overdue) where
   pub index_below : index < length board.calls.list
   index_below =
       let long = calls_long config board.calls.list asks.view.calls asks.shows.calls_for in
@@ -198,6 +204,20 @@ module _ (config : Config) (l : List Entry) (board : Board) (log : Option (List 
       let found : Some asks.seen.of.cell ≡ Some cell = sym (get_map (λ (c : CallView). c.of.cell) asks.view.calls index asks.seen asks.at) ∙ answers config asks.view asks.shows in
       let same : asks.seen.of.cell ≡ cell = cc in
       sym same ∙ ap (λ (c : Call). c.cell) asks.of_is
+
+  found_there : (call : ℕ) → ((config : Config) (v : View) → BoardMatches config board v → slice_get (map (λ (c : CallView). c.of.number) v.calls) index ≡ Some call)
+      → call_numbered asks.view call ≡ Some asks.seen
+  found_there call answers = ap (call_numbered asks.view) (number_there call answers) ∙ asks.found
+
+  -- it is a live call of the board
+  pub live_there : (call : ℕ) → ((config : Config) (v : View) → BoardMatches config board v → slice_get (map (λ (c : CallView). c.of.number) v.calls) index ≡ Some call)
+      → IsLive board call
+  live_there call answers = found_is_live config board asks.view call asks.seen asks.shows (found_there call answers)
+
+  -- and what the board says of it is so
+  pub overdue_there : (call : ℕ) (said : Bool) → ((config : Config) (v : View) → BoardMatches config board v → slice_get (map (λ (c : CallView). c.of.number) v.calls) index ≡ Some call)
+      → ((config : Config) (v : View) (c : CallView) → BoardMatches config board v → call_numbered v call ≡ Some c → said ≡ is_due_by moment c.due) → said ≡ overdue
+  overdue_there call said answers is = is config asks.view asks.seen asks.shows (found_there call answers) ∙ sym asks.overdue_is
 
 -- Nothing leaves by a question.
 pub nothing_parts : (cell : ℕ) (due : Bool) (owed : Owed) → In owed (in_cell_of cell (Expire due) ∷ []) → NothingLeaves owed.event

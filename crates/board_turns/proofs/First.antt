@@ -1,5 +1,5 @@
 -- What a list without an entry says of each place, and of what comes first.
-use Rattle.std.proofs.Common.{◌≡◌, refl, sym, ◌∙◌, ap, subst, ℕ, zero, suc, List, [], ◌∷◌, ◌++◌, arith}
+use Rattle.std.proofs.Common.{◌≡◌, refl, sym, ◌∙◌, ap, subst, ℕ, zero, suc, List, [], ◌∷◌, arith}
 use Rattle.std.specs.List.{AllPairs, filter_map}
 use Rattle.relay_outside.specs.declared.ports.OutCall.{OutCall}
 use Rattle.relay_outside.specs.declared.settings.Config.{Config}

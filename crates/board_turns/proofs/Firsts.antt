@@ -6,7 +6,6 @@ use Rattle.turn_table.specs.declared.machine.Entry as table
 use Rattle.turn_table.specs.declared.hands.Turns.{Turns}
 use Rattle.turn_table.specs.declared.hands.Hand.{Hand}
 use Rattle.turn_table.specs.Hands.{IsHandOf, IsFirstHand, entries}
-use Rattle.call_board.specs.Pairs.{held}
 use Rattle.relay_core.specs.declared.part.Part.{Part}
 use Rattle.relay_core.specs.Entries.{Entry}
 use Rattle.relay_core.specs.Records.{Made, list_of}

@@ -14,6 +14,7 @@ pub mod Next
 pub mod StayHeld
 pub mod CloseAfter
 pub mod Deleted
+pub mod Delayed
 pub mod Stopped
 pub mod Betweens
 pub mod MainHands
@@ -25,6 +26,7 @@ pub mod Tying
 pub mod Staying
 pub mod Answered
 pub mod Expiring
+pub mod Overdue
 pub mod Ticked
 pub mod TickTurns
 pub mod ReadCalls

@@ -47,6 +47,7 @@ plain_idle act.Repeated t = refl
 plain_idle act.OutOfMemory t = refl
 plain_idle (act.Failed code) t = refl
 plain_idle act.Told t = refl
+plain_idle (act.Delayed of seconds) t = absurd (let k : false ≡ true = t in cc)
 plain_idle (act.Undone code leases draws) t = absurd (let k : false ≡ true = t in cc)
 plain_idle (act.Offered o) t = absurd (let k : false ≡ true = t in cc)
 plain_idle (act.Answered a) t = absurd (let k : false ≡ true = t in cc)
@@ -63,7 +64,7 @@ no_reading h c (Err code) none = refl
 no_reading h c (Ok said.Ping) none = refl
 no_reading h c (Ok (said.Offer id from_tag sdp options)) none = refl
 no_reading h c (Ok (said.Answer id from_tag to_tag sdp options)) none = refl
-no_reading h c (Ok (said.Delete id from_tag fatal)) none = refl
+no_reading h c (Ok (said.Delete id from_tag fatal seconds)) none = refl
 no_reading h c (Ok (said.Query id)) none = ap (reading (find_call h id)) none ∙ nothing_read (find_call h id)
 no_reading h c (Ok (said.Listing limit)) none = refl
 
@@ -73,6 +74,7 @@ owes_nothing config h e c act.Repeated none t = refl
 owes_nothing config h e c act.OutOfMemory none t = no_reading h c (asked config c.too_long c.pairs) none
 owes_nothing config h e c (act.Failed code) none t = refl
 owes_nothing config h e c act.Told none t = refl
+owes_nothing config h e c (act.Delayed of seconds) none t = absurd (let k : false ≡ true = t in cc)
 owes_nothing config h e c (act.Undone code leases draws) none t = absurd (let k : false ≡ true = t in cc)
 owes_nothing config h e c (act.Offered o) none t = absurd (let k : false ≡ true = t in cc)
 owes_nothing config h e c (act.Answered a) none t = absurd (let k : false ≡ true = t in cc)
@@ -84,6 +86,7 @@ acts_nothing h e act.Repeated v t = refl
 acts_nothing h e act.OutOfMemory v t = refl
 acts_nothing h e (act.Failed code) v t = refl
 acts_nothing h e act.Told v t = refl
+acts_nothing h e (act.Delayed of seconds) v t = absurd (let k : false ≡ true = t in cc)
 acts_nothing h e (act.Undone code leases draws) v t = absurd (let k : false ≡ true = t in cc)
 acts_nothing h e (act.Offered o) v t = absurd (let k : false ≡ true = t in cc)
 acts_nothing h e (act.Answered a) v t = absurd (let k : false ≡ true = t in cc)

@@ -53,6 +53,7 @@ gives_plain d given act.Repeated t nothing none fed = (nothing, none, fed)
 gives_plain d given act.OutOfMemory t nothing none fed = nothing
 gives_plain d given (act.Failed code) t nothing none fed = (nothing, none)
 gives_plain d given act.Told t nothing none fed = (nothing, none)
+gives_plain d given (act.Delayed of seconds) t nothing none fed = absurd (let k : false ≡ true = t in cc)
 gives_plain d given (act.Undone code leases draws) t nothing none fed = absurd (let k : false ≡ true = t in cc)
 gives_plain d given (act.Offered o) t nothing none fed = absurd (let k : false ≡ true = t in cc)
 gives_plain d given (act.Answered a) t nothing none fed = absurd (let k : false ≡ true = t in cc)

@@ -32,7 +32,7 @@ use Rattle.relay_core.specs.Turns.{made_by}
 use Rattle.relay_core.proofs.Histories.{good_history}
 use Rattle.relay_core.proofs.Turns.{nothing_more}
 use Rattle.board_turns.specs.Between.{board_of, IsBetween}
-use Rattle.board_turns.specs.Ticks.{EndsDue, tick_at, tick_entry, tick_made, AreDue, IsDueBy}
+use Rattle.board_turns.specs.Ticks.{EndsDue, EndsRightly, tick_at, tick_entry, tick_made, AreDue}
 use Rattle.board_turns.proofs.Stopped.{views_numbers}
 use Rattle.board_turns.proofs.Ticked.{same_truth}
 use Rattle.board_turns.proofs.StopTurns.{moved, stood}
@@ -102,7 +102,7 @@ module _ {M I O T : Type 0} {g : _} where
     same_history : board_history (made_by nested) (front_of turn) ≡ board_history (made_by mid) (front_of turn)
     same_history =
         let h = board_history (made_by mid) (front_of turn) in
-        nested_history config mid nested (front_of turn) (max now (board_last_moment h)) (front_of turn) (tick_entry h now calls) begins.orderly ends.named ends.gained
+        nested_history config mid nested (front_of turn) (max now (board_last_moment h)) (front_of turn) (tick_entry h now calls) begins.orderly (ends.named, ends.none_passed) ends.gained
 
     pub made_is : made_after nested (front_of turn) now x ≡ tick_made (board_history (made_by mid) (front_of turn)) now calls
     made_is =
@@ -116,7 +116,7 @@ module _ {M I O T : Type 0} {g : _} where
     tick_relates it ic ot oc old was =
         let h = board_history (made_by mid) (front_of turn) in
         subst (λ (m : Made). Relates it ic ot oc old m x) (sym made_is)
-        (relates_put it ic ot oc config h old x (tick_made h now calls) (Tick calls) refl refl was refl ends.named stands)
+        (relates_put it ic ot oc config h old x (tick_made h now calls) (Tick calls) refl refl was refl (ends.named, ends.none_passed) stands)
 
     -- the tick's entry was put
     pub tick_ends : (old new : Hand M (Part I O) Made T g) (outcome : T) → IsBetween config turns old → IsSameHand old mid × (entries mid ≡ entries old) → GainsTurn 0 turn old mid
@@ -127,7 +127,7 @@ module _ {M I O T : Type 0} {g : _} where
         let h = board_history (made_by mid) (front_of turn) in
         subst (λ (k : List BoardEntry). Ended config turns old new (tick_entry k now calls)) (begins_whole config turns old mid turn same.1 begins)
         (turn_ends config turns old mid nested new turn (tick_made h now calls) outcome (Tick calls) (max now (board_last_moment h)) b same turned begins.above sames ends.gained refl refl refl
-        ends.named again (subst (λ (m : Made). EndsTurn (place_of turn) (front_of turn) m outcome nested new) made_is ended))
+        (ends.named, ends.none_passed) again (subst (λ (m : Made). EndsTurn (place_of turn) (front_of turn) m outcome nested new) made_is ended))
 
   -- what is known when the board's turn was taken for a tick, which goes on with this number and moment
   pub record TickBegins (config : Config) (mid : Hand M (Part I O) Made T g) (turn : Turn M (Part I O) Made T) (number moment now : ℕ) : Type 0 where
@@ -158,7 +158,7 @@ module _ {M I O T : Type 0} {g : _} where
       × BoardFor config new (tick_at moment calls ∷ board_history (made_by mid) k)) b.number_is ends in
       let at = subst (λ (m : ℕ). (calls : List Call) × EndsDue config h (front_of turn) m mid nested count log calls × BoardFor config new (tick_at m calls ∷ h)) b.moment_is there in
       let owed = subst (λ (hand : Hand M (Part I O) Made T g). EndsDue config h (front_of turn) (max now (board_last_moment h)) mid hand count log at.0) same at.1 in
-      (at.0, owed, ((at.1.named, b.fits), at.2))
+      (at.0, owed, (((at.1.named, at.1.none_passed), b.fits), at.2))
 
   -- which calls are due is said of the hand before its turn
   pub due_before_turn : (config : Config) (old mid : Hand M (Part I O) Made T g) (n now : ℕ) (calls : List Call) → IsSameHand old mid → entries mid ≡ entries old
@@ -168,4 +168,5 @@ module _ {M I O T : Type 0} {g : _} where
   due_before_turn config old mid n now calls same list whole due all c i =
       let moment = max now (board_last_moment (board_of (made_by old))) in
       let by = subst (λ (h : List BoardEntry). AreDue config h (max now (board_last_moment h)) mid calls) whole due in
-      subst (λ (rows : List (table.Entry Made T)). IsDueBy config (list_of rows) c.cell moment (has (map (λ (d : Call). d.number) calls) c.number)) list (by (same.2 ∙ all) c i)
+      subst (λ (rows : List (table.Entry Made T)). EndsRightly config (board_of (made_by old)) (list_of rows) moment c (has (map (λ (d : Call). d.number) calls) c.number)) list
+      (by (same.2 ∙ all) c i)

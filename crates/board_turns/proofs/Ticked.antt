@@ -1,4 +1,4 @@
--- The live calls in order, of which those up to a number have been asked, and those that were due have ended.
+-- The live calls in order, of which those up to a number have been asked or found overdue, and those that were due have ended.
 use Rattle.std.proofs.Common.{◌≡◌, ◌∙◌, refl, sym, ap, subst, ℕ, zero, suc, ◌+◌, ◌⊎◌, inl, inr, ◌≤◌, Bool, true, false, cond, not, List, [], ◌∷◌, ◌++◌, Option, Some, filter, take, drop, length, length-append, arith}
 use Rattle.std.proofs.Math.Seq.{take-length}
 use Rattle.std.proofs.lemmas.List.{length-map, map-append, take-map, take-append-drop}
@@ -15,15 +15,15 @@ use Rattle.histories.proofs.Lists.{in_append, spread, maps, mapped, spreads, kee
 use Rattle.port_pool.specs.declared.holder.Holder.{Holder}
 use Rattle.call_cell.specs.Cells.{Expire, End}
 use Rattle.call_board.specs.Acts.{Call, BoardEntry}
-use Rattle.call_board.specs.Calls.{live}
+use Rattle.call_board.specs.Calls.{live, is_due_at}
 use Rattle.call_board.specs.Pairs.{Once, held, closed_of, closes_leg}
-use Rattle.call_board.specs.Fits.{IsFitting, named_live}
+use Rattle.call_board.specs.Fits.{IsFitting, named_live, AreNamedWhenDue}
 use Rattle.call_board.specs.declared.board.Board.{Board}
 use Rattle.call_board.specs.Views.{View, CallView, call_view, view_of, view_at_moment, board_last_moment}
 use Rattle.call_board.specs.Boards.{BoardFor, BoardMatches, CellsApart}
 use Rattle.call_board.specs.Whole.{with_ended}
 use Rattle.call_board.proofs.Entries.{ended_more, entry_stands}
-use Rattle.call_board.proofs.Found.{ended_calls, cells_while_ending}
+use Rattle.call_board.proofs.Found.{ended_calls, cells_while_ending, found_while_ending}
 use Rattle.call_board.proofs.Free.{held_once}
 use Rattle.call_board.proofs.FreeAfter.{live_once, once_taken}
 use Rattle.call_board.proofs.Held.{closed_of_held, closes_held}
@@ -33,7 +33,7 @@ use Rattle.relay_core.specs.declared.part.Part.{Part}
 use Rattle.relay_core.specs.Entries.{Entry, board_history, box_of}
 use Rattle.relay_core.specs.Legal.{Orderly}
 use Rattle.relay_core.specs.Records.{Made, list_of}
-use Rattle.relay_core.specs.Scripts.{Owed, in_cell, ending, expiring, script}
+use Rattle.relay_core.specs.Scripts.{Owed, in_cell, ending, asking, expiring, script}
 use Rattle.relay_core.specs.Turns.{IsAbove, GainsNested, made_by}
 use Rattle.relay_core.proofs.Histories.{good_history}
 use Rattle.relay_core.proofs.Turns.{filter_append, nothing_more}
@@ -43,9 +43,9 @@ use Rattle.board_turns.specs.declared.board_turn.BoardEntryId.{BoardEntryId}
 use Rattle.board_turns.proofs.Nesting.{gains_more}
 use Rattle.board_turns.specs.Acts.{InTurn}
 use Rattle.board_turns.specs.Closings.{pairs_left}
-use Rattle.board_turns.specs.CallEnds.{CanEnd, leg_pairs}
+use Rattle.board_turns.specs.CallEnds.{CanEnd, ending_of, leg_pairs}
 use Rattle.board_turns.specs.Stops.{stop_entry, still_held}
-use Rattle.board_turns.specs.Ticks.{CanExpire, EndsDue, asking_of, tick_at, with_asked, IsDueBy}
+use Rattle.board_turns.specs.Ticks.{CanExpire, EndsDue, EndsRightly, IsDueBy, asking_of, tick_at, with_asked}
 use Rattle.board_turns.proofs.Answered.{asked_of, due_of, numbers_of, asked_more, due_more, is_asked, is_due, named, sieve, left_count, spread_asked}
 use Rattle.board_turns.proofs.Closed.{list_gained, placed_by, gains_nothing}
 use Rattle.board_turns.proofs.Expiring.{below, due_before}
@@ -54,19 +54,20 @@ use Rattle.board_turns.proofs.Next.{next_among, cell_case, box_case}
 use Rattle.board_turns.proofs.StayHeld.{stay_left}
 use Rattle.board_turns.proofs.Stopped.{get_map, in_at, in_taken, not_yet, spread_more}
 
--- what is owed for a call, by its answer
-abbrev pub asking : Config → List BoardEntry → Call × Bool → List Owed
-asking config h a = asking_of config a.0 (closed_of h (stop_entry h) a.0) a.1
+-- what is owed for a call at this moment, by whether it ends
+abbrev pub owed_for : Config → List BoardEntry → ℕ → Call × Bool → List Owed
+owed_for config h moment a = asking_of config a.0 (closed_of h (stop_entry h) a.0) (is_due_at h a.0.number moment) a.1
 
 module _ {M I O T : Type 0} {g : _} where
   pub record Asked (config : Config) (h : List BoardEntry) (number moment : ℕ) (old now : Hand M (Part I O) Made T g) (board : Board) (log : Option (List PortCall)) (asked ended : ℕ) : Type 0 where
     pub answers : List (Call × Bool)
     pub are : asked_of answers ≡ take asked (live h)
     pub count : length (due_of answers) ≡ ended
-    pub gained : GainsNested number moment (flat_map (asking config h) answers) old now
+    pub gained : GainsNested number moment (flat_map (owed_for config h moment) answers) old now
     pub shows : BoardMatches config board (with_ended h (stop_entry h) (due_of answers) (view_at_moment (view_of config h) moment))
     pub opens : WhereLogged log (λ calls. OpensHeld config calls (still_held h (stop_entry h) (due_of answers)))
-    pub due : parts old ≡ 1024 → (a : Call × Bool) → In a answers → IsDueBy config (made_by old) a.0.cell moment a.1
+    pub overdue : (a : Call × Bool) → In a answers → is_due_at h a.0.number moment ≡ true → a.1 ≡ true
+    pub timed_out : parts old ≡ 1024 → (a : Call × Bool) → In a answers → is_due_at h a.0.number moment ≡ false → IsDueBy config (made_by old) a.0.cell moment a.1
 
 -- Where the next call stands.
 
@@ -90,25 +91,42 @@ sieved_at {A} q xs i x at passes =
 
 -- Which entries stand elsewhere.
 
-in_ending : (config : Config) (h : List BoardEntry) (c : Call) (due : Bool) (w : Owed)
-    → In w (if due then ending config h (stop_entry h) c else []) → In w (ending config h (stop_entry h) c)
+in_ending : (config : Config) (h : List BoardEntry) (c : Call) (ends : Bool) (w : Owed)
+    → In w (if ends then ending config h (stop_entry h) c else []) → In w (ending config h (stop_entry h) c)
 in_ending config h c true w i = i
 in_ending config h c false w i = elim i [ ]
 
-asked_cell : (config : Config) (h : List BoardEntry) (gone : List Call) (of : Call) (a : Call × Bool) → IsFitting config h → In of (live h) → In a.0 gone → In a.0 (live h)
-    → (In of.number (numbers_of gone) → ⊥) → (w : Owed) → In w (asking config h a) → w.place ≡ of.cell → ⊥
-asked_cell config h gone of a fits alive i living out w (here q) at =
-    cell_case config h (stop_entry h) gone of a.0 fits alive i living out (in_cell a.0 End) (here refl) (sym (ap (λ (v : Owed). v.place) q) ∙ at)
-asked_cell config h gone of a fits alive i living out w (there j) at =
-    cell_case config h (stop_entry h) gone of a.0 fits alive i living out w (in_ending config h a.0 a.1 w j) at
+-- what is owed for a call is the question, or a part of its end
+in_owed : (config : Config) (h : List BoardEntry) (c : Call) (overdue ends : Bool) (w : Owed) → In w (asking_of config c (closed_of h (stop_entry h) c) overdue ends)
+    → (w ≡ in_cell c (Expire ends)) ⊎ In w (ending config h (stop_entry h) c)
+in_owed config h c true ends w i = inr i
+in_owed config h c false ends w (here q) = inl q
+in_owed config h c false ends w (there j) = inr (in_ending config h c ends w j)
 
-asked_box : (config : Config) (l : List Entry) → Orderly config l → (n : ℕ) (gone : List Call) (of : Call) (a : Call × Bool) (leg : Holder) → In a.0 gone
+asked_cell_by : (config : Config) (h : List BoardEntry) (gone : List Call) (of : Call) (a : Call × Bool) → IsFitting config h → In of (live h) → In a.0 gone → In a.0 (live h)
+    → (In of.number (numbers_of gone) → ⊥) → (w : Owed) → (w ≡ in_cell a.0 (Expire a.1)) ⊎ In w (ending config h (stop_entry h) a.0) → w.place ≡ of.cell → ⊥
+asked_cell_by config h gone of a fits alive i living out w (inl q) at =
+    cell_case config h (stop_entry h) gone of a.0 fits alive i living out (in_cell a.0 End) (here refl) (sym (ap (λ (v : Owed). v.place) q) ∙ at)
+asked_cell_by config h gone of a fits alive i living out w (inr j) at = cell_case config h (stop_entry h) gone of a.0 fits alive i living out w j at
+
+asked_cell : (config : Config) (h : List BoardEntry) (moment : ℕ) (gone : List Call) (of : Call) (a : Call × Bool) → IsFitting config h → In of (live h) → In a.0 gone → In a.0 (live h)
+    → (In of.number (numbers_of gone) → ⊥) → (w : Owed) → In w (owed_for config h moment a) → w.place ≡ of.cell → ⊥
+asked_cell config h moment gone of a fits alive i living out w k at =
+    asked_cell_by config h gone of a fits alive i living out w (in_owed config h a.0 (is_due_at h a.0.number moment) a.1 w k) at
+
+asked_box_by : (config : Config) (l : List Entry) → Orderly config l → (n : ℕ) (gone : List Call) (of : Call) (a : Call × Bool) (leg : Holder) → In a.0 gone
     → In a.0 (live (board_history l n)) → (In of.number (numbers_of gone) → ⊥) → In leg (closed_of (board_history l n) (stop_entry (board_history l n)) of)
-    → (w : Owed) → In w (asking config (board_history l n) a) → w.place ≡ box_of config leg.pair → ⊥
-asked_box config l o n gone of a leg i living out k w (here q) at =
+    → (w : Owed) → (w ≡ in_cell a.0 (Expire a.1)) ⊎ In w (ending config (board_history l n) (stop_entry (board_history l n)) a.0) → w.place ≡ box_of config leg.pair → ⊥
+asked_box_by config l o n gone of a leg i living out k w (inl q) at =
     box_case config l o n (stop_entry (board_history l n)) gone of a.0 leg i living out k (in_cell a.0 End) (here refl) (sym (ap (λ (v : Owed). v.place) q) ∙ at)
-asked_box config l o n gone of a leg i living out k w (there j) at =
-    box_case config l o n (stop_entry (board_history l n)) gone of a.0 leg i living out k w (in_ending config (board_history l n) a.0 a.1 w j) at
+asked_box_by config l o n gone of a leg i living out k w (inr j) at =
+    box_case config l o n (stop_entry (board_history l n)) gone of a.0 leg i living out k w j at
+
+asked_box : (config : Config) (l : List Entry) → Orderly config l → (n moment : ℕ) (gone : List Call) (of : Call) (a : Call × Bool) (leg : Holder) → In a.0 gone
+    → In a.0 (live (board_history l n)) → (In of.number (numbers_of gone) → ⊥) → In leg (closed_of (board_history l n) (stop_entry (board_history l n)) of)
+    → (w : Owed) → In w (owed_for config (board_history l n) moment a) → w.place ≡ box_of config leg.pair → ⊥
+asked_box config l o n moment gone of a leg i living out k w j at =
+    asked_box_by config l o n gone of a leg i living out k w (in_owed config (board_history l n) a.0 (is_due_at (board_history l n) a.0.number moment) a.1 w j) at
 
 -- What the cells of live calls returned.
 
@@ -176,7 +194,8 @@ module _ {M I O T : Type 0} {g : _} where
         gained = gains_nothing entry_id.number entry_id.moment hand;
         shows = turn.shows;
         opens = told_alike config log (leg_pairs (held h)) (pairs_left [] (leg_pairs (held h))) (left_none (leg_pairs (held h))) turn.opens;
-        due = λ all a i. elim i [ ];
+        overdue = λ a i. elim i [ ];
+        timed_out = λ all a i. elim i [ ];
       }
     where
       no_calls : (calls : List Call) → [] ≡ take 0 calls
@@ -192,16 +211,17 @@ module _ {M I O T : Type 0} {g : _} where
       let h = board_history (made_by old) number in
       let fits = good_history config (made_by old) o number in
       let answers = asked.answers in
-      placed_by (flat_map (asking config h) answers) (list_of asked.gained.rows) of.cell asked.gained.gained.owes
-      (λ w k. let s = spread (asking config h) answers k in
-      asked_cell config h (asked_of answers) of s.from fits (in_at (live h) i of at) (maps (λ (a : Call × Bool). a.0) answers s.is_in) (asked_alive h answers i asked.are s.is_in)
+      placed_by (flat_map (owed_for config h moment) answers) (list_of asked.gained.rows) of.cell asked.gained.gained.owes
+      (λ w k. let s = spread (owed_for config h moment) answers k in
+      asked_cell config h moment (asked_of answers) of s.from fits (in_at (live h) i of at) (maps (λ (a : Call × Bool). a.0) answers s.is_in) (asked_alive h answers i asked.are s.is_in)
       (λ j. not_yet config h i of fits at (subst (λ (cs : List Call). In of.number (numbers_of cs)) asked.are j)) w s.has_it)
 
   -- the next one may be asked
   pub next_asks : (config : Config) (number moment : ℕ) (old now : Hand M (Part I O) Made T g) (board : Board) (log : Option (List PortCall)) (i ended index : ℕ) (of : Call)
       → Orderly config (made_by old) → IsAbove (made_by old) 0 number → slice_get (live (board_history (made_by old) number)) i ≡ Some of
       → Asked config (board_history (made_by old) number) number moment old now board log i ended → index + ended ≡ i
-      → CanExpire config (made_by now) board log index of (closed_of (board_history (made_by old) number) (stop_entry (board_history (made_by old) number)) of)
+      → CanExpire config (made_by now) board log moment index of (closed_of (board_history (made_by old) number) (stop_entry (board_history (made_by old) number)) of)
+      (is_due_at (board_history (made_by old) number) of.number moment)
   next_asks config number moment old now board log i ended index of o above at asked place =
       let l = made_by old in
       let h = board_history l number in
@@ -215,13 +235,13 @@ module _ {M I O T : Type 0} {g : _} where
       let not_asked : In of.number (numbers_of (asked_of answers)) → ⊥ =
       λ k. not_yet config h i of fits at (subst (λ (cs : List Call). In of.number (numbers_of cs)) asked.are k) in
       let ns = list_of asked.gained.rows in
-      let owed = flat_map (asking config h) answers in
+      let owed = flat_map (owed_for config h moment) answers in
       let can : CanEnd config (l ++ ns) board log of.number of (closed_of h e of) =
       next_among config l ns o number e gone of board log above alive alive out
       (asked_elsewhere config number moment old now board log i ended of o at asked)
       (λ leg k. placed_by owed ns (box_of config leg.pair) asked.gained.gained.owes
-      (λ w j. let s = spread (asking config h) answers j in
-      asked_box config l o number (asked_of answers) of s.from leg (maps (λ (a : Call × Bool). a.0) answers s.is_in) (asked_alive h answers i asked.are s.is_in) not_asked k w s.has_it))
+      (λ w j. let s = spread (owed_for config h moment) answers j in
+      asked_box config l o number moment (asked_of answers) of s.from leg (maps (λ (a : Call × Bool). a.0) answers s.is_in) (asked_alive h answers i asked.are s.is_in) not_asked k w s.has_it))
       v0 refl refl refl asked.shows asked.opens in
       record {
         can = subst (λ (es : List Entry). CanEnd config es board log of.number of (closed_of h e of)) (sym (list_gained number moment owed old now asked.gained)) can;
@@ -232,20 +252,23 @@ module _ {M I O T : Type 0} {g : _} where
         at = ap (λ (cs : List CallView). slice_get cs index) (ended_calls config h e gone v0 fits refl)
             ∙ get_map (call_view h) (filter (λ (c : Call). not (has (numbers_of gone) c.number)) (live h)) index of
             (place_of_next config h answers i index of fits asked.are at (ap (λ (k : ℕ). index + k) asked.count ∙ place));
+        found = found_while_ending config h e gone v0 of fits refl alive out;
+        overdue_is = refl;
       }
 
-  -- one more was asked, and ended where it was due
+  -- one more was asked or found overdue, and ended where it had to
   pub one_asked : (config : Config) (number moment : ℕ) (old now new : Hand M (Part I O) Made T g) (before after : Board) (log told_new : Option (List PortCall)) (i ended then_ended : ℕ) (of : Call)
       (due : Bool) → Orderly config (made_by old) → IsSameHand old now → slice_get (live (board_history (made_by old) number)) i ≡ Some of
       → Asked config (board_history (made_by old) number) number moment old now before log i ended → then_ended ≡ cond due (ended + 1) ended
-      → GainsNested number moment (asking config (board_history (made_by old) number) (of, due)) now new
+      → GainsNested number moment (owed_for config (board_history (made_by old) number) moment (of, due)) now new
       → ((config : Config) (v : View) → BoardMatches config before v → CellsApart v.calls
       → BoardMatches config after (with_asked v of.number (closed_of (board_history (made_by old) number) (stop_entry (board_history (made_by old) number)) of) due))
       → ((held : List ℕ) → WhereLogged log (λ calls. OpensHeld config calls held)
       → WhereLogged told_new (λ calls. OpensHeld config calls (if due then pairs_left (leg_pairs (closed_of (board_history (made_by old) number) (stop_entry (board_history (made_by old) number)) of)) held else held)))
-      → (parts now ≡ 1024 → IsDueBy config (made_by now) of.cell moment due)
+      → (is_due_at (board_history (made_by old) number) of.number moment ≡ true → due ≡ true)
+      → (is_due_at (board_history (made_by old) number) of.number moment ≡ false → parts now ≡ 1024 → IsDueBy config (made_by now) of.cell moment due)
       → Asked config (board_history (made_by old) number) number moment old new after told_new (i + 1) then_ended
-  one_asked config number moment old now new before after log told_new i ended then_ended of due o same at asked counts gains shown opened is_due_now =
+  one_asked config number moment old now new before after log told_new i ended then_ended of due o same at asked counts gains shown opened is_overdue is_due_now =
       let fits = good_history config (made_by old) o number in
       let h = board_history (made_by old) number in
       let e = stop_entry h in
@@ -256,26 +279,36 @@ module _ {M I O T : Type 0} {g : _} where
         answers = asked.answers ++ (of, due) ∷ [];
         are = asked_more asked.answers of due ∙ ap (λ (cs : List Call). cs ++ of ∷ []) asked.are ∙ sym (take_next (live h) i of at);
         count = ap length more ∙ counted due ∙ ap (λ (k : ℕ). cond due (k + 1) k) asked.count ∙ sym counts;
-        gained = subst (λ (ws : List Owed). GainsNested number moment ws old new) (sym (spread_more (asking config h) asked.answers (of, due)))
-            (gains_more number moment (flat_map (asking config h) asked.answers) (asking config h (of, due)) old now new asked.gained gains);
+        gained = subst (λ (ws : List Owed). GainsNested number moment ws old new) (sym (spread_more (owed_for config h moment) asked.answers (of, due)))
+            (gains_more number moment (flat_map (owed_for config h moment) asked.answers) (owed_for config h moment (of, due)) old now new asked.gained gains);
         shows = subst (λ (cs : List Call). BoardMatches config after (with_ended h e cs v0)) (sym more)
             (shows_more config h v0 gone of after due (shown config (with_ended h e gone v0) asked.shows (cells_while_ending config h e gone v0 fits refl)));
         opens = subst (λ (cs : List Call). WhereLogged told_new (λ calls. OpensHeld config calls (still_held h e cs))) (sym more)
             (opens_more config h told_new gone of due (opened (still_held h e gone) asked.opens));
-        due = λ all a k. by_place all a (in_append asked.answers ((of, due) ∷ []) k);
+        overdue = λ a k. by_end a (in_append asked.answers ((of, due) ∷ []) k);
+        timed_out = λ all a k. by_place all a (in_append asked.answers ((of, due) ∷ []) k);
       }
     where
       -- what the cell of the one that was asked now returned
-      its_due : parts old ≡ 1024 → IsDueBy config (made_by old) of.cell moment due
-      its_due all =
+      its_answer : parts old ≡ 1024 → is_due_at (board_history (made_by old) number) of.number moment ≡ false → IsDueBy config (made_by old) of.cell moment due
+      its_answer all not_due_yet =
           due_before config (made_by old) (list_of asked.gained.rows) of.cell moment due (asked_elsewhere config number moment old now before log i ended of o at asked)
           (subst (λ (l : List Entry). IsDueBy config l of.cell moment due)
-          (list_gained number moment (flat_map (asking config (board_history (made_by old) number)) asked.answers) old now asked.gained)
-          (is_due_now (same.2 ∙ all)))
+          (list_gained number moment (flat_map (owed_for config (board_history (made_by old) number) moment) asked.answers) old now asked.gained)
+          (is_due_now not_due_yet (same.2 ∙ all)))
 
-      by_place : parts old ≡ 1024 → (a : Call × Bool) → In a asked.answers ⊎ In a ((of, due) ∷ []) → IsDueBy config (made_by old) a.0.cell moment a.1
-      by_place all a (inl k) = asked.due all a k
-      by_place all a (inr (here q)) = subst (λ (b : Call × Bool). IsDueBy config (made_by old) b.0.cell moment b.1) (sym q) (its_due all)
+      by_end : (a : Call × Bool) → In a asked.answers ⊎ In a ((of, due) ∷ []) → is_due_at (board_history (made_by old) number) a.0.number moment ≡ true → a.1 ≡ true
+      by_end a (inl k) = asked.overdue a k
+      by_end a (inr (here q)) =
+          subst (λ (b : Call × Bool). is_due_at (board_history (made_by old) number) b.0.number moment ≡ true → b.1 ≡ true) (sym q) is_overdue
+      by_end a (inr (there k)) = elim k [ ]
+
+      by_place : parts old ≡ 1024 → (a : Call × Bool) → In a asked.answers ⊎ In a ((of, due) ∷ []) → is_due_at (board_history (made_by old) number) a.0.number moment ≡ false
+          → IsDueBy config (made_by old) a.0.cell moment a.1
+      by_place all a (inl k) = asked.timed_out all a k
+      by_place all a (inr (here q)) =
+          subst (λ (b : Call × Bool). is_due_at (board_history (made_by old) number) b.0.number moment ≡ false → IsDueBy config (made_by old) b.0.cell moment b.1) (sym q)
+          (its_answer all)
       by_place all a (inr (there k)) = elim k [ ]
 
       counted : (d : Bool) → length (cond d (due_of asked.answers ++ of ∷ []) (due_of asked.answers)) ≡ cond d (length (due_of asked.answers) + 1) (length (due_of asked.answers))
@@ -288,12 +321,15 @@ closes_same : (h : List BoardEntry) (moment : ℕ) (calls : List Call) (of : Cal
     → closed_of h (tick_at moment calls) of ≡ closed_of h (stop_entry h) of
 closes_same h moment calls of alive ends = closed_of_ended h (tick_at moment calls) of ends ∙ sym (closed_of_ended h (stop_entry h) of alive)
 
-owed_case : (config : Config) (h : List BoardEntry) (e : BoardEntry) (of : Call) (due named : Bool) → named ≡ due → (due ≡ true → closed_of h e of ≡ closed_of h (stop_entry h) of)
-    → in_cell of (Expire named) ∷ (if named then ending config h e of else []) ≡ asking_of config of (closed_of h (stop_entry h) of) due
-owed_case config h e of true true is closes = ap (λ (legs : List Holder). asking_of config of legs true) (closes refl)
-owed_case config h e of false false is closes = refl
-owed_case config h e of true false is closes = absurd (let q = is in cc)
-owed_case config h e of false true is closes = absurd (let q = is in cc)
+owed_case : (config : Config) (h : List BoardEntry) (e : BoardEntry) (of : Call) (overdue due named : Bool) → named ≡ due → (overdue ≡ true → due ≡ true)
+    → (due ≡ true → closed_of h e of ≡ closed_of h (stop_entry h) of)
+    → (if overdue then ending config h e of else asking config h e of named) ≡ asking_of config of (closed_of h (stop_entry h) of) overdue due
+owed_case config h e of true true named is ends closes = ap (ending_of config of) (closes refl)
+owed_case config h e of true false named is ends closes = absurd (let k = ends refl in cc)
+owed_case config h e of false true true is ends closes = ap (λ (legs : List Holder). asking_of config of legs false true) (closes refl)
+owed_case config h e of false false false is ends closes = refl
+owed_case config h e of false true false is ends closes = absurd (let q = is in cc)
+owed_case config h e of false false true is ends closes = absurd (let q = is in cc)
 
 pub same_truth : (a b : Bool) → (a ≡ true → b ≡ true) → (b ≡ true → a ≡ true) → a ≡ b
 same_truth true true f g = refl
@@ -321,7 +357,8 @@ closed_alike h moment calls q =
     (subst (λ (p : ℕ). In p by_call) m.makes
     (maps (λ (leg : Holder). leg.pair) (flat_map (closed_of h e) calls) (spreads (closed_of h e) calls c.is_in c.closes))))
 
-module _ (config : Config) (h : List BoardEntry) (moment : ℕ) (answers : List (Call × Bool)) (fits : IsFitting config h) (all : asked_of answers ≡ live h) where
+module _ (config : Config) (h : List BoardEntry) (moment : ℕ) (answers : List (Call × Bool)) (fits : IsFitting config h) (all : asked_of answers ≡ live h)
+    (overdue : (a : Call × Bool) → In a answers → is_due_at h a.0.number moment ≡ true → a.1 ≡ true) where
   whole_once : Once (numbers_of (asked_of answers))
   whole_once = subst (λ (cs : List Call). Once (numbers_of cs)) (sym all) (live_once config h fits)
 
@@ -333,26 +370,42 @@ module _ (config : Config) (h : List BoardEntry) (moment : ℕ) (answers : List 
       sym (sieve (λ (c : Call). has (numbers_of (due_of answers)) c.number) answers (λ a i. named answers a whole_once i))
       ∙ ap (filter (λ (c : Call). has (numbers_of (due_of answers)) c.number)) all
 
-  pub ends_owed : script config h (tick_at moment (due_of answers)) ≡ flat_map (asking config h) answers
+  ends_if_due : (c : Call) → In c (live h) → is_due_at h c.number moment ≡ true → has (numbers_of (due_of answers)) c.number ≡ true
+  ends_if_due c i =
+      let m = mapped (λ (a : Call × Bool). a.0) answers (subst (λ (cs : List Call). In c cs) (sym all) i) in
+      subst (λ (d : Call). is_due_at h d.number moment ≡ true → has (numbers_of (due_of answers)) d.number ≡ true) m.makes
+      (λ t. named answers m.from whole_once m.is_in ∙ overdue m.from m.is_in t)
+
+  none_passed : (those : List Call) → ((c : Call) → In c those → In c (live h)) → AreNamedWhenDue h moment (numbers_of (due_of answers)) those
+  none_passed [] among = tt
+  none_passed (c ∷ those) among = (ends_if_due c (among c (here refl)), none_passed those (λ d i. among d (there i)))
+
+  -- those that are due are among them
+  pub ends_none_passed : AreNamedWhenDue h moment (numbers_of (due_of answers)) (live h)
+  ends_none_passed = none_passed (live h) (λ c i. i)
+
+  pub ends_owed : script config h (tick_at moment (due_of answers)) ≡ flat_map (owed_for config h moment) answers
   ends_owed =
       ap (flat_map (expiring config h (tick_at moment (due_of answers)) (due_of answers))) (sym all)
-      ∙ spread_asked (expiring config h (tick_at moment (due_of answers)) (due_of answers)) (asking config h) answers
-      (λ a i. owed_case config h (tick_at moment (due_of answers)) a.0 a.1 (has (numbers_of (due_of answers)) a.0.number) (named answers a whole_once i)
+      ∙ spread_asked (expiring config h (tick_at moment (due_of answers)) (due_of answers)) (owed_for config h moment) answers
+      (λ a i. owed_case config h (tick_at moment (due_of answers)) a.0 (is_due_at h a.0.number moment) a.1 (has (numbers_of (due_of answers)) a.0.number)
+      (named answers a whole_once i) (overdue a i)
       (λ t. closes_same h moment (due_of answers) a.0 (each_alive (is_due answers i t)) (is_due answers i t)))
 
   pub ends_stand : (board : Board) → board_last_moment h ≤ moment → BoardMatches config board (with_ended h (stop_entry h) (due_of answers) (view_at_moment (view_of config h) moment))
       → BoardFor config board (tick_at moment (due_of answers) ∷ h)
   ends_stand board timely shows =
-      entry_stands config board h (tick_at moment (due_of answers)) fits ends_named timely
+      entry_stands config board h (tick_at moment (due_of answers)) fits (ends_named, ends_none_passed) timely
       (subst (λ (w : View). BoardMatches config board w)
       (ended_alike h (stop_entry h) (tick_at moment (due_of answers)) (due_of answers) (view_at_moment (view_of config h) moment) (λ c i. each_alive i) (λ c i. i)) shows)
 
-  pub ends_due : (l : List Entry) → ((a : Call × Bool) → In a answers → IsDueBy config l a.0.cell moment a.1) → (c : Call) → In c (live h)
-      → IsDueBy config l c.cell moment (has (numbers_of (due_of answers)) c.number)
+  pub ends_due : (l : List Entry) → ((a : Call × Bool) → In a answers → is_due_at h a.0.number moment ≡ false → IsDueBy config l a.0.cell moment a.1)
+      → (c : Call) → In c (live h) → EndsRightly config h l moment c (has (numbers_of (due_of answers)) c.number)
   ends_due l each c i =
       let m = mapped (λ (a : Call × Bool). a.0) answers (subst (λ (cs : List Call). In c cs) (sym all) i) in
-      subst (λ (d : Call). IsDueBy config l d.cell moment (has (numbers_of (due_of answers)) d.number)) m.makes
-      (subst (λ (b : Bool). IsDueBy config l m.from.0.cell moment b) (sym (named answers m.from whole_once m.is_in)) (each m.from m.is_in))
+      subst (λ (d : Call). EndsRightly config h l moment d (has (numbers_of (due_of answers)) d.number)) m.makes
+      (subst (λ (b : Bool). EndsRightly config h l moment m.from.0 b) (sym (named answers m.from whole_once m.is_in))
+      (record { when_due = overdue m.from m.is_in; when_timed_out = each m.from m.is_in }))
 
   same_closed : (those : List Call) → ((c : Call) → In c those → In c (due_of answers))
       → flat_map (closed_of h (stop_entry h)) those ≡ flat_map (closed_of h (tick_at moment (due_of answers))) those
@@ -391,11 +444,12 @@ module _ {M I O T : Type 0} {g : _} where
       let all : asked_of a.answers ≡ live h = a.are ∙ ap (λ (k : ℕ). take k (live h)) over ∙ take-length (live h) in (
         due_of a.answers,
         record {
-          named = ends_named config h moment a.answers fits all;
-          due = λ whole c i. ends_due config h moment a.answers fits all (made_by old) (a.due whole) c i;
-          gained = subst (λ (ws : List Owed). GainsNested number moment ws old new) (sym (ends_owed config h moment a.answers fits all)) a.gained;
+          named = ends_named config h moment a.answers fits all a.overdue;
+          none_passed = ends_none_passed config h moment a.answers fits all a.overdue;
+          due = λ whole c i. ends_due config h moment a.answers fits all a.overdue (made_by old) (a.timed_out whole) c i;
+          gained = subst (λ (ws : List Owed). GainsNested number moment ws old new) (sym (ends_owed config h moment a.answers fits all a.overdue)) a.gained;
           count_is = sym a.count;
-          opens = ends_open config h moment a.answers fits all log a.opens;
+          opens = ends_open config h moment a.answers fits all a.overdue log a.opens;
         },
-        ends_stand config h moment a.answers fits all board timely a.shows,
+        ends_stand config h moment a.answers fits all a.overdue board timely a.shows,
       )

@@ -6,11 +6,12 @@ use Rattle.turn_table.specs.declared.hands.Turns.{Turns}
 use Rattle.turn_table.specs.declared.hands.Hand.{Hand}
 use Rattle.offer_answer.specs.Rounds as round
 use Rattle.call_board.specs.declared.board.Board.{Board}
-use Rattle.call_board.specs.Acts.{Lease, Offer, Act, Repeated, OutOfMemory, Failed, Undone, Offered, Answered, Deleted, Queried, Told, BoardEntry, act}
+use Rattle.call_board.specs.Acts.{Lease, Offer, Act, Repeated, OutOfMemory, Failed, Undone, Offered, Answered, Deleted, Delayed, Queried, Told, BoardEntry, act}
+use Rattle.call_board.specs.Calls.{due_after}
 use Rattle.call_board.specs.Pairs.{held}
 use Rattle.call_board.specs.Boards.{BoardMatches}
 use Rattle.call_board.specs.Views.{View, view_of, board_last_moment, view_at_moment, with_leases, with_returned, without_call}
-use Rattle.call_board.specs.Whole.{with_draws, with_closed, with_more, with_first}
+use Rattle.call_board.specs.Whole.{with_draws, with_closed, with_more, with_first, with_due_call}
 use Rattle.relay_core.specs.Entries.{board_history}
 use Rattle.relay_core.specs.Legal.{Orderly}
 use Rattle.relay_core.specs.Records.{Made}
@@ -45,6 +46,7 @@ acted h e (Undone code leases draws) v = acted_undone leases draws v
 acted h e (Offered o) v = acted_offer h e o v
 acted h e (Answered a) v = with_closed h e a.of (with_more a.of (round.Answered a.ask) e.moment v)
 acted h e (Deleted of) v = with_closed h e of (without_call v of.number)
+acted h e (Delayed of seconds) v = with_due_call of.number (due_after e.moment seconds) v
 acted h e (Queried of) v = v
 acted h e Told v = v
 

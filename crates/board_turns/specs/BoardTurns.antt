@@ -1,5 +1,5 @@
 -- The turn of the board that its functions are handed, and what all of them leave as it was.
-use Rattle.std.specs.Prelude.{◌≡◌, ◌≤◌, ℕ, List, [], Option}
+use Rattle.std.specs.Prelude.{◌≡◌, Bool, ◌≤◌, ℕ, List, [], Option}
 use Rattle.relay_outside.specs.declared.ports.PortCall.{PortCall}
 use Rattle.turn_table.specs.Hands.{IsSameHand, SameTurns, entries}
 use Rattle.ng_bencode.specs.Room.{Room}
@@ -72,8 +72,9 @@ module _ {P I O : Type 0} {g : _} (log : P → Option (List PortCall)) where
   abbrev pub MayEnd : BoardTurn P I O g → ℕ → Call → List Holder → Type 0
   MayEnd turn call of legs = CanEnd turn.main.config.now (hand_list turn.main) turn.board.now (log turn.ports.now) call of legs
 
-  abbrev pub MayExpire : BoardTurn P I O g → ℕ → Call → List Holder → Type 0
-  MayExpire turn index of legs = CanExpire turn.main.config.now (hand_list turn.main) turn.board.now (log turn.ports.now) index of legs
+  abbrev pub MayExpire : BoardTurn P I O g → ℕ → Call → List Holder → (overdue : Bool) → Type 0
+  MayExpire turn index of legs overdue =
+      CanExpire turn.main.config.now (hand_list turn.main) turn.board.now (log turn.ports.now) turn.main.entry_id.moment index of legs overdue
 
   -- the turn did what the entry owes
   abbrev pub Does : (old new : BoardTurn P I O g) → BoardEntry → Type 0

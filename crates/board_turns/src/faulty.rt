@@ -25,6 +25,7 @@ fn code_of(fault: BoardFault) -> Option<ErrorCode>
         BoardFault::NoCrypto => Some(ErrorCode::E8),
         BoardFault::SessionLimit => Some(ErrorCode::E14),
         BoardFault::NoPair => Some(ErrorCode::E13),
+        BoardFault::Ending => Some(ErrorCode::E19),
         BoardFault::OutOfMemory => None,
     }
 }

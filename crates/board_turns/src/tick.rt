@@ -1,5 +1,5 @@
-//! The live calls that are due, ended in order, and the turn of the board in which a tick does so.
-ghost use Rattle.std.specs.Prelude.{◌≡◌, ℕ, List, [], ◌∷◌, if◌then◌else◌};
+//! The live calls that are due or have timed out, ended in order, and the turn of the board in which a tick does so.
+ghost use Rattle.std.specs.Prelude.{◌≡◌, ℕ, Bool, true, false, List, [], ◌∷◌, if◌then◌else◌};
 ghost use Rattle.relay_outside.specs.declared.settings.Config.{Config};
 ghost use Rattle.relay_outside.specs.DeviceLogs.{Gained, WhereLogged};
 ghost use Rattle.turn_table.specs.Hands.{parts};
@@ -23,35 +23,37 @@ use relay_outside::PortMaker;
 use std::marker::Brand;
 use std::sync::Wait;
 
-/// Asks the call at this place among the live ones, in order of their creation from 0, whether it is due, and ends it if it is.
-/// Returns whether it was due.
+/// Ends the call at this place among the live ones, in order of their creation from 0, where it is ending and due, or else where its cell
+/// says that it has timed out. Returns whether it ended.
 fn expire_call<P: PortMaker, R: Wait>(rt: &R, turn: &mut BoardTurn<P>, index: usize) -> bool
     requires may { CanNest turn.old.main }
-    requires can { (of : Call) × (legs : List Holder) × MayExpire P.log turn.old index of legs }
+    requires can { (of : Call) × (legs : List Holder) × (overdue : Bool) × MayExpire P.log turn.old index of legs overdue }
     requires empty { turn.old.gone.now ≡ [] }
     ensures works { Works P.log P.faults turn.old turn.new }
-    ensures gained { (of : Call) (legs : List Holder) → MayExpire P.log turn.old index of legs →
-        MakesNested (asking_of turn.old.main.config.now of legs result) turn.old.main turn.new.main }
-    ensures asked { (of : Call) (legs : List Holder) → MayExpire P.log turn.old index of legs →
+    ensures gained { (of : Call) (legs : List Holder) (overdue : Bool) → MayExpire P.log turn.old index of legs overdue →
+        MakesNested (asking_of turn.old.main.config.now of legs overdue result) turn.old.main turn.new.main }
+    ensures asked { (of : Call) (legs : List Holder) (overdue : Bool) → MayExpire P.log turn.old index of legs overdue →
         (config : Config) (v : View) → BoardMatches config turn.old.board.now v → CellsApart v.calls → BoardMatches config turn.new.board.now (with_asked v of.number legs result) }
-    ensures open { (of : Call) (legs : List Holder) → MayExpire P.log turn.old index of legs →
+    ensures open { (of : Call) (legs : List Holder) (overdue : Bool) → MayExpire P.log turn.old index of legs overdue →
         (held : List ℕ) → WhereLogged (P.log turn.old.ports.now) (λ calls. OpensHeld turn.old.main.config.now calls held) →
         WhereLogged (P.log turn.new.ports.now) (λ calls. OpensHeld turn.old.main.config.now calls (if result then pairs_left (leg_pairs legs) held else held)) }
-    ensures due { (of : Call) (legs : List Holder) → MayExpire P.log turn.old index of legs →
+    ensures overdue { (of : Call) (legs : List Holder) (overdue : Bool) → MayExpire P.log turn.old index of legs overdue → overdue ≡ true → result ≡ true }
+    ensures timed_out { (of : Call) (legs : List Holder) (overdue : Bool) → MayExpire P.log turn.old index of legs overdue → overdue ≡ false →
         parts turn.old.main.hand.now ≡ 1024 → IsDueBy turn.old.main.config.now (hand_list turn.old.main) of.cell turn.old.main.entry_id.moment result }
     ensures closes { Gained (P.log turn.old.ports.now) (P.log turn.new.ports.now) NoneOpened }
 {
     let call = turn.board.call_at(index);
     let cell = turn.board.cell_at(index);
-    if !expire_cell(rt, &mut turn.main, cell) {
+    let overdue = turn.board.is_due(call, turn.main.entry_id.moment);
+    if !overdue && !expire_cell(rt, &mut turn.main, cell) {
         return false;
     }
     end_call(rt, turn, call);
     true
 }
 
-/// Asks each live call, in order of their creation, whether it is due at the moment of the board's turn, ends each that is, and returns
-/// how many: the board then stands for its history with the tick that ended these. It takes no memory, and its work is linear in the
+/// Ends each live call, in order of their creation, that is ending and due at the moment of the board's turn, asks each other one whether it
+/// has timed out, ends it if it has, and returns how many ended: the board then stands for its history with the tick that ended these. It takes no memory, and its work is linear in the
 /// live calls, but for what ending a call costs.
 pub fn expire_live<P: PortMaker, R: Wait>(rt: &R, turn: &mut BoardTurn<P>) -> usize
     requires begins { Begins P.log turn.old }
@@ -71,8 +73,8 @@ pub fn expire_live<P: PortMaker, R: Wait>(rt: &R, turn: &mut BoardTurn<P>) -> us
     ended
 }
 
-/// Makes a tick in a turn of the board: each live call is asked, in order of their creation, whether it is due, and ends where it is; then
-/// the board's entry of the tick is made. It returns how many calls ended. `now` is in milliseconds; a moment before that of the board's
+/// Makes a tick in a turn of the board: each live call that is ending and due ends, in order of their creation, and each other one is asked
+/// whether it has timed out, and ends if it has; then the board's entry of the tick is made. It returns how many calls ended. `now` is in milliseconds; a moment before that of the board's
 /// last entry counts as that one. Between its steps the main hand waits for lanes; it takes no memory.
 pub fn tick_turn<P: PortMaker, R: Wait>(rt: &R, at: &mut Between<P>, now: u64) -> usize
     requires rests { Rests P.log at.old }

@@ -2,7 +2,7 @@
 use Rattle.std.proofs.Common.{◌≡◌, ◌∙◌, refl, ap, subst, ℕ, ◌+◌, ◌≤◌, ◌&&◌, nat_le, Bool, true, false, not, List, [], ◌∷◌, map, length, take, filter, Option, Some, None, Result, Ok, Err, if◌then◌else◌, is_some, filter_map, codes, ◌++◌}
 use Rattle.std.specs.List.{list_any}
 use Rattle.relay_outside.specs.declared.settings.Config.{Config}
-use Rattle.histories.specs.Words.{In, here, there, numbers}
+use Rattle.histories.specs.Words.{In, here, there, numbers, or_else}
 use Rattle.ng_bencode.specs.Tree.{Tree, Dict, Bytes, Items, entry, no_entries, items_of}
 use Rattle.ng_command.specs.Meanings as said
 use Rattle.ng_command.specs.Meanings.{Said}
@@ -22,20 +22,20 @@ use Rattle.offer_answer.proofs.Alike.{Alike, alike_none}
 use Rattle.offer_answer.proofs.AlikePlans.{tag_alike, side_alike, protocol_alike, offer_fault_alike, demand_alike, offer_text_alike, answer_fault_alike, signal_alike, answer_text_alike, heard_alike}
 use Rattle.call_board.specs.Acts as act
 use Rattle.call_board.specs.Acts.{Call, Act, Given, Control, Lease, BoardEntry}
-use Rattle.call_board.specs.Calls.{live, find_call, new_call, rounds, rounds_of_call, first_moment, latest_moment}
+use Rattle.call_board.specs.Calls.{live, find_call, new_call, rounds, rounds_of_call, is_ending, first_moment, latest_moment}
 use Rattle.call_board.specs.Pairs.{free_in, fronts, is_short, next_lease, leased_new_legs, drawn_keys_from, next_generation, drawn, family_eq, pair_family}
 use Rattle.call_board.specs.Replies.{Described, Reported, Listed, Done, Fault, reply_datagram, reply_text}
 use Rattle.call_board.specs.Dialects.{is_json, written_in}
 use Rattle.call_board.specs.Reports.{report_tree, whole, moment_value, counts_tree, endpoint_value, leg_value, leg_report_at, tags_by, profile_text}
 use Rattle.call_board.specs.Requests.{asked}
-use Rattle.call_board.specs.Answers.{Answering, Answered, failing, telling, offer_ask, answer_ask, leased_pairs, undoing, offering, offer_leased, offer_planned, offer_unless, offer_to, answer_unless, answer_to, names_side, nothing_to_end, delete_of, reported_legs, query_of, answering_asked, spelled, answering_unless}
+use Rattle.call_board.specs.Answers.{Answering, Answered, failing, telling, ending_error, deleting, offer_ask, answer_ask, leased_pairs, undoing, offering, offer_leased, offer_planned, offer_unless, offer_to, answer_unless, answer_to, names_side, nothing_to_end, delete_of, reported_legs, query_of, answering_asked, spelled, answering_unless}
 use Rattle.call_board.specs.KeptReplies.{kept_reply}
 use Rattle.call_board.specs.Fits.{IsFitting, demanded, demanded_by, ReadsAnswerOf, ReadsRequest, asks_after}
 use Rattle.call_board.proofs.Calls.{found_live}
 use Rattle.call_board.proofs.Bounds.{offer_sound}
 use Rattle.call_board.proofs.CallsAfter.{map_alike}
 use Rattle.call_board.proofs.Free.{front_free, free_below}
-use Rattle.call_board.proofs.AlikeHistories.{AlikeHistories, found_alike, new_alike, rounds_alike}
+use Rattle.call_board.proofs.AlikeHistories.{AlikeHistories, found_alike, new_alike, rounds_alike, ending_alike}
 
 -- Reports: they tell what the rounds come to.
 
@@ -159,8 +159,11 @@ module _ (config : Config) (g h : List BoardEntry) (s : AlikeHistories config g 
       ∙ unless_alike old given ask (new_call h id) true [] [] (plan.offer_fault [] ask) none few
   offer_case old given id ask (Some of) is few none =
       let a = rounds_alike config g h id of s is in
-      ap (offer_unless config g given ask of false (rounds g of.number)) (offer_fault_alike config (rounds g of.number) (rounds h of.number) ask a)
-      ∙ unless_alike old given ask of false (rounds g of.number) (rounds h of.number) (plan.offer_fault (rounds h of.number) ask) a few
+      let fault = or_else (ending_error (is_ending h of.number)) (plan.offer_fault (rounds h of.number) ask) in
+      ap (λ (b : Bool). offer_unless config g given ask of false (rounds g of.number) (or_else (ending_error b) (plan.offer_fault (rounds g of.number) ask))) (ending_alike config g h id of s is)
+      ∙ ap (λ (o : Option ErrorCode). offer_unless config g given ask of false (rounds g of.number) (or_else (ending_error (is_ending h of.number)) o))
+      (offer_fault_alike config (rounds g of.number) (rounds h of.number) ask a)
+      ∙ unless_alike old given ask of false (rounds g of.number) (rounds h of.number) fault a few
 
   -- Answers and deletes.
 
@@ -168,8 +171,10 @@ module _ (config : Config) (g h : List BoardEntry) (s : AlikeHistories config g 
   answer_case id ask None is = refl
   answer_case id ask (Some of) is =
       let a = rounds_alike config g h id of s is in
-      ap (answer_unless config ask of (rounds g of.number)) (answer_fault_alike config (rounds g of.number) (rounds h of.number) ask a)
-      ∙ go (plan.answer_fault (rounds h of.number) ask) a
+      ap (λ (b : Bool). answer_unless config ask of (rounds g of.number) (or_else (ending_error b) (plan.answer_fault (rounds g of.number) ask))) (ending_alike config g h id of s is)
+      ∙ ap (λ (o : Option ErrorCode). answer_unless config ask of (rounds g of.number) (or_else (ending_error (is_ending h of.number)) o))
+      (answer_fault_alike config (rounds g of.number) (rounds h of.number) ask a)
+      ∙ go (or_else (ending_error (is_ending h of.number)) (plan.answer_fault (rounds h of.number) ask)) a
     where
       go : (fault : Option ErrorCode) → Alike config (rounds g of.number) (rounds h of.number) →
           answer_unless config ask of (rounds g of.number) fault ≡ answer_unless config ask of (rounds h of.number) fault
@@ -184,10 +189,11 @@ module _ (config : Config) (g h : List BoardEntry) (s : AlikeHistories config g 
   names_case before others None a = refl
   names_case before others (Some tag) a = side_alike config before others tag a
 
-  delete_case : (id : List ℕ) (tag : Option (List ℕ)) (fatal : Bool) (found : Option Call) → find_call h id ≡ found → delete_of g tag fatal found ≡ delete_of h tag fatal found
-  delete_case id tag fatal None is = refl
-  delete_case id tag fatal (Some of) is =
-      ap (λ (b : Bool). if b then record { reply = Done; act = act.Deleted of } else nothing_to_end fatal E10)
+  delete_case : (id : List ℕ) (tag : Option (List ℕ)) (fatal : Bool) (seconds : ℕ) (found : Option Call) → find_call h id ≡ found →
+      delete_of g tag fatal seconds found ≡ delete_of h tag fatal seconds found
+  delete_case id tag fatal seconds None is = refl
+  delete_case id tag fatal seconds (Some of) is =
+      ap (λ (b : Bool). if b then record { reply = Done; act = deleting of seconds } else nothing_to_end fatal E10)
       (names_case (rounds g of.number) (rounds h of.number) tag (rounds_alike config g h id of s is))
 
   -- Queries.
@@ -217,8 +223,8 @@ module _ (config : Config) (g h : List BoardEntry) (s : AlikeHistories config g 
   command_case old c (Ok (said.Answer id from_tag to_tag sdp options)) is =
       let ask : AnswerAsk = answer_ask from_tag to_tag sdp options c.chosen in
       ap (spelled config c.cookie c.body) (ap (answer_to config g ask) (found_alike config g h id s) ∙ answer_case id ask (find_call h id) refl)
-  command_case old c (Ok (said.Delete id from_tag fatal)) is =
-      ap (spelled config c.cookie c.body) (ap (delete_of g from_tag fatal) (found_alike config g h id s) ∙ delete_case id from_tag fatal (find_call h id) refl)
+  command_case old c (Ok (said.Delete id from_tag fatal seconds)) is =
+      ap (spelled config c.cookie c.body) (ap (delete_of g from_tag fatal seconds) (found_alike config g h id s) ∙ delete_case id from_tag fatal seconds (find_call h id) refl)
   command_case old c (Ok (said.Query id)) is =
       ap (λ (found : Option Call). spelled config c.cookie c.body (query_of g c.given found)) (found_alike config g h id s)
       ∙ query_case c.given id c.cookie c.body (find_call h id) refl
@@ -252,7 +258,7 @@ module _ (config : Config) (g h : List BoardEntry) (s : AlikeHistories config g 
           demand_alike config (rounds g of.number) (rounds h of.number) (offer_ask from_tag sdp options c.chosen) (rounds_alike config g h id of s at)
           (few_sections sdp (offer_sound config c.too_long c.pairs id from_tag sdp options is))
   demand_case c (Ok (said.Answer id from_tag to_tag sdp options)) is = refl
-  demand_case c (Ok (said.Delete id from_tag fatal)) is = refl
+  demand_case c (Ok (said.Delete id from_tag fatal seconds)) is = refl
   demand_case c (Ok (said.Query id)) is = refl
   demand_case c (Ok (said.Listing limit)) is = refl
 
@@ -272,7 +278,7 @@ module _ (config : Config) (g h : List BoardEntry) (s : AlikeHistories config g 
   hears_alike c (Ok (said.Answer id from_tag to_tag sdp options)) heard =
       hears_case id (answer_ask from_tag to_tag sdp options c.chosen) (find_call h id) refl
       (subst (ReadsAnswerOf g (answer_ask from_tag to_tag sdp options c.chosen)) (found_alike config g h id s) heard)
-  hears_alike c (Ok (said.Delete id from_tag fatal)) heard = tt
+  hears_alike c (Ok (said.Delete id from_tag fatal seconds)) heard = tt
   hears_alike c (Ok (said.Query id)) heard = tt
   hears_alike c (Ok (said.Listing limit)) heard = tt
 
@@ -281,6 +287,6 @@ module _ (config : Config) (g h : List BoardEntry) (s : AlikeHistories config g 
   asks_alike (Ok said.Ping) = refl
   asks_alike (Ok (said.Offer id from_tag sdp options)) = refl
   asks_alike (Ok (said.Answer id from_tag to_tag sdp options)) = refl
-  asks_alike (Ok (said.Delete id from_tag fatal)) = refl
+  asks_alike (Ok (said.Delete id from_tag fatal seconds)) = refl
   asks_alike (Ok (said.Query id)) = ap is_some (found_alike config g h id s)
   asks_alike (Ok (said.Listing limit)) = refl

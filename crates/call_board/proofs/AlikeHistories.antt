@@ -1,5 +1,6 @@
 -- Histories that one board stands for: what the entries that they demand are made of is the same.
 use Rattle.std.proofs.Common.{◌≡◌, ◌∙◌, refl, sym, ap, subst, ℕ, ◌+◌, ◌<◌, List, [], ◌∷◌, map, length, filter, Some}
+use Rattle.std.specs.Prelude.{is_some}
 use Rattle.std.specs.Str.{bytes_eq}
 use Rattle.relay_outside.specs.declared.settings.Config.{Config}
 use Rattle.relay_outside.specs.declared.address.Addr.{Addr}
@@ -7,7 +8,7 @@ use Rattle.histories.specs.Words.{In, here, there, first}
 use Rattle.port_pool.specs.Ports.{pair_count}
 use Rattle.offer_answer.proofs.Alike.{Alike}
 use Rattle.call_board.specs.Acts.{Call, BoardEntry}
-use Rattle.call_board.specs.Calls.{begun, live, find_call, new_call, lowest_but, rounds}
+use Rattle.call_board.specs.Calls.{begun, live, find_call, new_call, lowest_but, rounds, due_moment, is_ending}
 use Rattle.call_board.specs.Pairs.{free, next_generation, drawn}
 use Rattle.call_board.specs.KeptReplies.{kept_reply, keepings}
 use Rattle.call_board.specs.Views.{call_view, view_of}
@@ -65,3 +66,10 @@ new_alike config g h id s =
 -- the rounds of a call that was found
 pub rounds_alike : (config : Config) (g h : List BoardEntry) (id : List ℕ) (of : Call) → AlikeHistories config g h → find_call h id ≡ Some of → Alike config (rounds g of.number) (rounds h of.number)
 rounds_alike config g h id of s is = (s.calls_are of (found_live g id of (found_alike config g h id s ∙ is))).rounds_are
+
+-- whether a call that was found is ending, and when it is due
+pub due_alike : (config : Config) (g h : List BoardEntry) (of : Call) → AlikeHistories config g h → In of (live g) → due_moment g of.number ≡ due_moment h of.number
+due_alike config g h of s i = (s.calls_are of i).due_is
+
+pub ending_alike : (config : Config) (g h : List BoardEntry) (id : List ℕ) (of : Call) → AlikeHistories config g h → find_call h id ≡ Some of → is_ending g of.number ≡ is_ending h of.number
+ending_alike config g h id of s is = ap is_some (due_alike config g h of s (found_live g id of (found_alike config g h id s ∙ is)))

@@ -1,5 +1,5 @@
 -- Views of which a board keeps the same, and what an entry makes of them.
-use Rattle.std.proofs.Common.{◌≡◌, ◌∙◌, refl, sym, ap, subst, ℕ, zero, suc, ◌+◌, ◌<◌, Bool, true, false, cond, List, [], ◌∷◌, ◌++◌, map, length, take, drop, ◌==◌, append-nil}
+use Rattle.std.proofs.Common.{◌≡◌, ◌∙◌, refl, sym, ap, subst, ℕ, zero, suc, ◌+◌, ◌<◌, Bool, true, false, cond, List, [], ◌∷◌, ◌++◌, map, length, take, drop, ◌==◌, Option, Some, None, append-nil}
 use Rattle.std.specs.Prelude.{count_by, max}
 use Rattle.std.specs.List.{flat_map}
 use Rattle.relay_outside.specs.declared.settings.Config.{Config}
@@ -15,10 +15,11 @@ use Rattle.call_board.specs.declared.live_call.LiveCall.{LiveCall}
 use Rattle.call_board.specs.declared.board.Board.{Board}
 use Rattle.call_board.specs.Acts as act
 use Rattle.call_board.specs.Acts.{Call, Lease, Offer, Answer, Act, Control, BoardEvent, Turn, Tick, Stop, BoardEntry}
+use Rattle.call_board.specs.Calls.{due_after, sooner}
 use Rattle.call_board.specs.Pairs.{closed_of}
-use Rattle.call_board.specs.Views.{CallView, View, view_at_moment, with_leases, with_returned, without, goes_on, with_round, is_call_numbered}
+use Rattle.call_board.specs.Views.{CallView, View, view_at_moment, with_leases, with_returned, without, goes_on, ends_by, with_round, with_due, is_call_numbered}
 use Rattle.call_board.specs.Boards.{CallFor, CallsFor, BoardMatches}
-use Rattle.call_board.specs.Whole.{with_draws, with_reply, with_closed, with_more, with_first, with_ended, view_after}
+use Rattle.call_board.specs.Whole.{with_draws, with_reply, with_closed, with_more, with_first, with_due_call, with_ended, view_after}
 use Rattle.call_board.specs.Futures.{closed_pairs}
 use Rattle.call_board.proofs.CallsAfter.{cleared}
 use Rattle.call_board.proofs.Entries.{ended_view, ended_are}
@@ -30,6 +31,7 @@ pub record AlikeCalls (config : Config) (c d : CallView) : Type 0 where
   pub rounds_are : Alike config c.rounds d.rounds
   pub first_is : c.first ≡ d.first
   pub last_is : c.last ≡ d.last
+  pub due_is : c.due ≡ d.due
 
 abbrev pub AllAlike : Config → List CallView → List CallView → Type 0
 AllAlike config [] [] = Unit {0}
@@ -59,6 +61,7 @@ call_of_one config call c d a b = record {
   rounds_are = alike_of_one config call.dialog.value c.rounds d.rounds a.dialog_for b.dialog_for;
   first_is = sym a.first_is ∙ b.first_is;
   last_is = sym a.last_is ∙ b.last_is;
+  due_is = sym a.due_is ∙ b.due_is;
 }
 
 calls_of_one : (config : Config) (calls : List LiveCall) (cs ds : List CallView) → CallsFor config calls cs → CallsFor config calls ds → AllAlike config cs ds
@@ -90,6 +93,7 @@ call_moves config call c d s a = record {
   dialog_for = stands_for_alike config call.dialog.value c.rounds d.rounds s.rounds_are a.dialog_for;
   first_is = a.first_is ∙ s.first_is;
   last_is = a.last_is ∙ s.last_is;
+  due_is = a.due_is ∙ s.due_is;
 }
 
 calls_move : (config : Config) (calls : List LiveCall) (cs ds : List CallView) → AllAlike config cs ds → CallsFor config calls cs → CallsFor config calls ds
@@ -209,6 +213,7 @@ goes_case config number made now (call ∷ calls) c d cs ds same all more true s
     rounds_are = alike_goes_on config c.rounds d.rounds made same.rounds_are (may_keep config call.dialog.value c.rounds made shown.0.dialog_for);
     first_is = same.first_is;
     last_is = refl;
+    due_is = same.due_is;
   },
   all,
 )
@@ -236,6 +241,40 @@ more_alike config of made now calls v w s shown = record {
   keepings_are = s.keepings_are;
 }
 
+due_case : (config : Config) (number due : ℕ) (c d : CallView) (cs ds : List CallView) → AlikeCalls config c d → AllAlike config cs ds → AllAlike config (ends_by number due cs) (ends_by number due ds) →
+    (a : Bool) → AllAlike config (cond a (with_due due c ∷ cs) (c ∷ ends_by number due cs)) (cond a (with_due due d ∷ ds) (d ∷ ends_by number due ds))
+due_case config number due c d cs ds same all more true = (
+  record {
+    of_is = same.of_is;
+    rounds_are = same.rounds_are;
+    first_is = same.first_is;
+    last_is = same.last_is;
+    due_is = ap (λ (o : Option ℕ). Some (sooner due o)) same.due_is;
+  },
+  all,
+)
+due_case config number due c d cs ds same all more false = (same, more)
+
+due_alike : (config : Config) (number due : ℕ) (cs ds : List CallView) → AllAlike config cs ds → AllAlike config (ends_by number due cs) (ends_by number due ds)
+due_alike config number due [] [] s = tt
+due_alike config number due [] (d ∷ ds) s = elim s [ ]
+due_alike config number due (c ∷ cs) [] s = elim s [ ]
+due_alike config number due (c ∷ cs) (d ∷ ds) s =
+    subst (λ (b : Bool). AllAlike config (ends_by number due (c ∷ cs)) (cond b (with_due due d ∷ ds) (d ∷ ends_by number due ds)))
+    (ap (λ (of : Call). of.number == number) s.0.of_is)
+    (due_case config number due c d cs ds s.0 s.1 (due_alike config number due cs ds s.1) (is_call_numbered number c))
+
+delayed_alike : (config : Config) (number due : ℕ) (v w : View) → AlikeViews config v w → AlikeViews config (with_due_call number due v) (with_due_call number due w)
+delayed_alike config number due v w s = record {
+  moment_is = s.moment_is;
+  begun_is = s.begun_is;
+  drawn_is = s.drawn_is;
+  calls_are = due_alike config number due v.calls w.calls s.calls_are;
+  free_is = s.free_is;
+  leases_are = s.leases_are;
+  keepings_are = s.keepings_are;
+}
+
 pushed_alike : (config : Config) (calls : List LiveCall) (c : CallView) (cs ds : List CallView) → AllAlike config cs ds → CallsFor config calls (cs ++ c ∷ []) →
     AllAlike config (cs ++ c ∷ []) (ds ++ c ∷ [])
 pushed_alike config [] c [] [] s shown = elim shown [ ]
@@ -251,7 +290,7 @@ first_alike config of made now calls v w s shown = record {
   moment_is = s.moment_is;
   begun_is = ap (λ n. n + 1) s.begun_is;
   drawn_is = s.drawn_is;
-  calls_are = pushed_alike config calls (record { of = of; rounds = made ∷ []; first = now; last = now }) v.calls w.calls s.calls_are shown;
+  calls_are = pushed_alike config calls (record { of = of; rounds = made ∷ []; first = now; last = now; due = None }) v.calls w.calls s.calls_are shown;
   free_is = s.free_is;
   leases_are = s.leases_are;
   keepings_are = s.keepings_are;
@@ -319,6 +358,11 @@ module _ (config : Config) (board : Board) (g h : List BoardEntry) (now : ℕ) (
       reply_alike config (view_at_moment v now) (view_at_moment w now) now c (moment_alike config v w now s) (are_keepings config board (with_reply now c (view_at_moment v now)) shown)
   turned_alike act.Told same shown =
       reply_alike config (view_at_moment v now) (view_at_moment w now) now c (moment_alike config v w now s) (are_keepings config board (with_reply now c (view_at_moment v now)) shown)
+  turned_alike (act.Delayed of seconds) same shown =
+      let ending = λ (x : View). with_due_call of.number (due_after now seconds) (view_at_moment x now) in
+      reply_alike config (ending v) (ending w) now c
+      (delayed_alike config of.number (due_after now seconds) (view_at_moment v now) (view_at_moment w now) (moment_alike config v w now s))
+      (are_keepings config board (with_reply now c (ending v)) shown)
   turned_alike (act.Undone code leases draws) same shown =
       let pairs : List ℕ = map (λ (lease : Lease). lease.pair) leases in
       let leased = λ (x : View). with_draws (with_leases (view_at_moment x now) (length leases)) (length draws) in

@@ -16,7 +16,7 @@ use Rattle.offer_answer.specs.Dialogs.{DialogFor, Awaits}
 use Rattle.offer_answer.specs.declared.dialog.Dialog.{Dialog}
 use Rattle.offer_answer.specs.declared.plan.Plan.{Plan}
 use Rattle.call_board.specs.declared.live_call.LiveCall.{LiveCall}
-use Rattle.call_board.specs.Views.{CallView, is_call_numbered, with_round, goes_on}
+use Rattle.call_board.specs.Views.{CallView, is_call_numbered, change_call}
 use Rattle.call_board.specs.Boards.{CallFor, CallsFor, CellsFor}
 use Rattle.call_board.specs.NextBoards.{IsPlanOf, BeginsBy}
 use Rattle.call_board.specs.declared.board_plan.NewCall.{NewCall}
@@ -38,45 +38,48 @@ pub applied : (config : Config) (old new : Dialog) (plan : Plan) (rounds : List 
 applied config old new plan rounds (Offered ask legs keys) o a d w p = o config rounds ask p.0 keys legs d w p.1 p.2
 applied config old new plan rounds (Answered ask) o a d w p = a config rounds ask d p
 
-went_on_at : (config : Config) (number : ℕ) (round : Round) (now : ℕ) (calls : List LiveCall) (cs : List CallView) (i : ℕ) (d new : LiveCall) → CallsFor config calls cs → i < length calls →
-    ((get_or calls i d).number == number) ≡ true → ((k : ℕ) → k < i → ((get_or calls k d).number == number) ≡ false) →
-    ((c : CallView) → first (filter (is_call_numbered number) cs) ≡ Some c → CallFor config new (with_round round now c)) → CallsFor config (set calls i new) (goes_on number round now cs)
-went_on_at config number round now [] cs i d new s below is_so is_not step = absurd (omega (arith, below))
-went_on_at config number round now (call ∷ calls) [] i d new s below is_so is_not step = elim s [ ]
-went_on_at config number round now (call ∷ calls) (c ∷ cs) zero d new s below is_so is_not step =
-    let is : is_call_numbered number c ≡ true = ap (λ n. n == number) (sym s.0.number_is) ∙ is_so in
-    subst (λ (b : Bool). CallsFor config (new ∷ calls) (cond b (with_round round now c ∷ cs) (c ∷ goes_on number round now cs))) (sym is)
-    (step c (ap (λ (b : Bool). first (cond b (c ∷ filter (is_call_numbered number) cs) (filter (is_call_numbered number) cs))) is), s.1)
-went_on_at config number round now (call ∷ calls) (c ∷ cs) (suc i) d new s below is_so is_not step =
-    let is : is_call_numbered number c ≡ false = ap (λ n. n == number) (sym s.0.number_is) ∙ is_not zero (omega arith) in
-    subst (λ (b : Bool). CallsFor config (call ∷ set calls i new) (cond b (with_round round now c ∷ cs) (c ∷ goes_on number round now cs))) (sym is) (
-      s.0,
-      went_on_at config number round now calls cs i d new s.1 (omega (arith, below)) is_so (λ k lt. is_not (suc k) (omega (arith, lt)))
-          (λ e f. step e (ap (λ (b : Bool). first (cond b (c ∷ filter (is_call_numbered number) cs) (filter (is_call_numbered number) cs))) is ∙ f)),
-    )
+-- Live calls of which one changes: its number and its cell stay.
+module _ (config : Config) (number : ℕ) (change : CallView → CallView) where
+  changed_at : (calls : List LiveCall) (cs : List CallView) (i : ℕ) (d new : LiveCall) → CallsFor config calls cs → i < length calls →
+      ((get_or calls i d).number == number) ≡ true → ((k : ℕ) → k < i → ((get_or calls k d).number == number) ≡ false) →
+      ((c : CallView) → first (filter (is_call_numbered number) cs) ≡ Some c → CallFor config new (change c)) → CallsFor config (set calls i new) (change_call number change cs)
+  changed_at [] cs i d new s below is_so is_not step = absurd (omega (arith, below))
+  changed_at (call ∷ calls) [] i d new s below is_so is_not step = elim s [ ]
+  changed_at (call ∷ calls) (c ∷ cs) zero d new s below is_so is_not step =
+      let is : is_call_numbered number c ≡ true = ap (λ n. n == number) (sym s.0.number_is) ∙ is_so in
+      subst (λ (b : Bool). CallsFor config (new ∷ calls) (cond b (change c ∷ cs) (c ∷ change_call number change cs))) (sym is)
+      (step c (ap (λ (b : Bool). first (cond b (c ∷ filter (is_call_numbered number) cs) (filter (is_call_numbered number) cs))) is), s.1)
+  changed_at (call ∷ calls) (c ∷ cs) (suc i) d new s below is_so is_not step =
+      let is : is_call_numbered number c ≡ false = ap (λ n. n == number) (sym s.0.number_is) ∙ is_not zero (omega arith) in
+      subst (λ (b : Bool). CallsFor config (call ∷ set calls i new) (cond b (change c ∷ cs) (c ∷ change_call number change cs))) (sym is) (
+        s.0,
+        changed_at calls cs i d new s.1 (omega (arith, below)) is_so (λ k lt. is_not (suc k) (omega (arith, lt)))
+            (λ e f. step e (ap (λ (b : Bool). first (cond b (c ∷ filter (is_call_numbered number) cs) (filter (is_call_numbered number) cs))) is ∙ f)),
+      )
 
--- the other calls are kept as before
-pub went_on : (config : Config) (number : ℕ) (round : Round) (now : ℕ) (calls : List LiveCall) (cs : List CallView) (i : ℕ) (d new : LiveCall) → CallsFor config calls cs →
-    position (λ (call : LiveCall). call.number == number) calls ≡ Some i →
-    ((c : CallView) → first (filter (is_call_numbered number) cs) ≡ Some c → CallFor config new (with_round round now c)) → CallsFor config (set calls i new) (goes_on number round now cs)
-went_on config number round now calls cs i d new s e step =
-    let f = position-Some (λ (call : LiveCall). call.number == number) calls i d e in went_on_at config number round now calls cs i d new s f.0 f.1 f.2 step
+  -- the other calls are kept as before
+  pub changed : (calls : List LiveCall) (cs : List CallView) (i : ℕ) (d new : LiveCall) → CallsFor config calls cs →
+      position (λ (call : LiveCall). call.number == number) calls ≡ Some i →
+      ((c : CallView) → first (filter (is_call_numbered number) cs) ≡ Some c → CallFor config new (change c)) → CallsFor config (set calls i new) (change_call number change cs)
+  changed calls cs i d new s e step =
+      let f = position-Some (λ (call : LiveCall). call.number == number) calls i d e in changed_at calls cs i d new s f.0 f.1 f.2 step
 
 abbrev cells : List CallView → List ℕ
 cells cs = map (λ (c : CallView). c.of.cell) cs
 
-same_cells : (number : ℕ) (round : Round) (now : ℕ) (cs : List CallView) → cells (goes_on number round now cs) ≡ cells cs
-same_cells number round now [] = refl
-same_cells number round now (c ∷ cs) = go (is_call_numbered number c) (same_cells number round now cs)
+same_cells : (number : ℕ) (change : CallView → CallView) → ((c : CallView) → (change c).of.cell ≡ c.of.cell) → (cs : List CallView) → cells (change_call number change cs) ≡ cells cs
+same_cells number change same [] = refl
+same_cells number change same (c ∷ cs) = go (is_call_numbered number c) (same_cells number change same cs)
   where
-    go : (b : Bool) → cells (goes_on number round now cs) ≡ cells cs → cells (cond b (with_round round now c ∷ cs) (c ∷ goes_on number round now cs)) ≡ c.of.cell ∷ cells cs
-    go true more = refl
+    go : (b : Bool) → cells (change_call number change cs) ≡ cells cs → cells (cond b (change c ∷ cs) (c ∷ change_call number change cs)) ≡ c.of.cell ∷ cells cs
+    go true more = ap (λ (n : ℕ). n ∷ cells cs) (same c)
     go false more = ap (λ (ns : List ℕ). c.of.cell ∷ ns) more
 
-pub cells_stay : (config : Config) (taken : List Bool) (number : ℕ) (round : Round) (now : ℕ) (cs : List CallView) → CellsFor config taken cs → CellsFor config taken (goes_on number round now cs)
-cells_stay config taken number round now cs s = record {
+pub cells_stay : (config : Config) (taken : List Bool) (number : ℕ) (change : CallView → CallView) → ((c : CallView) → (change c).of.cell ≡ c.of.cell) → (cs : List CallView) →
+    CellsFor config taken cs → CellsFor config taken (change_call number change cs)
+cells_stay config taken number change same cs s = record {
   count_is = s.count_is;
-  taken_are = λ k d below. s.taken_are k d below ∙ ap (λ (ns : List ℕ). has ns (1 + k)) (sym (same_cells number round now cs));
+  taken_are = λ k d below. s.taken_are k d below ∙ ap (λ (ns : List ℕ). has ns (1 + k)) (sym (same_cells number change same cs));
 }
 
 -- one more call, after the others

@@ -90,6 +90,7 @@ one_begun (act.Undone code leases draws) = omega arith
 one_begun (act.Deleted of) = omega arith
 one_begun (act.Queried of) = omega arith
 one_begun act.Told = omega arith
+one_begun (act.Delayed of s) = omega arith
 
 -- at most one call is begun at each entry
 pub few_begun : (h : List BoardEntry) → length (begun h) ≤ length h
@@ -187,7 +188,7 @@ demand_case config h c (Ok said.Ping) is = omega arith
 demand_case config h c (Ok (said.Offer id from_tag sdp options)) is =
     few_keys_asked (rounds_of_call h (find_call h id)) (offer_ask from_tag sdp options c.chosen) (offer_sound config c.too_long c.pairs id from_tag sdp options is)
 demand_case config h c (Ok (said.Answer id from_tag to_tag sdp options)) is = omega arith
-demand_case config h c (Ok (said.Delete id from_tag fatal)) is = omega arith
+demand_case config h c (Ok (said.Delete id from_tag fatal seconds)) is = omega arith
 demand_case config h c (Ok (said.Query id)) is = omega arith
 demand_case config h c (Ok (said.Listing limit)) is = omega arith
 
@@ -211,6 +212,7 @@ given_few demand given (act.Answered a) few gives = none_drawn given gives.0.no_
 given_few demand given (act.Deleted of) few gives = none_drawn given gives.0.no_draws
 given_few demand given (act.Queried of) few gives = none_drawn given gives.0.no_draws
 given_few demand given act.Told few gives = none_drawn given gives.0.no_draws
+given_few demand given (act.Delayed of s) few gives = none_drawn given gives.0.no_draws
 
 event_few : (config : Config) (h : List BoardEntry) (now : ℕ) (event : BoardEvent) → FitsAt config h now event → length (draws_of_act (act (record { moment = now; event = event }))) ≤ 24
 event_few config h now (Turn c) fits =

@@ -35,6 +35,7 @@ begins_by config h e (act.Answered a) shown = nothing refl
 begins_by config h e (act.Deleted of) shown = nothing refl
 begins_by config h e (act.Queried of) shown = nothing refl
 begins_by config h e act.Told shown = nothing refl
+begins_by config h e (act.Delayed of s) shown = nothing refl
 
 pub entry_begins : (config : Config) (h : List BoardEntry) (e : BoardEntry) → FitsBoard config h e → Begins config h (begun_by_act (act e))
 entry_begins config h e fits = begins_by config h e (act e) (tells config h e fits)

@@ -1,5 +1,5 @@
 -- What an entry makes of the live calls, of their rounds and of their moments.
-use Rattle.std.proofs.Common.{◌≡◌, ◌∙◌, refl, sym, ap, subst, ℕ, ◌≤◌, ◌<◌, ◌⊎◌, inl, inr, List, [], ◌∷◌, ◌++◌, map, filter, length, Bool, true, false, cond, not, ◌==◌, arith, length-append}
+use Rattle.std.proofs.Common.{◌≡◌, ◌∙◌, refl, sym, ap, subst, ℕ, ◌≤◌, ◌<◌, ◌⊎◌, inl, inr, List, [], ◌∷◌, ◌++◌, map, filter, length, Bool, true, false, cond, not, None, ◌==◌, arith, length-append}
 use Rattle.std.specs.Prelude.{◌&&◌}
 use Rattle.relay_outside.specs.declared.settings.Config.{Config}
 use Rattle.histories.specs.Words.{In, here, there, first, final, has}
@@ -9,12 +9,12 @@ use Rattle.offer_answer.specs.Rounds.{Round}
 use Rattle.offer_answer.specs.Sides.{is_begun}
 use Rattle.call_board.specs.Acts as act
 use Rattle.call_board.specs.Acts.{Call, Offer, Answer, Act, BoardEntry, act}
-use Rattle.call_board.specs.Calls.{begun, begun_by_act, rounds, round_of, is_round, moment_or_zero, first_moment, latest_moment}
+use Rattle.call_board.specs.Calls.{begun, begun_by_act, rounds, round_of, is_round, moment_or_zero, first_moment, latest_moment, due_after, dues_by_act, dues, least, due_moment}
 use Rattle.call_board.specs.Fits.{FitsBoard, IsFitting}
-use Rattle.call_board.specs.Views.{CallView, call_view, with_round, without, goes_on}
+use Rattle.call_board.specs.Views.{CallView, call_view, with_round, change_call, without}
 use Rattle.call_board.proofs.Once.{Once, once_filtered}
 use Rattle.call_board.proofs.Sieves.{filter_both, filter_alike, filter_whole}
-use Rattle.call_board.proofs.Tells.{answer_told}
+use Rattle.call_board.proofs.Tells.{answer_told, delay_told}
 use Rattle.call_board.proofs.Calls.{begun_below, live_begun, offered_live}
 
 abbrev number_of : Call → ℕ
@@ -42,6 +42,7 @@ round_case config h e n (act.Undone code leases draws) old fits is same = absurd
 round_case config h e n (act.Deleted of) old fits is same = absurd (let q = same in cc)
 round_case config h e n (act.Queried of) old fits is same = absurd (let q = same in cc)
 round_case config h e n act.Told old fits is same = absurd (let q = same in cc)
+round_case config h e n (act.Delayed of s) old fits is same = absurd (let q = same in cc)
 
 no_round : (n : ℕ) (a : Act) → is_round n a ≡ false → round_of n a ≡ []
 no_round n (act.Offered o) is = ap (λ b. cond b (round.Offered o.ask o.legs o.keys ∷ []) []) is
@@ -53,6 +54,7 @@ no_round n (act.Undone code leases draws) is = refl
 no_round n (act.Deleted of) is = refl
 no_round n (act.Queried of) is = refl
 no_round n act.Told is = refl
+no_round n (act.Delayed of s) is = refl
 
 -- the entries that are rounds of a call
 abbrev pub round_entries : ℕ → List BoardEntry → List BoardEntry
@@ -71,6 +73,34 @@ pub rounds_fresh : (config : Config) (h : List BoardEntry) (n : ℕ) → IsFitti
 rounds_fresh config [] n fits above = (refl, refl)
 rounds_fresh config (e ∷ h) n fits above =
     fresh_case config h e n fits.1 fits.0 above (rounds_fresh config h n fits.1 (let more = begun_more h e in omega (arith, above, more))) (is_round n (act e)) refl
+
+-- a delete with a delay finds a call that was begun
+due_case : (config : Config) (h : List BoardEntry) (e : BoardEntry) (n : ℕ) (a : Act) → IsFitting config h → FitsBoard config h e → act e ≡ a → length (begun h) ≤ n → dues_by_act n e.moment a ≡ []
+due_case config h e n (act.Delayed of seconds) old fits is above = go (of.number == n) refl
+  where
+    go : (b : Bool) → (of.number == n) ≡ b → dues_by_act n e.moment (act.Delayed of seconds) ≡ []
+    go true same =
+        let shown = delay_told config h e of seconds fits is in
+        let below = begun_below config h of old (live_begun h of shown.is_live) in
+        let number = equal_if of.number n same in absurd (omega (arith, below, number, above))
+    go false same = ap (λ b. cond b (due_after e.moment seconds ∷ []) []) same
+due_case config h e n (act.Offered o) old fits is above = refl
+due_case config h e n (act.Answered a) old fits is above = refl
+due_case config h e n act.Repeated old fits is above = refl
+due_case config h e n act.OutOfMemory old fits is above = refl
+due_case config h e n (act.Failed code) old fits is above = refl
+due_case config h e n (act.Undone code leases draws) old fits is above = refl
+due_case config h e n (act.Deleted of) old fits is above = refl
+due_case config h e n (act.Queried of) old fits is above = refl
+due_case config h e n act.Told old fits is above = refl
+
+-- a call that was not begun has no due moment
+pub dues_fresh : (config : Config) (h : List BoardEntry) (n : ℕ) → IsFitting config h → length (begun h) ≤ n → dues h n ≡ []
+dues_fresh config [] n fits above = refl
+dues_fresh config (e ∷ h) n fits above =
+    let more = begun_more h e in
+    let before : length (begun h) ≤ n = omega (arith, above, more) in
+    ap (λ (ds : List ℕ). ds ++ dues h n) (due_case config h e n (act e) fits.1 fits.0 refl before) ∙ dues_fresh config h n fits.1 before
 
 begun_right : (xs ys : List Round) → is_begun ys ≡ true → is_begun (xs ++ ys) ≡ true
 begun_right [] ys is = is
@@ -105,6 +135,7 @@ first_case h e c (act.Undone code leases draws) is i = elim i [ ]
 first_case h e c (act.Deleted of) is i = elim i [ ]
 first_case h e c (act.Queried of) is i = elim i [ ]
 first_case h e c act.Told is i = elim i [ ]
+first_case h e c (act.Delayed of s) is i = elim i [ ]
 
 had_case : (h : List BoardEntry) (e : BoardEntry) (c : Call) → (In c (begun h) → HasRounds h c.number) → In c (begun h) ⊎ In c (begun_by_act (act e)) → HasRounds (e ∷ h) c.number
 had_case h e c rest (inl i) =
@@ -125,31 +156,35 @@ final_more e (f ∷ es) some = refl
 
 -- a call of which the entry is a round, or is none
 pub call_after : (h : List BoardEntry) (e : BoardEntry) (c : Call) (made : Round) (b : Bool) → is_round c.number (act e) ≡ b → round_of c.number (act e) ≡ cond b (made ∷ []) [] →
-    0 < length (round_entries c.number h) → call_view (e ∷ h) c ≡ cond b (with_round made e.moment (call_view h c)) (call_view h c)
-call_after h e c made true is its some =
+    dues_by_act c.number e.moment (act e) ≡ [] → 0 < length (round_entries c.number h) → call_view (e ∷ h) c ≡ cond b (with_round made e.moment (call_view h c)) (call_view h c)
+call_after h e c made true is its no_due some =
     let entries : round_entries c.number (e ∷ h) ≡ e ∷ round_entries c.number h = ap (λ b. cond b (e ∷ round_entries c.number h) (round_entries c.number h)) is in
     let p : rounds (e ∷ h) c.number ≡ made ∷ rounds h c.number = ap (λ (rs : List Round). rs ++ rounds h c.number) its in
     let q : first_moment (e ∷ h) c.number ≡ first_moment h c.number =
     ap (λ (es : List BoardEntry). moment_or_zero (final es)) entries ∙ ap moment_or_zero (final_more e (round_entries c.number h) some) in
     let r : latest_moment (e ∷ h) c.number ≡ e.moment = ap (λ (es : List BoardEntry). moment_or_zero (first es)) entries in
-    λ i. record { of = c; rounds = p i; first = q i; last = r i }
-call_after h e c made false is its some =
+    let d : due_moment (e ∷ h) c.number ≡ due_moment h c.number = ap (λ (ds : List ℕ). least (ds ++ dues h c.number)) no_due in
+    λ i. record { of = c; rounds = p i; first = q i; last = r i; due = d i }
+call_after h e c made false is its no_due some =
     let entries : round_entries c.number (e ∷ h) ≡ round_entries c.number h = ap (λ b. cond b (e ∷ round_entries c.number h) (round_entries c.number h)) is in
     let p : rounds (e ∷ h) c.number ≡ rounds h c.number = ap (λ (rs : List Round). rs ++ rounds h c.number) its in
     let q : first_moment (e ∷ h) c.number ≡ first_moment h c.number = ap (λ (es : List BoardEntry). moment_or_zero (final es)) entries in
     let r : latest_moment (e ∷ h) c.number ≡ latest_moment h c.number = ap (λ (es : List BoardEntry). moment_or_zero (first es)) entries in
-    λ i. record { of = c; rounds = p i; first = q i; last = r i }
+    let d : due_moment (e ∷ h) c.number ≡ due_moment h c.number = ap (λ (ds : List ℕ). least (ds ++ dues h c.number)) no_due in
+    λ i. record { of = c; rounds = p i; first = q i; last = r i; due = d i }
 
 -- a call that the entry begins
 pub call_begun : (h : List BoardEntry) (e : BoardEntry) (c : Call) (made : Round) → is_round c.number (act e) ≡ true → round_of c.number (act e) ≡ made ∷ [] →
-    rounds h c.number ≡ [] → round_entries c.number h ≡ [] → call_view (e ∷ h) c ≡ record { of = c; rounds = made ∷ []; first = e.moment; last = e.moment }
-call_begun h e c made is its none no_entries =
+    dues_by_act c.number e.moment (act e) ≡ [] → rounds h c.number ≡ [] → round_entries c.number h ≡ [] → dues h c.number ≡ [] →
+    call_view (e ∷ h) c ≡ record { of = c; rounds = made ∷ []; first = e.moment; last = e.moment; due = None }
+call_begun h e c made is its no_due none no_entries no_dues =
     let entries : round_entries c.number (e ∷ h) ≡ e ∷ [] =
     ap (λ b. cond b (e ∷ round_entries c.number h) (round_entries c.number h)) is ∙ ap (λ (es : List BoardEntry). e ∷ es) no_entries in
     let p : rounds (e ∷ h) c.number ≡ made ∷ [] = ap (λ (rs : List Round). rs ++ rounds h c.number) its ∙ ap (λ (rs : List Round). made ∷ rs) none in
     let q : first_moment (e ∷ h) c.number ≡ e.moment = ap (λ (es : List BoardEntry). moment_or_zero (final es)) entries in
     let r : latest_moment (e ∷ h) c.number ≡ e.moment = ap (λ (es : List BoardEntry). moment_or_zero (first es)) entries in
-    λ i. record { of = c; rounds = p i; first = q i; last = r i }
+    let d : due_moment (e ∷ h) c.number ≡ None = ap (λ (ds : List ℕ). least (ds ++ dues h c.number)) no_due ∙ ap least no_dues in
+    λ i. record { of = c; rounds = p i; first = q i; last = r i; due = d i }
 
 -- Lists of calls in which each number stands once.
 
@@ -174,23 +209,22 @@ map_alike f g (x ∷ xs) alike = ap (λ y. y ∷ map f xs) (alike x (here refl))
 pub record Views (f : Call → CallView) : Type 0 where
   pub of_is : (c : Call) → (f c).of.number ≡ c.number
 
-on_case : (f : Call → CallView) (n : ℕ) (made : Round) (now : ℕ) (c : Call) (calls : List Call) → (In c.number (map number_of calls) → ⊥) →
-    goes_on n made now (map f calls) ≡ map (λ d. cond (d.number == n) (with_round made now (f d)) (f d)) calls → (b : Bool) → (c.number == n) ≡ b →
-    cond b (with_round made now (f c) ∷ map f calls) (f c ∷ goes_on n made now (map f calls))
-    ≡ cond b (with_round made now (f c)) (f c) ∷ map (λ d. cond (d.number == n) (with_round made now (f d)) (f d)) calls
-on_case f n made now c calls new rest true is =
-    ap (λ ds. with_round made now (f c) ∷ ds)
-    (map_alike f (λ d. cond (d.number == n) (with_round made now (f d)) (f d)) calls
-    (λ d i. sym (ap (λ b. cond b (with_round made now (f d)) (f d)) (other_number n c d calls new (equal_if c.number n is) i (d.number == n) refl))))
-on_case f n made now c calls new rest false is = ap (λ ds. f c ∷ ds) rest
+on_case : (f : Call → CallView) (n : ℕ) (change : CallView → CallView) (c : Call) (calls : List Call) → (In c.number (map number_of calls) → ⊥) →
+    change_call n change (map f calls) ≡ map (λ d. cond (d.number == n) (change (f d)) (f d)) calls → (b : Bool) → (c.number == n) ≡ b →
+    cond b (change (f c) ∷ map f calls) (f c ∷ change_call n change (map f calls)) ≡ cond b (change (f c)) (f c) ∷ map (λ d. cond (d.number == n) (change (f d)) (f d)) calls
+on_case f n change c calls new rest true is =
+    ap (λ ds. change (f c) ∷ ds)
+    (map_alike f (λ d. cond (d.number == n) (change (f d)) (f d)) calls
+    (λ d i. sym (ap (λ b. cond b (change (f d)) (f d)) (other_number n c d calls new (equal_if c.number n is) i (d.number == n) refl))))
+on_case f n change c calls new rest false is = ap (λ ds. f c ∷ ds) rest
 
--- one call has a round more
-pub goes_on_map : (f : Call → CallView) (n : ℕ) (made : Round) (now : ℕ) (calls : List Call) → Views f → Once (map number_of calls) →
-    goes_on n made now (map f calls) ≡ map (λ c. cond (c.number == n) (with_round made now (f c)) (f c)) calls
-goes_on_map f n made now [] views once = refl
-goes_on_map f n made now (c ∷ calls) views once =
-    ap (λ m. cond (m == n) (with_round made now (f c) ∷ map f calls) (f c ∷ goes_on n made now (map f calls))) (views.of_is c)
-    ∙ on_case f n made now c calls once.0 (goes_on_map f n made now calls views once.1) (c.number == n) refl
+-- one call is changed
+pub changed_map : (f : Call → CallView) (n : ℕ) (change : CallView → CallView) (calls : List Call) → Views f → Once (map number_of calls) →
+    change_call n change (map f calls) ≡ map (λ c. cond (c.number == n) (change (f c)) (f c)) calls
+changed_map f n change [] views once = refl
+changed_map f n change (c ∷ calls) views once =
+    ap (λ m. cond (m == n) (change (f c) ∷ map f calls) (f c ∷ change_call n change (map f calls))) (views.of_is c)
+    ∙ on_case f n change c calls once.0 (changed_map f n change calls views once.1) (c.number == n) refl
 
 without_case : (f : Call → CallView) (n : ℕ) (c : Call) (calls : List Call) → (In c.number (map number_of calls) → ⊥) → without n (map f calls) ≡ map f (filter (λ d. not (n == d.number)) calls) →
     (b : Bool) → (c.number == n) ≡ b →

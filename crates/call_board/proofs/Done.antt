@@ -20,7 +20,7 @@ use Rattle.call_board.specs.KeptReplies.{kept_reply}
 use Rattle.call_board.specs.Requests.{ReadsBody, asked}
 use Rattle.call_board.specs.Replies.{Reply, Pong, Done, Warned, Described, Reported, Listed, Fault, reply_datagram}
 use Rattle.call_board.specs.Reports.{Report}
-use Rattle.call_board.specs.Answers.{Answering, Answered, failing, telling, offering, leased_pairs, offer_ask, answer_ask, offer_leased, offer_to, answer_to, delete_of, nothing_to_end, names_side, reported_legs, query_of, answering, answering_asked, answering_unless, spelled}
+use Rattle.call_board.specs.Answers.{Answering, Answered, failing, telling, offering, leased_pairs, offer_ask, answer_ask, offer_leased, offer_to, answer_to, deleting, delete_of, nothing_to_end, names_side, reported_legs, query_of, answering, answering_asked, answering_unless, spelled}
 use Rattle.call_board.specs.Fits.{FitsControl, GivesFor, ReadsRequest, asks_after, demanded, demanded_by, is_read, is_request_read}
 use Rattle.call_board.specs.Views.{view_of}
 use Rattle.call_board.specs.Plans.{PlansOffer, target}
@@ -58,7 +58,7 @@ same_answering config h c due (Err code) = refl
 same_answering config h c due (Ok said.Ping) = refl
 same_answering config h c due (Ok (said.Offer id from_tag sdp options)) = refl
 same_answering config h c due (Ok (said.Answer id from_tag to_tag sdp options)) = refl
-same_answering config h c due (Ok (said.Delete id from_tag fatal)) = refl
+same_answering config h c due (Ok (said.Delete id from_tag fatal seconds)) = refl
 same_answering config h c due (Ok (said.Query id)) = refl
 same_answering config h c due (Ok (said.Listing limit)) = refl
 
@@ -76,7 +76,7 @@ same_hears h c due (Err code) hears = tt
 same_hears h c due (Ok said.Ping) hears = tt
 same_hears h c due (Ok (said.Offer id from_tag sdp options)) hears = hears
 same_hears h c due (Ok (said.Answer id from_tag to_tag sdp options)) hears = hears
-same_hears h c due (Ok (said.Delete id from_tag fatal)) hears = tt
+same_hears h c due (Ok (said.Delete id from_tag fatal seconds)) hears = tt
 same_hears h c due (Ok (said.Query id)) hears = tt
 same_hears h c due (Ok (said.Listing limit)) hears = tt
 
@@ -85,7 +85,7 @@ same_demand h c due (Err code) = refl
 same_demand h c due (Ok said.Ping) = refl
 same_demand h c due (Ok (said.Offer id from_tag sdp options)) = refl
 same_demand h c due (Ok (said.Answer id from_tag to_tag sdp options)) = refl
-same_demand h c due (Ok (said.Delete id from_tag fatal)) = refl
+same_demand h c due (Ok (said.Delete id from_tag fatal seconds)) = refl
 same_demand h c due (Ok (said.Query id)) = refl
 same_demand h c due (Ok (said.Listing limit)) = refl
 
@@ -161,45 +161,45 @@ listed_due config h now c limit asks = asked_due config h now c (Ok (said.Listin
 
 -- Deletes.
 
-delete_due : (config : Config) (h : List BoardEntry) (now : ℕ) (c : Control) (id : List ℕ) (tag : Option (List ℕ)) (fatal : Bool) (due : Answering)
-    → Asks config h now c (Ok (said.Delete id tag fatal)) → delete_of h tag fatal (find_call h id) ≡ due → IsDue config h now c (spelled config c.cookie c.body due)
-delete_due config h now c id tag fatal due asks is = asked_due config h now c (Ok (said.Delete id tag fatal)) asks ∙ ap (spelled config c.cookie c.body) is
+delete_due : (config : Config) (h : List BoardEntry) (now : ℕ) (c : Control) (id : List ℕ) (tag : Option (List ℕ)) (fatal : Bool) (seconds : ℕ) (due : Answering)
+    → Asks config h now c (Ok (said.Delete id tag fatal seconds)) → delete_of h tag fatal seconds (find_call h id) ≡ due → IsDue config h now c (spelled config c.cookie c.body due)
+delete_due config h now c id tag fatal seconds due asks is = asked_due config h now c (Ok (said.Delete id tag fatal seconds)) asks ∙ ap (spelled config c.cookie c.body) is
 
 -- no live call has the call-id: a fault where that is fatal, and a warning elsewhere
-pub delete_unknown_due : (config : Config) (h : List BoardEntry) (now : ℕ) (c : Control) (id : List ℕ) (tag : Option (List ℕ)) (fatal : Bool)
-    → Asks config h now c (Ok (said.Delete id tag fatal)) → find_call h id ≡ None → fatal ≡ true → IsDue config h now c (with_reply config c (Fault E9) (act.Failed E9))
-delete_unknown_due config h now c id tag fatal asks none is =
-    delete_due config h now c id tag fatal (failing E9) asks (ap (delete_of h tag fatal) none ∙ ap (λ b. nothing_to_end b E9) is)
+pub delete_unknown_due : (config : Config) (h : List BoardEntry) (now : ℕ) (c : Control) (id : List ℕ) (tag : Option (List ℕ)) (fatal : Bool) (seconds : ℕ)
+    → Asks config h now c (Ok (said.Delete id tag fatal seconds)) → find_call h id ≡ None → fatal ≡ true → IsDue config h now c (with_reply config c (Fault E9) (act.Failed E9))
+delete_unknown_due config h now c id tag fatal seconds asks none is =
+    delete_due config h now c id tag fatal seconds (failing E9) asks (ap (delete_of h tag fatal seconds) none ∙ ap (λ b. nothing_to_end b E9) is)
 
-pub delete_unknown_warned : (config : Config) (h : List BoardEntry) (now : ℕ) (c : Control) (id : List ℕ) (tag : Option (List ℕ)) (fatal : Bool)
-    → Asks config h now c (Ok (said.Delete id tag fatal)) → find_call h id ≡ None → fatal ≡ false → IsDue config h now c (with_reply config c (Warned E9) act.Told)
-delete_unknown_warned config h now c id tag fatal asks none is =
-    delete_due config h now c id tag fatal (telling (Warned E9)) asks (ap (delete_of h tag fatal) none ∙ ap (λ b. nothing_to_end b E9) is)
+pub delete_unknown_warned : (config : Config) (h : List BoardEntry) (now : ℕ) (c : Control) (id : List ℕ) (tag : Option (List ℕ)) (fatal : Bool) (seconds : ℕ)
+    → Asks config h now c (Ok (said.Delete id tag fatal seconds)) → find_call h id ≡ None → fatal ≡ false → IsDue config h now c (with_reply config c (Warned E9) act.Told)
+delete_unknown_warned config h now c id tag fatal seconds asks none is =
+    delete_due config h now c id tag fatal seconds (telling (Warned E9)) asks (ap (delete_of h tag fatal seconds) none ∙ ap (λ b. nothing_to_end b E9) is)
 
-delete_found : (h : List BoardEntry) (tag : Option (List ℕ)) (fatal : Bool) (of : Call) (names : Bool) (found : Option Call) → found ≡ Some of → names_side (rounds h of.number) tag ≡ names
-    → delete_of h tag fatal found ≡ cond names (record { reply = Done; act = act.Deleted of }) (nothing_to_end fatal E10)
-delete_found h tag fatal of names found is named =
-    ap (delete_of h tag fatal) is ∙ ap (λ b. cond b (record { reply = Done; act = act.Deleted of }) (nothing_to_end fatal E10)) named
+delete_found : (h : List BoardEntry) (tag : Option (List ℕ)) (fatal : Bool) (seconds : ℕ) (of : Call) (names : Bool) (found : Option Call) → found ≡ Some of → names_side (rounds h of.number) tag ≡ names
+    → delete_of h tag fatal seconds found ≡ cond names (record { reply = Done; act = deleting of seconds }) (nothing_to_end fatal E10)
+delete_found h tag fatal seconds of names found is named =
+    ap (delete_of h tag fatal seconds) is ∙ ap (λ b. cond b (record { reply = Done; act = deleting of seconds }) (nothing_to_end fatal E10)) named
 
 -- the tag is of no side of the call
-pub delete_stranger_due : (config : Config) (h : List BoardEntry) (now : ℕ) (c : Control) (id : List ℕ) (tag : Option (List ℕ)) (fatal : Bool) (of : Call)
-    → Asks config h now c (Ok (said.Delete id tag fatal)) → find_call h id ≡ Some of → names_side (rounds h of.number) tag ≡ false → fatal ≡ true
+pub delete_stranger_due : (config : Config) (h : List BoardEntry) (now : ℕ) (c : Control) (id : List ℕ) (tag : Option (List ℕ)) (fatal : Bool) (seconds : ℕ) (of : Call)
+    → Asks config h now c (Ok (said.Delete id tag fatal seconds)) → find_call h id ≡ Some of → names_side (rounds h of.number) tag ≡ false → fatal ≡ true
     → IsDue config h now c (with_reply config c (Fault E10) (act.Failed E10))
-delete_stranger_due config h now c id tag fatal of asks found names is =
-    delete_due config h now c id tag fatal (failing E10) asks (delete_found h tag fatal of false (find_call h id) found names ∙ ap (λ b. nothing_to_end b E10) is)
+delete_stranger_due config h now c id tag fatal seconds of asks found names is =
+    delete_due config h now c id tag fatal seconds (failing E10) asks (delete_found h tag fatal seconds of false (find_call h id) found names ∙ ap (λ b. nothing_to_end b E10) is)
 
-pub delete_stranger_warned : (config : Config) (h : List BoardEntry) (now : ℕ) (c : Control) (id : List ℕ) (tag : Option (List ℕ)) (fatal : Bool) (of : Call)
-    → Asks config h now c (Ok (said.Delete id tag fatal)) → find_call h id ≡ Some of → names_side (rounds h of.number) tag ≡ false → fatal ≡ false
+pub delete_stranger_warned : (config : Config) (h : List BoardEntry) (now : ℕ) (c : Control) (id : List ℕ) (tag : Option (List ℕ)) (fatal : Bool) (seconds : ℕ) (of : Call)
+    → Asks config h now c (Ok (said.Delete id tag fatal seconds)) → find_call h id ≡ Some of → names_side (rounds h of.number) tag ≡ false → fatal ≡ false
     → IsDue config h now c (with_reply config c (Warned E10) act.Told)
-delete_stranger_warned config h now c id tag fatal of asks found names is =
-    delete_due config h now c id tag fatal (telling (Warned E10)) asks (delete_found h tag fatal of false (find_call h id) found names ∙ ap (λ b. nothing_to_end b E10) is)
+delete_stranger_warned config h now c id tag fatal seconds of asks found names is =
+    delete_due config h now c id tag fatal seconds (telling (Warned E10)) asks (delete_found h tag fatal seconds of false (find_call h id) found names ∙ ap (λ b. nothing_to_end b E10) is)
 
--- the call ends
-pub deleted_due : (config : Config) (h : List BoardEntry) (now : ℕ) (c : Control) (id : List ℕ) (tag : Option (List ℕ)) (fatal : Bool) (of : Call)
-    → Asks config h now c (Ok (said.Delete id tag fatal)) → find_call h id ≡ Some of → names_side (rounds h of.number) tag ≡ true
-    → IsDue config h now c (with_reply config c Done (act.Deleted of))
-deleted_due config h now c id tag fatal of asks found names =
-    delete_due config h now c id tag fatal (record { reply = Done; act = act.Deleted of }) asks (delete_found h tag fatal of true (find_call h id) found names)
+-- the call ends, at once or after a delay
+pub deleted_due : (config : Config) (h : List BoardEntry) (now : ℕ) (c : Control) (id : List ℕ) (tag : Option (List ℕ)) (fatal : Bool) (seconds : ℕ) (of : Call)
+    → Asks config h now c (Ok (said.Delete id tag fatal seconds)) → find_call h id ≡ Some of → names_side (rounds h of.number) tag ≡ true
+    → IsDue config h now c (with_reply config c Done (deleting of seconds))
+deleted_due config h now c id tag fatal seconds of asks found names =
+    delete_due config h now c id tag fatal seconds (record { reply = Done; act = deleting of seconds }) asks (delete_found h tag fatal seconds of true (find_call h id) found names)
 
 -- Answers. What an answer asks has the crypto lines that were chosen for the datagram.
 

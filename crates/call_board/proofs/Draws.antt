@@ -44,6 +44,7 @@ draws_case config h now c (act.Answered x) fits is = sym ((subst (GivesFor (dema
 draws_case config h now c (act.Deleted of) fits is = sym ((subst (GivesFor (demanded config h c) c.given) is fits.gives).0.no_draws)
 draws_case config h now c (act.Queried of) fits is = sym ((subst (GivesFor (demanded config h c) c.given) is fits.gives).0.no_draws)
 draws_case config h now c act.Told fits is = sym ((subst (GivesFor (demanded config h c) c.given) is fits.gives).0.no_draws)
+draws_case config h now c (act.Delayed of s) fits is = sym ((subst (GivesFor (demanded config h c) c.given) is fits.gives).0.no_draws)
 
 -- the keys that a turn draws are those that it was given
 pub entry_draws : (config : Config) (h : List BoardEntry) (now : ℕ) (c : Control) → FitsControl config h now c → draws_of_act c.act ≡ c.given.draws

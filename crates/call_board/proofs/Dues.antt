@@ -10,7 +10,7 @@ use Rattle.relay_outside.specs.declared.address.Family.TheVariants.{V4, V6}
 use Rattle.ng_command.specs.declared.command.AnswerIn.{AnswerIn}
 use Rattle.ng_reply.specs.declared.code.ErrorCode.{ErrorCode}
 use Rattle.ng_reply.specs.declared.code.ErrorCode.TheVariants.{E9, E13, E14}
-use Rattle.histories.specs.Words.{In, first}
+use Rattle.histories.specs.Words.{In, first, or_else}
 use Rattle.offer_answer.specs.Rounds.{Round, OfferAsk, AnswerAsk, NewLeg}
 use Rattle.offer_answer.specs.Demands.{legs_for, new_active_sections}
 use Rattle.offer_answer.specs.Plan as plan
@@ -18,13 +18,13 @@ use Rattle.offer_answer.specs.Plan.{demand}
 use Rattle.offer_answer.specs.Answers.{AsksAnswer}
 use Rattle.call_board.specs.Acts as act
 use Rattle.call_board.specs.Acts.{Call, BoardEntry, Given}
-use Rattle.call_board.specs.Calls.{begun, live, find_call, new_call, rounds, lowest_but}
+use Rattle.call_board.specs.Calls.{begun, live, find_call, new_call, rounds, is_ending, lowest_but}
 use Rattle.call_board.specs.Pairs.{family_eq, free, free_in, is_short, is_short_of, leased_new_legs}
 use Rattle.call_board.specs.Replies.{Described}
-use Rattle.call_board.specs.Answers.{Answering, failing, leased_pairs, offer_leased, offer_planned, offer_unless, offer_to, answer_unless, answer_to}
+use Rattle.call_board.specs.Answers.{Answering, failing, ending_error, leased_pairs, offer_leased, offer_planned, offer_unless, offer_to, answer_unless, answer_to}
 use Rattle.call_board.specs.Views.{View, CallView, call_view, view_of, times_leased, is_of_id, call_of_id, with_calls, goes_on}
 use Rattle.call_board.specs.Boards.{lease_at, front_leases}
-use Rattle.call_board.specs.Plans.{Target, target, target_by, shortage, refusal, fault_or, board_code, BeginsFor, PlansOffer, PlansAnswer, AnswerPlanFor}
+use Rattle.call_board.specs.Plans.{Target, target, target_by, shortage, refusal, fault_or_shortage, board_code, BeginsFor, PlansOffer, PlansAnswer, AnswerPlanFor}
 use Rattle.call_board.specs.NextBoards.{IsNext, taken_in}
 use Rattle.call_board.specs.Whole.{holders_of_new_legs, with_first, with_more}
 use Rattle.call_board.specs.declared.fault.BoardFault.{BoardFault}
@@ -88,31 +88,39 @@ short_is config h rounds ask =
 
 -- the call that an offer of this call-id begins, or the live one that it goes on with
 abbrev pub target_in : List BoardEntry → List ℕ → Option Call → Target
-target_in h id None = record { of = new_call h id; begins = true; rounds = [] }
-target_in h id (Some of) = record { of = of; begins = false; rounds = rounds h of.number }
+target_in h id None = record { of = new_call h id; begins = true; ending = false; rounds = [] }
+target_in h id (Some of) = record { of = of; begins = false; ending = is_ending h of.number; rounds = rounds h of.number }
 
 cells_are : (h : List BoardEntry) → map (λ (c : CallView). c.of.cell) (map (call_view h) (live h)) ≡ map (λ (c : Call). c.cell) (live h)
 cells_are h = map-map (λ (c : CallView). c.of.cell) (call_view h) (live h)
 
 target_case : (config : Config) (h : List BoardEntry) (id : List ℕ) (o : Option Call) → target_by (view_of config h) id (option_map (call_view h) o) ≡ target_in h id o
 target_case config h id None =
-    ap (λ (cells : List ℕ). record { of = record { number = length (begun h); cell = lowest_but cells; id = id }; begins = true; rounds = [] }) (cells_are h)
+    ap (λ (cells : List ℕ). record { of = record { number = length (begun h); cell = lowest_but cells; id = id }; begins = true; ending = false; rounds = [] }) (cells_are h)
 target_case config h id (Some of) = refl
 
 -- the board's call of an offer is that of the history
 pub target_is : (config : Config) (h : List BoardEntry) (id : List ℕ) → target (view_of config h) id ≡ target_in h id (find_call h id)
 target_is config h id = ap (target_by (view_of config h) id) (found_by_id config h id) ∙ target_case config h id (find_call h id)
 
+-- the first fault of an offer that is no shortage
+abbrev fault_of : Target → OfferAsk → Option ErrorCode
+fault_of t ask = or_else (ending_error t.ending) (plan.offer_fault t.rounds ask)
+
+first_of : (a b c : Option ErrorCode) → or_else (or_else a b) c ≡ or_else a (or_else b c)
+first_of (Some code) b c = refl
+first_of None b c = refl
+
 to_case : (config : Config) (h : List BoardEntry) (given : Given) (id : List ℕ) (ask : OfferAsk) (o : Option Call) → offer_to config h given id ask o
-    ≡ offer_unless config h given ask (target_in h id o).of (target_in h id o).begins (target_in h id o).rounds (plan.offer_fault (target_in h id o).rounds ask)
+    ≡ offer_unless config h given ask (target_in h id o).of (target_in h id o).begins (target_in h id o).rounds (fault_of (target_in h id o) ask)
 to_case config h given id ask None = refl
 to_case config h given id ask (Some of) = refl
 
 -- an offer, by the board's call of it
 to_target : (config : Config) (h : List BoardEntry) (given : Given) (id : List ℕ) (ask : OfferAsk) → offer_to config h given id ask (find_call h id)
-    ≡ offer_unless config h given ask (target (view_of config h) id).of (target (view_of config h) id).begins (target (view_of config h) id).rounds (plan.offer_fault (target (view_of config h) id).rounds ask)
+    ≡ offer_unless config h given ask (target (view_of config h) id).of (target (view_of config h) id).begins (target (view_of config h) id).rounds (fault_of (target (view_of config h) id) ask)
 to_target config h given id ask =
-    to_case config h given id ask (find_call h id) ∙ ap (λ (t : Target). offer_unless config h given ask t.of t.begins t.rounds (plan.offer_fault t.rounds ask)) (sym (target_is config h id))
+    to_case config h given id ask (find_call h id) ∙ ap (λ (t : Target). offer_unless config h given ask t.of t.begins t.rounds (fault_of t ask)) (sym (target_is config h id))
 
 -- What is due to an offer.
 
@@ -137,7 +145,7 @@ short_case false false due = refl
 
 fault_case : (config : Config) (h : List BoardEntry) (given : Given) (ask : OfferAsk) (of : Call) (new : Bool) (before : List Round) (fault : Option ErrorCode) →
     offer_unless config h given ask of new before fault
-    ≡ due_or (fault_or fault (shortage config (view_of config h) new before ask)) (offer_leased config h given ask of new before (leased_pairs config h (demand before ask)))
+    ≡ due_or (or_else fault (shortage config (view_of config h) new before ask)) (offer_leased config h given ask of new before (leased_pairs config h (demand before ask)))
 fault_case config h given ask of new before (Some code) = refl
 fault_case config h given ask of new before None =
     planned_by config h given ask of new before
@@ -146,11 +154,13 @@ fault_case config h given ask of new before None =
 
 -- an offer is refused as the board refuses it, or it leases its pairs
 due_by : (config : Config) (h : List BoardEntry) (given : Given) (id : List ℕ) (ask : OfferAsk) (t : Target) → t ≡ target (view_of config h) id → offer_to config h given id ask (find_call h id)
-    ≡ due_or (refusal config (view_of config h) t.begins t.rounds ask) (offer_leased config h given ask t.of t.begins t.rounds (leased_pairs config h (demand t.rounds ask)))
+    ≡ due_or (refusal config (view_of config h) t ask) (offer_leased config h given ask t.of t.begins t.rounds (leased_pairs config h (demand t.rounds ask)))
 due_by config h given id ask t is =
     to_target config h given id ask
-    ∙ ap (λ (t : Target). offer_unless config h given ask t.of t.begins t.rounds (plan.offer_fault t.rounds ask)) (sym is)
-    ∙ fault_case config h given ask t.of t.begins t.rounds (plan.offer_fault t.rounds ask)
+    ∙ ap (λ (t : Target). offer_unless config h given ask t.of t.begins t.rounds (fault_of t ask)) (sym is)
+    ∙ fault_case config h given ask t.of t.begins t.rounds (fault_of t ask)
+    ∙ ap (λ (o : Option ErrorCode). due_or o (offer_leased config h given ask t.of t.begins t.rounds (leased_pairs config h (demand t.rounds ask))))
+    (first_of (ending_error t.ending) (plan.offer_fault t.rounds ask) (shortage config (view_of config h) t.begins t.rounds ask))
 
 known : (fault : BoardFault) (code : ErrorCode) → board_code fault ≡ Some code → fault ≢ faults.OutOfMemory
 known fault code is e = let wrong : None ≡ Some code = ap board_code (sym e) ∙ is in cc
@@ -247,7 +257,7 @@ has_room : (full short : Bool) → cond full (Some E14) (cond short (Some E13) N
 has_room true short e = absurd (let f = e in cc)
 has_room false short e = refl
 
-no_fault : (fault other : Option ErrorCode) → fault_or fault other ≡ None → other ≡ None
+pub no_fault : (fault other : Option ErrorCode) → or_else fault other ≡ None → other ≡ None
 no_fault None other e = e
 no_fault (Some code) other e = absurd (let f = e in cc)
 
@@ -255,7 +265,7 @@ below_limit : (limit count : ℕ) → nat_le limit count ≡ false → count < l
 below_limit limit count h = grind (arith, nat_tests)
 
 -- a call that an offer may begin is the board's next one
-pub next_is : (config : Config) (h : List BoardEntry) (v : View) (id : List ℕ) (ask : OfferAsk) → refusal config (view_of config h) true [] ask ≡ None → v.begun ≡ length (begun h) →
+pub next_is : (config : Config) (h : List BoardEntry) (v : View) (id : List ℕ) (ask : OfferAsk) → fault_or_shortage config (view_of config h) true [] ask ≡ None → v.begun ≡ length (begun h) →
     v.calls ≡ (view_of config h).calls → find_call h id ≡ None → IsNext config v (new_call h id)
 next_is config h v id ask fine begun_is calls_are none =
     let short = no_fault (plan.offer_fault [] ask) (shortage config (view_of config h) true [] ask) fine in

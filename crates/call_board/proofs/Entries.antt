@@ -16,11 +16,11 @@ use Rattle.offer_answer.specs.Rounds as round
 use Rattle.offer_answer.specs.Rounds.{Round}
 use Rattle.call_board.specs.Acts as act
 use Rattle.call_board.specs.Acts.{Call, Lease, Offer, Answer, Act, Control, BoardEvent, Turn, Tick, Stop, BoardEntry}
-use Rattle.call_board.specs.Calls.{begun, live, has_ended}
+use Rattle.call_board.specs.Calls.{begun, live, has_ended, rounds, first_moment, latest_moment, due_after, dues, least}
 use Rattle.call_board.specs.Pairs.{closed_of, all_leased, leased_by_act, free, drawn}
 use Rattle.call_board.specs.KeptReplies.{is_kept, keeping_at, keepings}
 use Rattle.call_board.specs.Fits.{FitsBoard, FitsAt, IsFitting}
-use Rattle.call_board.specs.Views.{View, CallView, call_view, board_last_moment, times_leased, view_of, view_at_moment, one_drawn, with_leases, with_returned, without, goes_on, with_round}
+use Rattle.call_board.specs.Views.{View, CallView, call_view, board_last_moment, times_leased, view_of, view_at_moment, one_drawn, with_leases, with_returned, without, goes_on, with_round, with_due}
 use Rattle.call_board.specs.Boards.{BoardMatches, BoardFor}
 use Rattle.call_board.specs.declared.board.Board.{Board}
 use Rattle.call_board.specs.Whole.{with_draws, with_reply, with_closed, with_more, with_first, with_ended, view_after, IsMomentOf, IsTimely}
@@ -30,9 +30,10 @@ use Rattle.call_board.proofs.Told.{IsTurn, IsCallOf, begins, goes_on as again}
 use Rattle.call_board.proofs.Tells.{offer_told}
 use Rattle.call_board.proofs.Calls.{next_open, live_begun, begun_below}
 use Rattle.call_board.proofs.Cells.{live_step, still_live}
+use Rattle.call_board.proofs.Repeats.{repeat_alike}
 use Rattle.call_board.proofs.Idle.{is_idle, idle_changes_nothing, undone_changes}
 use Rattle.call_board.proofs.FreeAfter.{live_once, free_after, leases_front}
-use Rattle.call_board.proofs.CallsAfter.{Views, rounds_fresh, rounds_had, call_after, call_begun, eq_swap, map_alike, goes_on_map, cleared, cleared_map}
+use Rattle.call_board.proofs.CallsAfter.{Views, rounds_fresh, rounds_had, dues_fresh, call_after, call_begun, eq_swap, map_alike, changed_map, cleared, cleared_map}
 
 pub view_alike : (v w : View) → v.moment ≡ w.moment → v.begun ≡ w.begun → v.drawn ≡ w.drawn → v.calls ≡ w.calls → v.free ≡ w.free → v.leases ≡ w.leases → v.keepings ≡ w.keepings → v ≡ w
 view_alike v w a b c d e f g = λ i. record { moment = a i; begun = b i; drawn = c i; calls = d i; free = e i; leases = f i; keepings = g i }
@@ -175,6 +176,7 @@ idle_turn config h now c (act.Queried of) ks idle is = let r = idle_changes_noth
     view_alike (view_of config (turn now c (act.Queried of) ∷ h)) _ refl (ap length (append-nil (begun h))) (ap length (append-nil (drawn h))) (ap (map (call_view h)) r.same_live) r.same_free refl is
 idle_turn config h now c act.Told ks idle is = let r = idle_changes_nothing config (turn now c act.Told) h act.Told (its_turn now c act.Told) idle in
     view_alike (view_of config (turn now c act.Told ∷ h)) _ refl (ap length (append-nil (begun h))) (ap length (append-nil (drawn h))) (ap (map (call_view h)) r.same_live) r.same_free refl is
+idle_turn config h now c (act.Delayed of s) ks idle is = absurd (let e = idle in cc)
 idle_turn config h now c (act.Undone code leases draws) ks idle is = absurd (let e = idle in cc)
 idle_turn config h now c (act.Offered o) ks idle is = absurd (let e = idle in cc)
 idle_turn config h now c (act.Answered a) ks idle is = absurd (let e = idle in cc)
@@ -225,7 +227,7 @@ on_again : (h : List BoardEntry) (e : BoardEntry) (of : Call) (made : Round) (ca
     Once (map (λ (c : Call). c.number) calls) → map (call_view (e ∷ h)) calls ≡ goes_on of.number made e.moment (map (call_view h) calls)
 on_again h e of made calls each once =
     map_alike (call_view (e ∷ h)) (λ (c : Call). cond (c.number == of.number) (with_round made e.moment (call_view h c)) (call_view h c)) calls each
-    ∙ sym (goes_on_map (call_view h) of.number made e.moment calls (sees h) once)
+    ∙ sym (changed_map (call_view h) of.number (with_round made e.moment) calls (sees h) once)
 
 live_same : (h : List BoardEntry) → filter (λ (c : Call). not false) (live h) ++ [] ≡ live h
 live_same h = append-nil (filter (λ (c : Call). not false) (live h)) ∙ filter_whole (λ (c : Call). not false) (live h) (λ c i. refl)
@@ -234,7 +236,7 @@ answered_call : (h : List BoardEntry) (now : ℕ) (c : Control) (a : Answer) (d 
     call_view (turn now c (act.Answered a) ∷ h) d ≡ cond (d.number == a.of.number) (with_round (round.Answered a.ask) now (call_view h d)) (call_view h d)
 answered_call h now c a d i =
     call_after h (turn now c (act.Answered a)) d (round.Answered a.ask) (d.number == a.of.number) (eq_swap a.of.number d.number)
-    (ap (λ b. cond b (round.Answered a.ask ∷ []) []) (eq_swap a.of.number d.number)) (rounds_had h d (live_begun h d i)).1
+    (ap (λ b. cond b (round.Answered a.ask ∷ []) []) (eq_swap a.of.number d.number)) refl (rounds_had h d (live_begun h d i)).1
 
 answered_turn : (config : Config) (h : List BoardEntry) (now : ℕ) (c : Control) (a : Answer) → IsFitting config h → FitsBoard config h (turn now c (act.Answered a)) → board_last_moment h ≤ now →
     view_of config (turn now c (act.Answered a) ∷ h) ≡ view_after h (turn now c (act.Answered a)) (view_of config h)
@@ -256,7 +258,7 @@ offered_call : (h : List BoardEntry) (now : ℕ) (c : Control) (o : Offer) (d : 
     call_view (turn now c (act.Offered o) ∷ h) d ≡ cond (d.number == o.of.number) (with_round (made_by o) now (call_view h d)) (call_view h d)
 offered_call h now c o d i =
     call_after h (turn now c (act.Offered o)) d (made_by o) (d.number == o.of.number) (eq_swap o.of.number d.number)
-    (ap (λ b. cond b (made_by o ∷ []) []) (eq_swap o.of.number d.number)) (rounds_had h d (live_begun h d i)).1
+    (ap (λ b. cond b (made_by o ∷ []) []) (eq_swap o.of.number d.number)) refl (rounds_had h d (live_begun h d i)).1
 
 -- what an accepted offer makes of how many calls were begun and of the live calls
 record OfferCalls (h : List BoardEntry) (e : BoardEntry) (o : Offer) (count : ℕ) (calls : List CallView) : Type 0 where
@@ -283,7 +285,7 @@ not_yet n m below false is = is
 
 -- it began its call
 offer_begins : (config : Config) (h : List BoardEntry) (now : ℕ) (c : Control) (o : Offer) → IsFitting config h → o.begins ≡ true → o.of.number ≡ length (begun h) →
-    OfferCalls h (turn now c (act.Offered o)) o (length (begun h) + 1) (map (call_view h) (live h) ++ record { of = o.of; rounds = made_by o ∷ []; first = now; last = now } ∷ [])
+    OfferCalls h (turn now c (act.Offered o)) o (length (begun h) + 1) (map (call_view h) (live h) ++ record { of = o.of; rounds = made_by o ∷ []; first = now; last = now; due = None } ∷ [])
 offer_begins config h now c o old is_new number =
     let e = turn now c (act.Offered o) in
     let one : cond o.begins (o.of ∷ []) [] ≡ o.of ∷ [] = ap (λ b. cond b (o.of ∷ []) []) is_new in
@@ -305,7 +307,8 @@ offer_begins config h now c o old is_new number =
           ∙ ap (λ b. cond b (with_round (made_by o) now (call_view h d)) (call_view h d))
           (not_yet d.number o.of.number (let below = begun_below config h d old (live_begun h d i) in omega (arith, below, number)) (d.number == o.of.number) refl)))
           ∙ ap (λ (v : CallView). map (call_view h) (live h) ++ v ∷ [])
-          (call_begun h e o.of (made_by o) own (ap (λ b. cond b (made_by o ∷ []) []) own) none.0 none.1);
+          (call_begun h e o.of (made_by o) own (ap (λ b. cond b (made_by o ∷ []) []) own) refl none.0 none.1
+          (dues_fresh config h o.of.number old (omega (arith, number))));
     }
 
 -- an offer, once it is said whether it began its call
@@ -354,6 +357,38 @@ offered_turn config h now c o old fits late =
     offer_case config h now c o shown.id old fits late shown.call_is
     ∙ ap (λ v. with_reply now c (with_closed h e o.of (taken_by o.begins o now v)))
     (sym (draws_are (with_leases (view_at_moment (view_of config h) now) (length o.legs)) (length o.keys)))
+
+-- Calls that are ending.
+
+delayed_call : (h : List BoardEntry) (now : ℕ) (c : Control) (of : Call) (seconds : ℕ) (d : Call) →
+    call_view (turn now c (act.Delayed of seconds) ∷ h) d ≡ cond (d.number == of.number) (with_due (due_after now seconds) (call_view h d)) (call_view h d)
+delayed_call h now c of seconds d =
+    go (of.number == d.number) ∙ ap (λ b. cond b (with_due (due_after now seconds) (call_view h d)) (call_view h d)) (eq_swap of.number d.number)
+  where
+    ends : Bool → CallView
+    ends b = record {
+      of = d;
+      rounds = rounds h d.number;
+      first = first_moment h d.number;
+      last = latest_moment h d.number;
+      due = least (cond b (due_after now seconds ∷ []) [] ++ dues h d.number);
+    }
+
+    go : (b : Bool) → ends b ≡ cond b (with_due (due_after now seconds) (call_view h d)) (call_view h d)
+    go true = refl
+    go false = refl
+
+delayed_turn : (config : Config) (h : List BoardEntry) (now : ℕ) (c : Control) (of : Call) (seconds : ℕ) → IsFitting config h → FitsBoard config h (turn now c (act.Delayed of seconds)) →
+    board_last_moment h ≤ now → view_of config (turn now c (act.Delayed of seconds) ∷ h) ≡ view_after h (turn now c (act.Delayed of seconds)) (view_of config h)
+delayed_turn config h now c of seconds old fits late =
+    let e = turn now c (act.Delayed of seconds) in
+    let same = repeat_alike config now c h in
+    view_alike (view_of config (e ∷ h)) (view_after h e (view_of config h)) refl (ap length (append-nil (begun h))) (ap length (append-nil (drawn h)))
+    (ap (map (call_view (e ∷ h))) same.same_live
+    ∙ map_alike (call_view (e ∷ h)) (λ (d : Call). cond (d.number == of.number) (with_due (due_after now seconds) (call_view h d)) (call_view h d)) (live h)
+    (λ d i. delayed_call h now c of seconds d)
+    ∙ sym (changed_map (call_view h) of.number (with_due (due_after now seconds)) (live h) (sees h) (live_once config h old)))
+    same.same_free refl (kept_now h now c late)
 
 -- Calls that end.
 
@@ -408,6 +443,7 @@ turned config h now c act.OutOfMemory old fits late = idle_turn config h now c a
 turned config h now c (act.Failed code) old fits late = idle_turn config h now c (act.Failed code) (keeping c (moment_used (keepings h) now) ∷ keepings h) refl (kept_now h now c late)
 turned config h now c (act.Queried of) old fits late = idle_turn config h now c (act.Queried of) (keeping c (moment_used (keepings h) now) ∷ keepings h) refl (kept_now h now c late)
 turned config h now c act.Told old fits late = idle_turn config h now c act.Told (keeping c (moment_used (keepings h) now) ∷ keepings h) refl (kept_now h now c late)
+turned config h now c (act.Delayed of s) old fits late = delayed_turn config h now c of s old fits late
 turned config h now c (act.Undone code leases draws) old fits late = undone_turn config h now c code leases draws old fits late
 turned config h now c (act.Offered o) old fits late = offered_turn config h now c o old fits late
 turned config h now c (act.Answered a) old fits late = answered_turn config h now c a old fits late

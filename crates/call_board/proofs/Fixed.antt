@@ -5,6 +5,7 @@ use Rattle.std.specs.Prelude.{◌&&◌, ◌||◌, ◌==◌, nat_le, nat_lt, is_s
 use Rattle.std.specs.List.{list_any}
 use Rattle.std.specs.Str.{bytes_eq}
 use Rattle.relay_outside.specs.declared.settings.Config.{Config}
+use Rattle.histories.specs.Words.{or_else}
 use Rattle.ng_bencode.specs.Tree.{Entries}
 use Rattle.ng_command.specs.declared.command.Options.{Options}
 use Rattle.ng_command.specs.Meanings as said
@@ -20,12 +21,12 @@ use Rattle.offer_answer.specs.Plan.{offer_fault, answer_fault}
 use Rattle.offer_answer.specs.Plan as plan
 use Rattle.call_board.specs.Acts as act
 use Rattle.call_board.specs.Acts.{Call, Act, Given, Control, Turn, BoardEntry}
-use Rattle.call_board.specs.Calls.{live, find_call, new_call, rounds}
+use Rattle.call_board.specs.Calls.{live, find_call, new_call, rounds, is_ending}
 use Rattle.call_board.specs.Pairs.{free_in, is_short}
 use Rattle.call_board.specs.KeptReplies.{kept_reply}
 use Rattle.call_board.specs.Requests.{asked}
 use Rattle.call_board.specs.Replies.{Fault, reply_datagram}
-use Rattle.call_board.specs.Answers.{Answering, Answered, failing, leased_pairs, offer_ask, answer_ask, offer_leased, offer_unless, offer_to, answer_unless, answer_to, answering_asked, answering_unless, spelled}
+use Rattle.call_board.specs.Answers.{Answering, Answered, failing, ending_error, leased_pairs, offer_ask, answer_ask, offer_leased, offer_unless, offer_to, answer_unless, answer_to, answering_asked, answering_unless, spelled}
 use Rattle.call_board.specs.Fits.{FitsControl, answered_in, is_repeat, is_read, is_request_read}
 use Rattle.call_board.proofs.Told.{IsRepeat}
 use Rattle.call_board.proofs.Tells.{leased_case, tells_of}
@@ -53,6 +54,7 @@ repeats (act.Answered a) is = absurd (let e = is in cc)
 repeats (act.Deleted of) is = absurd (let e = is in cc)
 repeats (act.Queried of) is = absurd (let e = is in cc)
 repeats act.Told is = absurd (let e = is in cc)
+repeats (act.Delayed of s) is = absurd (let e = is in cc)
 
 abbrev entry : ℕ → Control → BoardEntry
 entry now c = record { moment = now; event = Turn c }
@@ -136,12 +138,19 @@ offer_same config h given from_tag sdp options chosen others of begins before un
     (is_strangers before (offer_ask from_tag sdp options chosen)) (nat_lt (section_count sdp) (committed_count before))
     (list_any (lacks_line (offer_ask from_tag sdp options chosen)) (active_sections sdp)) (list_any (lacks_line (offer_ask from_tag sdp options others)) (active_sections sdp)) unheard
 
+ending_same : (config : Config) (h : List BoardEntry) (given : Given) (from_tag sdp : List ℕ) (options : Options) (chosen others : List (Option CryptoLine)) (of : Call) (before : List Round) (ending : Bool)
+    → is_request_read (offer_unless config h given (offer_ask from_tag sdp options chosen) of false before (or_else (ending_error ending) (offer_fault before (offer_ask from_tag sdp options chosen)))).act ≡ false
+    → offer_unless config h given (offer_ask from_tag sdp options others) of false before (or_else (ending_error ending) (offer_fault before (offer_ask from_tag sdp options others)))
+    ≡ offer_unless config h given (offer_ask from_tag sdp options chosen) of false before (or_else (ending_error ending) (offer_fault before (offer_ask from_tag sdp options chosen)))
+ending_same config h given from_tag sdp options chosen others of before true unheard = refl
+ending_same config h given from_tag sdp options chosen others of before false unheard = offer_same config h given from_tag sdp options chosen others of false before unheard
+
 offers_same : (config : Config) (h : List BoardEntry) (given : Given) (id from_tag sdp : List ℕ) (options : Options) (chosen others : List (Option CryptoLine)) (found : Option Call)
     → is_request_read (offer_to config h given id (offer_ask from_tag sdp options chosen) found).act ≡ false
     → offer_to config h given id (offer_ask from_tag sdp options others) found ≡ offer_to config h given id (offer_ask from_tag sdp options chosen) found
 offers_same config h given id from_tag sdp options chosen others None unheard = offer_same config h given from_tag sdp options chosen others (new_call h id) true [] unheard
 offers_same config h given id from_tag sdp options chosen others (Some of) unheard =
-    offer_same config h given from_tag sdp options chosen others of false (rounds h of.number) unheard
+    ending_same config h given from_tag sdp options chosen others of (rounds h of.number) (is_ending h of.number) unheard
 
 answer_alike : (config : Config) (ask other : AnswerAsk) (of : Call) (before : List Round) (wrong fewer takes_none takes_none_too : Bool)
     → is_request_read (answer_unless config ask of before (cond wrong (Some E11) (cond fewer (Some E12) (cond takes_none (Some E8) None)))).act ≡ false
@@ -168,15 +177,24 @@ answer_same config from_tag to_tag sdp options chosen others of before false (So
     (list_any (takes_no_line offer (answer_ask from_tag to_tag sdp options chosen)) (all_sections sdp))
     (list_any (takes_no_line offer (answer_ask from_tag to_tag sdp options others)) (all_sections sdp)) unheard
 
+ending_answer_same : (config : Config) (from_tag to_tag sdp : List ℕ) (options : Options) (chosen others : List (Option CryptoLine)) (of : Call) (before : List Round)
+    (unknown : Bool) (made : Option MadeOffer) (ending : Bool)
+    → is_request_read (answer_unless config (answer_ask from_tag to_tag sdp options chosen) of before (or_else (ending_error ending) (answer_fault_by unknown made (answer_ask from_tag to_tag sdp options chosen)))).act ≡ false
+    → answer_unless config (answer_ask from_tag to_tag sdp options others) of before (or_else (ending_error ending) (answer_fault_by unknown made (answer_ask from_tag to_tag sdp options others)))
+    ≡ answer_unless config (answer_ask from_tag to_tag sdp options chosen) of before (or_else (ending_error ending) (answer_fault_by unknown made (answer_ask from_tag to_tag sdp options chosen)))
+ending_answer_same config from_tag to_tag sdp options chosen others of before unknown made true unheard = refl
+ending_answer_same config from_tag to_tag sdp options chosen others of before unknown made false unheard =
+    answer_same config from_tag to_tag sdp options chosen others of before unknown made unheard
+
 answers_same : (config : Config) (h : List BoardEntry) (from_tag to_tag sdp : List ℕ) (options : Options) (chosen others : List (Option CryptoLine)) (found : Option Call)
     → is_request_read (answer_to config h (answer_ask from_tag to_tag sdp options chosen) found).act ≡ false
     → answer_to config h (answer_ask from_tag to_tag sdp options others) found ≡ answer_to config h (answer_ask from_tag to_tag sdp options chosen) found
 unfolding answer_fault
 answers_same config h from_tag to_tag sdp options chosen others None unheard = refl
 answers_same config h from_tag to_tag sdp options chosen others (Some of) unheard =
-    answer_same config from_tag to_tag sdp options chosen others of (rounds h of.number)
+    ending_answer_same config from_tag to_tag sdp options chosen others of (rounds h of.number)
     (not (is_some_sides (rounds h of.number) from_tag && may_answer (rounds h of.number) (answer_ask from_tag to_tag sdp options chosen)))
-    (last_offer (rounds h of.number)) unheard
+    (last_offer (rounds h of.number)) (is_ending h of.number) unheard
 
 asked_same : (config : Config) (h : List BoardEntry) (c : Control) (chosen : List (Option CryptoLine)) (r : Result Said ErrorCode)
     → is_request_read (answering_asked config h c r).act ≡ false → answering_asked config h (heard_as c chosen) r ≡ answering_asked config h c r
@@ -186,7 +204,7 @@ asked_same config h c chosen (Ok (said.Offer id from_tag sdp options)) unheard =
     offers_same config h c.given id from_tag sdp options c.chosen chosen (find_call h id) unheard
 asked_same config h c chosen (Ok (said.Answer id from_tag to_tag sdp options)) unheard =
     answers_same config h from_tag to_tag sdp options c.chosen chosen (find_call h id) unheard
-asked_same config h c chosen (Ok (said.Delete id from_tag fatal)) unheard = refl
+asked_same config h c chosen (Ok (said.Delete id from_tag fatal seconds)) unheard = refl
 asked_same config h c chosen (Ok (said.Query id)) unheard = refl
 asked_same config h c chosen (Ok (said.Listing limit)) unheard = refl
 

@@ -33,6 +33,7 @@ legs_leased a (act.Answered x) i = elim i [ ]
 legs_leased a (act.Deleted of) i = elim i [ ]
 legs_leased a (act.Queried of) i = elim i [ ]
 legs_leased a act.Told i = elim i [ ]
+legs_leased a (act.Delayed of s) i = elim i [ ]
 
 was_leased_case : (h : List BoardEntry) (e : BoardEntry) (a : Holder) → (In a (held h) → In a.pair (all_leased h))
     → (In a (held h) × (closes_leg e a ≡ false)) ⊎ In a (legs_of_act (act e)) → In a.pair (all_leased (e ∷ h))
@@ -53,6 +54,7 @@ undone_leased p (act.Answered x) i = elim i [ ]
 undone_leased p (act.Deleted of) i = elim i [ ]
 undone_leased p (act.Queried of) i = elim i [ ]
 undone_leased p act.Told i = elim i [ ]
+undone_leased p (act.Delayed of s) i = elim i [ ]
 
 closed_leased : (h : List BoardEntry) (e : BoardEntry) (p : ℕ) → In p (map pair_of (closed h e)) → In p (all_leased h)
 closed_leased h e p i = let m = mapped pair_of (closed h e) i in
@@ -246,6 +248,7 @@ lease_free config h e p (act.Answered x) fits is shown i = elim i [ ]
 lease_free config h e p (act.Deleted of) fits is shown i = elim i [ ]
 lease_free config h e p (act.Queried of) fits is shown i = elim i [ ]
 lease_free config h e p act.Told fits is shown i = elim i [ ]
+lease_free config h e p (act.Delayed of s) fits is shown i = elim i [ ]
 
 -- a pair that an entry leases was free
 pub leased_free : (config : Config) (h : List BoardEntry) (e : BoardEntry) (p : ℕ) → FitsBoard config h e → In p (leased_by_act (act e)) → In p (free config h)
@@ -275,6 +278,7 @@ legs_once config h e (act.Answered x) fits is = tt
 legs_once config h e (act.Deleted of) fits is = tt
 legs_once config h e (act.Queried of) fits is = tt
 legs_once config h e act.Told fits is = tt
+legs_once config h e (act.Delayed of s) fits is = tt
 
 abbrev still_held : BoardEntry → List BoardEntry → List Holder
 still_held e h = filter (λ leg. not (closes_leg e leg)) (held h)

@@ -50,12 +50,13 @@ act_once (act.Failed code) = tt
 act_once (act.Undone code leases draws) = tt
 act_once (act.Queried of) = tt
 act_once act.Told = tt
+act_once (act.Delayed of s) = tt
 
 event_once : (config : Config) (h : List BoardEntry) (now : ℕ) (event : BoardEvent) → IsFitting config h → FitsAt config h now event →
     Once (map number_of (calls_in (record { moment = now; event = event })))
 event_once config h now (Turn c) old fits = act_once c.act
 event_once config h now (Tick calls) old fits =
-    subst (λ (those : List Call). Once (map number_of those)) (sym fits) (once_filtered number_of _ (live h) (live_once config h old))
+    subst (λ (those : List Call). Once (map number_of those)) (sym fits.0) (once_filtered number_of _ (live h) (live_once config h old))
 event_once config h now (Stop calls) old fits = subst (λ (those : List Call). Once (map number_of those)) (sym fits) (live_once config h old)
 
 pub calls_once : (config : Config) (h : List BoardEntry) (e : BoardEntry) → IsFitting config h → FitsBoard config h e → Once (map (λ (c : Call). c.number) (calls_in e))
@@ -180,6 +181,7 @@ front_case config h e (act.Answered a) shown = none_taken (free config h)
 front_case config h e (act.Deleted of) shown = none_taken (free config h)
 front_case config h e (act.Queried of) shown = none_taken (free config h)
 front_case config h e act.Told shown = none_taken (free config h)
+front_case config h e (act.Delayed of s) shown = none_taken (free config h)
 
 -- an entry leases the front of the free pairs
 pub leases_front : (config : Config) (h : List BoardEntry) (e : BoardEntry) → FitsBoard config h e →
@@ -198,6 +200,7 @@ undone_once (act.Answered a) once = tt
 undone_once (act.Deleted of) once = tt
 undone_once (act.Queried of) once = tt
 undone_once act.Told once = tt
+undone_once (act.Delayed of s) once = tt
 
 pub taken_in : (p k : ℕ) (xs : List ℕ) → In p (take k xs) → In p xs
 taken_in p zero [] i = elim i [ ]
@@ -235,6 +238,7 @@ not_both a p (act.Answered x) i j = elim i [ ]
 not_both a p (act.Deleted of) i j = elim i [ ]
 not_both a p (act.Queried of) i j = elim i [ ]
 not_both a p act.Told i j = elim i [ ]
+not_both a p (act.Delayed of s) i j = elim i [ ]
 
 open_and_closed : (config : Config) (h : List BoardEntry) (e : BoardEntry) (a b : Holder) → IsFitting config h → FitsBoard config h e → In a (held h) → closes_leg e a ≡ true → a.pair ≡ b.pair →
     (In b (held h) × (closes_leg e b ≡ false)) ⊎ In b (legs_of_act (act e)) → ⊥
@@ -274,6 +278,7 @@ lease_splits p (act.Answered x) i = elim i [ ]
 lease_splits p (act.Deleted of) i = elim i [ ]
 lease_splits p (act.Queried of) i = elim i [ ]
 lease_splits p act.Told i = elim i [ ]
+lease_splits p (act.Delayed of s) i = elim i [ ]
 
 abbrev held_pairs : List BoardEntry → List ℕ
 held_pairs h = map pair_of (held h)

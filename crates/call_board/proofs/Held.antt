@@ -60,6 +60,7 @@ leased_by h e a (act.Answered x) is i = elim i [ ]
 leased_by h e a (act.Deleted of) is i = elim i [ ]
 leased_by h e a (act.Queried of) is i = elim i [ ]
 leased_by h e a act.Told is i = elim i [ ]
+leased_by h e a (act.Delayed of s) is i = elim i [ ]
 
 leased_case : (h : List BoardEntry) (e : BoardEntry) (a : Holder) → (In a (held h) → IsLeased h a)
     → (In a (held h) × (closes_leg e a ≡ false)) ⊎ In a (legs_of_act (act e)) → IsLeased (e ∷ h) a
@@ -154,6 +155,7 @@ signalled_at h e a (act.Undone code leases draws) is i closes by_act = absurd (l
 signalled_at h e a (act.Deleted of) is i closes by_act = absurd (let q = by_act in cc)
 signalled_at h e a (act.Queried of) is i closes by_act = absurd (let q = by_act in cc)
 signalled_at h e a act.Told is i closes by_act = absurd (let q = by_act in cc)
+signalled_at h e a (act.Delayed of s) is i closes by_act = absurd (let q = by_act in cc)
 
 closes_case : (h : List BoardEntry) (e : BoardEntry) (a : Holder) → In a (held h) → closes_leg e a ≡ true → (b : Bool) → has (map (λ (c : Call). c.number) (ended_by e)) a.call ≡ b
     → cond b true (closes_leg_act (act e) a) ≡ true → IsClosedAt h e a
@@ -217,6 +219,7 @@ new_live config h e a (act.Answered x) old fits is i = elim i [ ]
 new_live config h e a (act.Deleted of) old fits is i = elim i [ ]
 new_live config h e a (act.Queried of) old fits is i = elim i [ ]
 new_live config h e a act.Told old fits is i = elim i [ ]
+new_live config h e a (act.Delayed of s) old fits is i = elim i [ ]
 
 live_case : (config : Config) (h : List BoardEntry) (e : BoardEntry) (a : Holder) → IsFitting config h → FitsBoard config h e → (In a (held h) → IsOfLive h a)
     → (In a (held h) × (closes_leg e a ≡ false)) ⊎ In a (legs_of_act (act e)) → IsOfLive (e ∷ h) a

@@ -1,11 +1,11 @@
--- What failed, asked or was repeated leaves the calls, the pairs and the keys as they were.
+-- What failed, asked or was repeated leaves the calls, when they are due, the pairs and the keys as they were.
 use Rattle.std.proofs.Common.{◌≡◌, ◌∙◌, sym, ap, subst, ℕ, List, ◌∷◌, ◌++◌, Bool, true, false, refl}
 use Rattle.relay_outside.specs.declared.settings.Config.{Config}
 use Rattle.ng_reply.specs.declared.code.ErrorCode.{ErrorCode}
 use Rattle.histories.specs.Words.{In}
 use Rattle.call_board.specs.Acts as act
 use Rattle.call_board.specs.Acts.{Act, Lease, Control, Turn, BoardEvent, BoardEntry, act}
-use Rattle.call_board.specs.Calls.{live, rounds}
+use Rattle.call_board.specs.Calls.{live, rounds, due_moment}
 use Rattle.call_board.specs.Pairs.{held, free, drawn}
 use Rattle.call_board.specs.Fits.{IsFitting}
 use Rattle.call_board.proofs.Told.{IsTurn}
@@ -16,6 +16,7 @@ use Rattle.call_board.proofs.Unheld.{same_held_free}
 pub record IsIdle (config : Config) (e : BoardEntry) (h : List BoardEntry) : Type 0 where
   pub same_live : live (e ∷ h) ≡ live h
   pub same_rounds : (n : ℕ) → rounds (e ∷ h) n ≡ rounds h n
+  pub same_due : (n : ℕ) → due_moment (e ∷ h) n ≡ due_moment h n
   pub same_held : held (e ∷ h) ≡ held h
   pub same_free : free config (e ∷ h) ≡ free config h
   pub same_drawn : drawn (e ∷ h) ≡ drawn h
@@ -34,15 +35,16 @@ entry moment c a = record { moment = moment; event = Turn (record c { act = a })
 
 idle_alike : (config : Config) (moment : ℕ) (c : Control) (h : List BoardEntry) (a : Act) → is_idle a ≡ true → IsIdle config (entry moment c a) h
 idle_alike config moment c h act.Repeated idle = let r = repeat_alike config moment c h in
-    record { same_live = r.same_live; same_rounds = r.same_rounds; same_held = r.same_held; same_free = r.same_free; same_drawn = r.same_drawn }
+    record { same_live = r.same_live; same_rounds = r.same_rounds; same_due = λ n. refl; same_held = r.same_held; same_free = r.same_free; same_drawn = r.same_drawn }
 idle_alike config moment c h act.OutOfMemory idle = let r = repeat_alike config moment c h in
-    record { same_live = r.same_live; same_rounds = r.same_rounds; same_held = r.same_held; same_free = r.same_free; same_drawn = r.same_drawn }
+    record { same_live = r.same_live; same_rounds = r.same_rounds; same_due = λ n. refl; same_held = r.same_held; same_free = r.same_free; same_drawn = r.same_drawn }
 idle_alike config moment c h (act.Failed code) idle = let r = repeat_alike config moment c h in
-    record { same_live = r.same_live; same_rounds = r.same_rounds; same_held = r.same_held; same_free = r.same_free; same_drawn = r.same_drawn }
+    record { same_live = r.same_live; same_rounds = r.same_rounds; same_due = λ n. refl; same_held = r.same_held; same_free = r.same_free; same_drawn = r.same_drawn }
 idle_alike config moment c h (act.Queried of) idle = let r = repeat_alike config moment c h in
-    record { same_live = r.same_live; same_rounds = r.same_rounds; same_held = r.same_held; same_free = r.same_free; same_drawn = r.same_drawn }
+    record { same_live = r.same_live; same_rounds = r.same_rounds; same_due = λ n. refl; same_held = r.same_held; same_free = r.same_free; same_drawn = r.same_drawn }
 idle_alike config moment c h act.Told idle = let r = repeat_alike config moment c h in
-    record { same_live = r.same_live; same_rounds = r.same_rounds; same_held = r.same_held; same_free = r.same_free; same_drawn = r.same_drawn }
+    record { same_live = r.same_live; same_rounds = r.same_rounds; same_due = λ n. refl; same_held = r.same_held; same_free = r.same_free; same_drawn = r.same_drawn }
+idle_alike config moment c h (act.Delayed of s) idle = absurd (let e = idle in cc)
 idle_alike config moment c h (act.Undone code leases draws) idle = absurd (let e = idle in cc)
 idle_alike config moment c h (act.Offered o) idle = absurd (let e = idle in cc)
 idle_alike config moment c h (act.Answered x) idle = absurd (let e = idle in cc)
@@ -60,6 +62,7 @@ idle_changes_nothing config e h a t idle = subst (λ x. IsIdle config x h) (sym 
 pub record IsUndoing (config : Config) (e : BoardEntry) (h : List BoardEntry) (draws : List (List ℕ)) : Type 0 where
   pub same_live : live (e ∷ h) ≡ live h
   pub same_rounds : (n : ℕ) → rounds (e ∷ h) n ≡ rounds h n
+  pub same_due : (n : ℕ) → due_moment (e ∷ h) n ≡ due_moment h n
   pub same_held : held (e ∷ h) ≡ held h
   pub still_free : (p : ℕ) → In p (free config h) → In p (free config (e ∷ h))
   pub free_before : (p : ℕ) → In p (free config (e ∷ h)) → In p (free config h)
@@ -74,6 +77,7 @@ undone_alike : (config : Config) (moment : ℕ) (c : Control) (h : List BoardEnt
 undone_alike config moment c h code leases draws fits = let r = repeat_alike config moment c h in record {
   same_live = r.same_live;
   same_rounds = r.same_rounds;
+  same_due = λ n. refl;
   same_held = r.same_held;
   still_free = λ p i. same_held_free config h (entry moment c (act.Undone code leases draws) ∷ h) p fits.1 (sym (undone_held config moment c h code leases draws)) i;
   free_before = λ p i. same_held_free config (entry moment c (act.Undone code leases draws) ∷ h) h p fits (undone_held config moment c h code leases draws) i;

@@ -52,6 +52,7 @@ begins_anew config h e (act.Answered a) shown = nothing refl
 begins_anew config h e (act.Deleted of) shown = nothing refl
 begins_anew config h e (act.Queried of) shown = nothing refl
 begins_anew config h e act.Told shown = nothing refl
+begins_anew config h e (act.Delayed of s) shown = nothing refl
 
 old_and_new : (h : List BoardEntry) (calls : List Call) (c d : Call) → BeginsAnew h calls → In c (live h) → In d calls → c.id ≡ d.id → ⊥
 old_and_new h calls c d (nothing none) i j same = elim (subst (λ xs. In d xs) none j) [ ]

@@ -149,6 +149,7 @@ act_has h e call k (act.Undone code leases draws) is i = elim i [ ]
 act_has h e call k (act.Deleted of) is i = elim i [ ]
 act_has h e call k (act.Queried of) is i = elim i [ ]
 act_has h e call k act.Told is i = elim i [ ]
+act_has h e call k (act.Delayed of s) is i = elim i [ ]
 
 drew_case : (h : List BoardEntry) (e : BoardEntry) (call : ℕ) (k : NewKey) → (In k (drawn_for (rounds h call)) → Drew h call k)
     → In k (drawn_for (round_of call (act e))) ⊎ In k (drawn_for (rounds h call)) → Drew (e ∷ h) call k

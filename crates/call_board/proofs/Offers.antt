@@ -7,17 +7,17 @@ use Rattle.relay_outside.specs.declared.settings.Config.{Config}
 use Rattle.ng_command.specs.Meanings as said
 use Rattle.ng_reply.specs.declared.code.ErrorCode.TheVariants.{E13, E14, E15, E16, E17}
 use Rattle.sdes_lines.specs.declared.crypto_line.CryptoLine.{CryptoLine}
-use Rattle.histories.specs.Words.{In}
+use Rattle.histories.specs.Words.{In, or_else}
 use Rattle.offer_answer.specs.Plan as plan
 use Rattle.offer_answer.specs.Rounds.{Round, OfferAsk}
 use Rattle.call_board.specs.Acts as act
 use Rattle.call_board.specs.Acts.{Act, Call, Control, BoardEntry}
-use Rattle.call_board.specs.Calls.{live, find_call, new_call, rounds, rounds_of_call}
+use Rattle.call_board.specs.Calls.{live, find_call, new_call, rounds, rounds_of_call, is_call_ending}
 use Rattle.call_board.specs.Pairs.{free_in, is_short, leased_new_legs, drawn_keys_from, drawn}
 use Rattle.call_board.specs.KeptReplies.{kept_reply}
 use Rattle.call_board.specs.Requests.{asked}
 use Rattle.call_board.specs.Replies.{Fault, reply_datagram}
-use Rattle.call_board.specs.Answers.{Answered, failing, leased_pairs, offer_ask, offer_leased, offer_unless, offer_to, answering_asked, answering_unless, offering, spelled}
+use Rattle.call_board.specs.Answers.{Answered, failing, ending_error, leased_pairs, offer_ask, offer_leased, offer_unless, offer_to, answering_asked, answering_unless, offering, spelled}
 use Rattle.call_board.specs.Fits.{FitsControl, IsFitting, answered_in}
 use Rattle.call_board.proofs.Tells.{leased_case, false_in}
 use Rattle.call_board.proofs.Cells.{live_bound}
@@ -75,32 +75,33 @@ planned_ends config h c id ask of new before before_is limit false false overs s
     leased_ends config h c id ask of new before (leased_pairs config h (plan.demand before ask)) before_is (list_any not c.given.opens) c.given.draw_failed refl refl is
 
 found_ends : (config : Config) (h : List BoardEntry) (c : Control) (id : List ℕ) (ask : OfferAsk) → length (live h) ≤ config.max_sessions
-    → (found : Option Call) → find_call h id ≡ found → plan.offer_fault (rounds_of_call h found) ask ≡ None
+    → (found : Option Call) → find_call h id ≡ found → is_call_ending h found ≡ false → plan.offer_fault (rounds_of_call h found) ask ≡ None
     → answered_in c ≡ spelled config c.cookie c.body (offer_to config h c.given id ask found) → OfferEnds config h c id ask
-found_ends config h c id ask bound None found no_fault is =
+found_ends config h c id ask bound None found not_ending no_fault is =
     planned_ends config h c id ask (new_call h id) true [] (sym (ap (rounds_of_call h) found))
     (λ over. (found, reached config.max_sessions (length (live h)) over bound))
     (nat_le config.max_sessions (length (live h))) (is_short (free_in config h) (plan.demand [] ask).pairs) refl refl
     (is ∙ ap (λ fault. spelled config c.cookie c.body (offer_unless config h c.given ask (new_call h id) true [] fault)) no_fault)
-found_ends config h c id ask bound (Some of) found no_fault is =
+found_ends config h c id ask bound (Some of) found not_ending no_fault is =
     planned_ends config h c id ask of false (rounds h of.number) (sym (ap (rounds_of_call h) found))
     (λ over. absurd (let wrong : false ≡ true = over in cc))
     false (is_short (free_in config h) (plan.demand (rounds h of.number) ask).pairs) refl refl
-    (is ∙ ap (λ fault. spelled config c.cookie c.body (offer_unless config h c.given ask of false (rounds h of.number) fault)) no_fault)
+    (is ∙ ap (λ ending. spelled config c.cookie c.body (offer_unless config h c.given ask of false (rounds h of.number) (or_else (ending_error ending) (plan.offer_fault (rounds h of.number) ask)))) not_ending
+    ∙ ap (λ fault. spelled config c.cookie c.body (offer_unless config h c.given ask of false (rounds h of.number) fault)) no_fault)
 
 out_of_memory_ends : (config : Config) (h : List BoardEntry) (c : Control) (id : List ℕ) (ask : OfferAsk) → length (live h) ≤ config.max_sessions
-    → plan.offer_fault (rounds_of_call h (find_call h id)) ask ≡ None → (out_of_memory : Bool)
+    → is_call_ending h (find_call h id) ≡ false → plan.offer_fault (rounds_of_call h (find_call h id)) ask ≡ None → (out_of_memory : Bool)
     → answered_in c ≡ cond out_of_memory (record { bytes = reply_datagram config c.cookie c.body (Fault E17); act = act.OutOfMemory }) (spelled config c.cookie c.body (offer_to config h c.given id ask (find_call h id)))
     → OfferEnds config h c id ask
-out_of_memory_ends config h c id ask bound no_fault true is = no_memory (ap act_of is)
-out_of_memory_ends config h c id ask bound no_fault false is = found_ends config h c id ask bound (find_call h id) refl no_fault is
+out_of_memory_ends config h c id ask bound not_ending no_fault true is = no_memory (ap act_of is)
+out_of_memory_ends config h c id ask bound not_ending no_fault false is = found_ends config h c id ask bound (find_call h id) refl not_ending no_fault is
 
 pub offer_ends : (config : Config) (h : List BoardEntry) (now : ℕ) (c : Control) (id : List ℕ) (ask : OfferAsk) → IsFitting config h → FitsControl config h now c
     → kept_reply h c.source c.cookie now ≡ None → asked config c.too_long c.pairs ≡ Ok (said.Offer id ask.from_tag ask.sdp ask.options) → ask.chosen ≡ c.chosen
-    → plan.offer_fault (rounds_of_call h (find_call h id)) ask ≡ None → OfferEnds config h c id ask
-offer_ends config h now c id ask old fits none is_asked heard no_fault =
+    → is_call_ending h (find_call h id) ≡ false → plan.offer_fault (rounds_of_call h (find_call h id)) ask ≡ None → OfferEnds config h c id ask
+offer_ends config h now c id ask old fits none is_asked heard not_ending no_fault =
     let due = λ (ch : List (Option CryptoLine)). spelled config c.cookie c.body (offer_to config h c.given id (offer_ask ask.from_tag ask.sdp ask.options ch) (find_call h id)) in
     let unkept = fits.answers ∙ ap (answering_unless config h c) none in
     let asking = ap (λ r. cond c.given.out_of_memory (record { bytes = reply_datagram config c.cookie c.body (Fault E17); act = act.OutOfMemory }) (spelled config c.cookie c.body (answering_asked config h c r))) is_asked in
     let hearing = ap (λ ch. cond c.given.out_of_memory (record { bytes = reply_datagram config c.cookie c.body (Fault E17); act = act.OutOfMemory }) (due ch)) (sym heard) in
-    out_of_memory_ends config h c id ask (live_bound config h old) no_fault c.given.out_of_memory (unkept ∙ asking ∙ hearing)
+    out_of_memory_ends config h c id ask (live_bound config h old) not_ending no_fault c.given.out_of_memory (unkept ∙ asking ∙ hearing)

@@ -86,6 +86,7 @@ new_case config h e a (act.Answered x) fits is i = elim i [ ]
 new_case config h e a (act.Deleted of) fits is i = elim i [ ]
 new_case config h e a (act.Queried of) fits is i = elim i [ ]
 new_case config h e a act.Told fits is i = elim i [ ]
+new_case config h e a (act.Delayed of s) fits is i = elim i [ ]
 
 last_case : (config : Config) (h : List BoardEntry) (e : BoardEntry) (a : Holder) → FitsBoard config h e → (In a (held h) → times_leased h a.pair ≡ a.generation) →
     (In a (held h) × (closes_leg e a ≡ false)) ⊎ In a (legs_of_act (act e)) → times_leased (e ∷ h) a.pair ≡ a.generation

@@ -1,14 +1,14 @@
 -- The reply to an offer, by its plan and by what it lacks.
 use Rattle.std.proofs.Common.{◌≡◌, ◌≢◌, ◌∙◌, refl, ap, sym, ℕ, ◌+◌, ◌-◌, ◌<◌, Bool, true, false, not, List, length, map, ◌⊎◌, inl, inr, Option, Some, None, arith, get_or, if◌then◌else◌}
-use Rattle.std.specs.Prelude.{◌&&◌, nat_le, nat_lt, position, Err}
+use Rattle.std.specs.Prelude.{◌&&◌, nat_le, nat_lt, position, is_some, Err}
 use Rattle.std.specs.List.{position_or_len}
 use Rattle.std.proofs.lemmas.List.{length-map}
 use Rattle.std.proofs.lemmas.List.Sums.{position_or_len_is}
 use Rattle.std.proofs.lemmas.Bool.Decides.{nat_tests}
 use Rattle.relay_outside.specs.declared.settings.Config.{Config}
 use Rattle.ng_reply.specs.declared.code.ErrorCode.{ErrorCode}
-use Rattle.ng_reply.specs.declared.code.ErrorCode.TheVariants.{E13, E14}
-use Rattle.histories.specs.Words.{In, has}
+use Rattle.ng_reply.specs.declared.code.ErrorCode.TheVariants.{E13, E14, E19}
+use Rattle.histories.specs.Words.{In, has, or_else}
 use Rattle.histories.proofs.Lists.{it_has, has_it}
 use Rattle.offer_answer.specs.Rounds.{Round, OfferAsk, AnswerAsk, Demand}
 use Rattle.offer_answer.specs.Plan as plan
@@ -22,29 +22,30 @@ use Rattle.call_board.specs.declared.fault.BoardFault.TheVariants as faults
 use Rattle.call_board.specs.Calls.{lowest_but}
 use Rattle.call_board.specs.Views.{View, CallView}
 use Rattle.call_board.specs.Boards.{BoardMatches}
-use Rattle.call_board.specs.Plans.{board_fault, board_code, shortage, refusal, fault_or}
+use Rattle.call_board.specs.Plans.{board_fault, board_code, shortage, fault_or_shortage, refusal, answer_refusal, target_by}
+use Rattle.call_board.specs.Answers.{ending_error}
 use Rattle.call_board.proofs.Lowest.{lowest_is, lowest_bound}
 use Rattle.call_board.proofs.Shown.{calls_count}
 
 -- a fault of the plan is the answer
 pub refused_by : (config : Config) (v : View) (begins : Bool) (rounds : List Round) (ask : OfferAsk) (fault : OaFault) → OfferAnswered config rounds ask (Err fault) →
-    board_fault fault ≢ faults.OutOfMemory → refusal config v begins rounds ask ≡ board_code (board_fault fault)
+    board_fault fault ≢ faults.OutOfMemory → fault_or_shortage config v begins rounds ask ≡ board_code (board_fault fault)
 refused_by config v begins rounds ask oa.UnknownTag answered n =
-    ap (λ (o : Option ErrorCode). fault_or o (shortage config v begins rounds ask)) (answered (λ e. let f : oa.UnknownTag ≡ oa.OutOfMemory = e in cc))
+    ap (λ (o : Option ErrorCode). or_else o (shortage config v begins rounds ask)) (answered (λ e. let f : oa.UnknownTag ≡ oa.OutOfMemory = e in cc))
 refused_by config v begins rounds ask oa.OtherSide answered n =
-    ap (λ (o : Option ErrorCode). fault_or o (shortage config v begins rounds ask)) (answered (λ e. let f : oa.OtherSide ≡ oa.OutOfMemory = e in cc))
+    ap (λ (o : Option ErrorCode). or_else o (shortage config v begins rounds ask)) (answered (λ e. let f : oa.OtherSide ≡ oa.OutOfMemory = e in cc))
 refused_by config v begins rounds ask oa.MediaCount answered n =
-    ap (λ (o : Option ErrorCode). fault_or o (shortage config v begins rounds ask)) (answered (λ e. let f : oa.MediaCount ≡ oa.OutOfMemory = e in cc))
+    ap (λ (o : Option ErrorCode). or_else o (shortage config v begins rounds ask)) (answered (λ e. let f : oa.MediaCount ≡ oa.OutOfMemory = e in cc))
 refused_by config v begins rounds ask oa.NoCrypto answered n =
-    ap (λ (o : Option ErrorCode). fault_or o (shortage config v begins rounds ask)) (answered (λ e. let f : oa.NoCrypto ≡ oa.OutOfMemory = e in cc))
+    ap (λ (o : Option ErrorCode). or_else o (shortage config v begins rounds ask)) (answered (λ e. let f : oa.NoCrypto ≡ oa.OutOfMemory = e in cc))
 refused_by config v begins rounds ask oa.OutOfMemory answered n = absurd (n refl)
 
 -- without a fault, what is short is the answer
 refusal_is : (config : Config) (v : View) (begins : Bool) (rounds : List Round) (ask : OfferAsk) (full short : Bool) → plan.offer_fault rounds ask ≡ None →
     (begins && nat_le config.max_sessions (length v.calls)) ≡ full → nat_lt (length v.free) (length (plan.demand rounds ask).pairs) ≡ short →
-    refusal config v begins rounds ask ≡ (if full then Some E14 else if short then Some E13 else None)
+    fault_or_shortage config v begins rounds ask ≡ (if full then Some E14 else if short then Some E13 else None)
 refusal_is config v begins rounds ask full short fine is_full is_short =
-    ap (λ (o : Option ErrorCode). fault_or o (shortage config v begins rounds ask)) fine
+    ap (λ (o : Option ErrorCode). or_else o (shortage config v begins rounds ask)) fine
     ∙ ap (λ (b : Bool). if b then Some E14 else if nat_lt (length v.free) (length (plan.demand rounds ask).pairs) then Some E13 else None) is_full
     ∙ ap (λ (b : Bool). if full then Some E14 else if b then Some E13 else None) is_short
 
@@ -65,7 +66,7 @@ lacks_by config board v p asked b s for e =
     ∙ sym (ap (λ n. nat_lt (length board.pool.free) n) (pairs_asked p asked for)) ∙ e
 
 pub answers_full : (config : Config) (board : Board) (v : View) (rounds : List Round) (ask : OfferAsk) → BoardMatches config board v → plan.offer_fault rounds ask ≡ None →
-    nat_le board.config.max_sessions (length board.calls.list) ≡ true → refusal config v true rounds ask ≡ Some E14
+    nat_le board.config.max_sessions (length board.calls.list) ≡ true → fault_or_shortage config v true rounds ask ≡ Some E14
 answers_full config board v rounds ask s fine full =
     refusal_is config v true rounds ask true (nat_lt (length v.free) (length (plan.demand rounds ask).pairs)) fine (is_full_by config board v true s full) refl
 
@@ -77,7 +78,7 @@ both_false true full (inr e) = e
 pub answers_short : (config : Config) (board : Board) (v : View) (begins : Bool) (rounds : List Round) (ask : OfferAsk) (p : Plan) → BoardMatches config board v →
     (plan.offer_fault rounds ask ≡ None) × PlanFor p (plan.demand rounds ask) →
     (begins ≡ false) ⊎ (nat_le board.config.max_sessions (length board.calls.list) ≡ false) →
-    nat_lt (length board.pool.free) (pairs_demanded p) ≡ true → refusal config v begins rounds ask ≡ Some E13
+    nat_lt (length board.pool.free) (pairs_demanded p) ≡ true → fault_or_shortage config v begins rounds ask ≡ Some E13
 answers_short config board v begins rounds ask p s made room short =
     refusal_is config v begins rounds ask false true made.0
     (both_false begins (nat_le config.max_sessions (length v.calls)) (room_by room)) (lacks_by config board v p (plan.demand rounds ask) true s made.1 short)
@@ -89,7 +90,7 @@ answers_short config board v begins rounds ask p s made room short =
 pub answers_none : (config : Config) (board : Board) (v : View) (begins : Bool) (rounds : List Round) (ask : OfferAsk) (p : Plan) → BoardMatches config board v →
     (plan.offer_fault rounds ask ≡ None) × PlanFor p (plan.demand rounds ask) →
     (begins ≡ false) ⊎ (nat_le board.config.max_sessions (length board.calls.list) ≡ false) →
-    nat_lt (length board.pool.free) (pairs_demanded p) ≡ false → refusal config v begins rounds ask ≡ None
+    nat_lt (length board.pool.free) (pairs_demanded p) ≡ false → fault_or_shortage config v begins rounds ask ≡ None
 answers_none config board v begins rounds ask p s made room short =
     refusal_is config v begins rounds ask false false made.0
     (both_false begins (nat_le config.max_sessions (length v.calls)) (room_by room)) (lacks_by config board v p (plan.demand rounds ask) false s made.1 short)
@@ -97,6 +98,26 @@ answers_none config board v begins rounds ask p s made room short =
     room_by : (begins ≡ false) ⊎ (nat_le board.config.max_sessions (length board.calls.list) ≡ false) → (begins ≡ false) ⊎ (nat_le config.max_sessions (length v.calls) ≡ false)
     room_by (inl e) = inl e
     room_by (inr e) = inr (is_full_by config board v false s e)
+
+-- Calls that are ending.
+
+-- what the board's mark says of a call
+pub marked_by : {mark due : Option ℕ} {b c : Bool} → mark ≡ due → b ≡ is_some mark → b ≡ c → is_some due ≡ c
+marked_by {mark} {due} {b} {c} same asked is = sym (ap is_some same) ∙ sym asked ∙ is
+
+-- a call that isn't ending refuses by what the offer has or lacks
+pub unless_ending : (config : Config) (v : View) (id : List ℕ) (c : CallView) (ask : OfferAsk) (o : Option ErrorCode) → is_some c.due ≡ false →
+    fault_or_shortage config v false c.rounds ask ≡ o → refusal config v (target_by v id (Some c)) ask ≡ o
+unless_ending config v id c ask o is refused = ap (λ (b : Bool). or_else (ending_error b) (fault_or_shortage config v false c.rounds ask)) is ∙ refused
+
+pub when_ending : (config : Config) (v : View) (id : List ℕ) (c : CallView) (ask : OfferAsk) → is_some c.due ≡ true → refusal config v (target_by v id (Some c)) ask ≡ Some E19
+when_ending config v id c ask is = ap (λ (b : Bool). or_else (ending_error b) (fault_or_shortage config v false c.rounds ask)) is
+
+pub answer_unless_ending : (c : CallView) (ask : AnswerAsk) (o : Option ErrorCode) → is_some c.due ≡ false → plan.answer_fault c.rounds ask ≡ o → answer_refusal c ask ≡ o
+answer_unless_ending c ask o is refused = ap (λ (b : Bool). or_else (ending_error b) (plan.answer_fault c.rounds ask)) is ∙ refused
+
+pub answer_when_ending : (c : CallView) (ask : AnswerAsk) → is_some c.due ≡ true → answer_refusal c ask ≡ Some E19
+answer_when_ending c ask is = ap (λ (b : Bool). or_else (ending_error b) (plan.answer_fault c.rounds ask)) is
 
 -- The lowest cell.
 

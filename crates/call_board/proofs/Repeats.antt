@@ -8,7 +8,7 @@ use Rattle.port_pool.specs.Ports.{pair_count}
 use Rattle.port_pool.specs.declared.holder.Holder.{Holder}
 use Rattle.call_board.specs.Acts as act
 use Rattle.call_board.specs.Acts.{Act, Call, Control, Turn, BoardEvent, BoardEntry}
-use Rattle.call_board.specs.Calls.{begun, has_ended, live, rounds}
+use Rattle.call_board.specs.Calls.{begun, has_ended, live, rounds, due_moment}
 use Rattle.call_board.specs.Pairs.{held, all_leased, returned, free, drawn}
 use Rattle.call_board.specs.KeptReplies.{kept_reply}
 use Rattle.call_board.specs.Answers.{Answered, answering_unless}
@@ -24,6 +24,7 @@ kept_repeats config h now c reply fits is_kept =
 pub record ChangesNothing (config : Config) (e : BoardEntry) (h : List BoardEntry) : Type 0 where
   pub same_live : live (e ∷ h) ≡ live h
   pub same_rounds : (n : ℕ) → rounds (e ∷ h) n ≡ rounds h n
+  pub same_due : (n : ℕ) → due_moment (e ∷ h) n ≡ due_moment h n
   pub same_held : held (e ∷ h) ≡ held h
   pub same_free : free config (e ∷ h) ≡ free config h
   pub same_drawn : drawn (e ∷ h) ≡ drawn h
@@ -51,6 +52,7 @@ pub repeat_alike : (config : Config) (moment : ℕ) (c : Control) (h : List Boar
 repeat_alike config moment c h = record {
   same_live = ap (filter (λ (d : Call). not (has_ended h d))) (append-nil (begun h));
   same_rounds = λ n. refl;
+  same_due = λ n. refl;
   same_held = held_alike moment c h;
   same_free = ap (λ holders. free_by config h holders (returned (repeat moment c ∷ h))) (held_alike moment c h) ∙ ap (free_by config h (held h)) (returned_alike moment c h);
   same_drawn = append-nil (drawn h);

@@ -1,5 +1,5 @@
 -- Worked reports, as equations that compute.
-use Rattle.std.proofs.Common.{◌≡◌, ℕ, List, [], ◌∷◌, false, None, codes}
+use Rattle.std.proofs.Common.{ℕ, List, [], ◌∷◌, false, None, codes}
 use Rattle.relay_outside.specs.declared.address.Ip.TheVariants as ips
 use Rattle.relay_outside.specs.declared.settings.Config.{Config}
 use Rattle.ng_command.specs.declared.command.Options.{Options}

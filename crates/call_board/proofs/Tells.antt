@@ -1,6 +1,6 @@
 -- An act tells what it stands for: the inversion of `Answers`.
 use Rattle.std.proofs.Common.{◌≡◌, ◌∙◌, sym, ap, subst, ℕ, ◌<◌, List, [], length, refl, Bool, true, false, cond, not, Option, Some, None, Result, Ok, Err, arith}
-use Rattle.std.specs.Prelude.{nat_le, ◌&&◌}
+use Rattle.std.specs.Prelude.{nat_le, ◌&&◌, ◌==◌}
 use Rattle.std.proofs.lemmas.Bool.Decides.{nat_tests}
 use Rattle.std.specs.List.{list_any}
 use Rattle.relay_outside.specs.declared.settings.Config.{Config}
@@ -8,21 +8,21 @@ use Rattle.ng_command.specs.Meanings as said
 use Rattle.ng_command.specs.Meanings.{Said}
 use Rattle.ng_reply.specs.declared.code.ErrorCode.{ErrorCode}
 use Rattle.ng_reply.specs.declared.code.ErrorCode.TheVariants.{E9, E10, E13, E14, E15, E16, E17}
-use Rattle.histories.specs.Words.{In, here, there}
+use Rattle.histories.specs.Words.{In, here, there, or_else}
 use Rattle.histories.proofs.Lists.{first_is_in, filtered, any_is_in}
 use Rattle.offer_answer.specs.Rounds.{Round, OfferAsk, AnswerAsk, Demand}
 use Rattle.offer_answer.specs.Plan as plan
 use Rattle.call_board.specs.Acts as act
 use Rattle.call_board.specs.Acts.{Call, Lease, Offer, Answer, Act, Given, Control, BoardEvent, Turn, Tick, Stop, BoardEntry, act, act_in}
-use Rattle.call_board.specs.Calls.{live, ended_by, ended_in, ended_by_act, find_call, new_call, rounds, rounds_of_call}
+use Rattle.call_board.specs.Calls.{live, ended_by, ended_in, ended_by_act, find_call, new_call, rounds, rounds_of_call, is_ending}
 use Rattle.call_board.specs.Pairs.{free_in, is_short, leased_new_legs, drawn_keys_from, drawn}
 use Rattle.call_board.specs.KeptReplies.{kept_reply}
 use Rattle.call_board.specs.Requests.{asked}
 use Rattle.call_board.specs.Replies.{Fault, Done, reply_datagram}
-use Rattle.call_board.specs.Answers.{Answering, failing, offering, undoing, leased_pairs, offer_ask, answer_ask, offer_leased, offer_unless, offer_to, answer_unless, answer_to, delete_of, nothing_to_end, names_side, query_of, answering_command, answering_asked, answering, answering_unless, spelled, Answered}
+use Rattle.call_board.specs.Answers.{Answering, failing, ending_error, deleting, offering, undoing, leased_pairs, offer_ask, answer_ask, offer_leased, offer_unless, offer_to, answer_unless, answer_to, delete_of, nothing_to_end, names_side, query_of, answering_command, answering_asked, answering, answering_unless, spelled, Answered}
 use Rattle.call_board.specs.Fits.{FitsBoard, FitsAt, FitsControl, GivesFor, GivesUndone, demanded, demanded_by, answered_in}
 use Rattle.call_board.proofs.Once.{is_false}
-use Rattle.call_board.proofs.Told.{Tells, IsTurn, IsCallOf, begins, goes_on, IsOffer, IsAnswer, of_ports, of_keys}
+use Rattle.call_board.proofs.Told.{Tells, IsTurn, IsCallOf, begins, goes_on, IsOffer, IsAnswer, IsDelay, of_ports, of_keys}
 
 abbrev entry : ℕ → Control → BoardEntry
 entry now c = record { moment = now; event = Turn c }
@@ -139,12 +139,12 @@ offer_case config h now c id ask demands gives (Some of) found is =
     unless_told config h now c id ask of false (rounds h of.number)
     (record { before_is = sym rounds_are; demands = demands ∙ ap (λ rs. plan.demand rs ask) rounds_are; gives = gives })
     (λ low o of_is new_is. goes_on new_is (found ∙ ap Some (sym of_is)) (subst (λ x. In x (live h)) (sym of_is) (found_is_live h id of found)))
-    (plan.offer_fault (rounds h of.number) ask) is
+    (or_else (ending_error (is_ending h of.number)) (plan.offer_fault (rounds h of.number) ask)) is
 
 -- Other commands.
 
-abbrev deleting : Call → Answering
-deleting of = record { reply = Done; act = act.Deleted of }
+abbrev done_by : Act → Answering
+done_by a = record { reply = Done; act = a }
 
 answered_told : (config : Config) (h : List BoardEntry) (now : ℕ) (c : Control) (id : List ℕ) (ask : AnswerAsk) (of : Call) → find_call h id ≡ Some of
     → (fault : Option ErrorCode) → c.act ≡ (answer_unless config ask of (rounds h of.number) fault).act
@@ -157,25 +157,31 @@ answer_case : (config : Config) (h : List BoardEntry) (now : ℕ) (c : Control) 
     → (found : Option Call) → find_call h id ≡ found → c.act ≡ (answer_to config h ask found).act
     → Tells config h (entry now c) (answer_to config h ask found).act
 answer_case config h now c id ask None found is = turn_is now c _ is
-answer_case config h now c id ask (Some of) found is = answered_told config h now c id ask of found (plan.answer_fault (rounds h of.number) ask) is
+answer_case config h now c id ask (Some of) found is =
+    answered_told config h now c id ask of found (or_else (ending_error (is_ending h of.number)) (plan.answer_fault (rounds h of.number) ask)) is
 
 missing_told : (config : Config) (h : List BoardEntry) (now : ℕ) (c : Control) (code : ErrorCode) (fatal : Bool) → c.act ≡ (nothing_to_end fatal code).act
     → Tells config h (entry now c) (nothing_to_end fatal code).act
 missing_told config h now c code true is = turn_is now c _ is
 missing_told config h now c code false is = tt
 
-named_told : (config : Config) (h : List BoardEntry) (now : ℕ) (c : Control) (of : Call) (fatal : Bool) → In of (live h) → (names : Bool)
-    → c.act ≡ (cond names (deleting of) (nothing_to_end fatal E10)).act
-    → Tells config h (entry now c) (cond names (deleting of) (nothing_to_end fatal E10)).act
-named_told config h now c of fatal is_live true is = record { turn = turn_is now c _ is; is_live = is_live }
-named_told config h now c of fatal is_live false is = missing_told config h now c E10 fatal is
+done_told : (config : Config) (h : List BoardEntry) (now : ℕ) (c : Control) (of : Call) (seconds : ℕ) → In of (live h) → (at_once : Bool)
+    → c.act ≡ cond at_once (act.Deleted of) (act.Delayed of seconds) → Tells config h (entry now c) (cond at_once (act.Deleted of) (act.Delayed of seconds))
+done_told config h now c of seconds is_live true is = record { turn = turn_is now c _ is; is_live = is_live }
+done_told config h now c of seconds is_live false is = record { turn = turn_is now c _ is; is_live = is_live }
 
-delete_case : (config : Config) (h : List BoardEntry) (now : ℕ) (c : Control) (id : List ℕ) (tag : Option (List ℕ)) (fatal : Bool)
-    → (found : Option Call) → find_call h id ≡ found → c.act ≡ (delete_of h tag fatal found).act
-    → Tells config h (entry now c) (delete_of h tag fatal found).act
-delete_case config h now c id tag fatal None found is = missing_told config h now c E9 fatal is
-delete_case config h now c id tag fatal (Some of) found is =
-    named_told config h now c of fatal (found_is_live h id of found) (names_side (rounds h of.number) tag) is
+named_told : (config : Config) (h : List BoardEntry) (now : ℕ) (c : Control) (of : Call) (fatal : Bool) (seconds : ℕ) → In of (live h) → (names : Bool)
+    → c.act ≡ (cond names (done_by (deleting of seconds)) (nothing_to_end fatal E10)).act
+    → Tells config h (entry now c) (cond names (done_by (deleting of seconds)) (nothing_to_end fatal E10)).act
+named_told config h now c of fatal seconds is_live true is = done_told config h now c of seconds is_live (seconds == 0) is
+named_told config h now c of fatal seconds is_live false is = missing_told config h now c E10 fatal is
+
+delete_case : (config : Config) (h : List BoardEntry) (now : ℕ) (c : Control) (id : List ℕ) (tag : Option (List ℕ)) (fatal : Bool) (seconds : ℕ)
+    → (found : Option Call) → find_call h id ≡ found → c.act ≡ (delete_of h tag fatal seconds found).act
+    → Tells config h (entry now c) (delete_of h tag fatal seconds found).act
+delete_case config h now c id tag fatal seconds None found is = missing_told config h now c E9 fatal is
+delete_case config h now c id tag fatal seconds (Some of) found is =
+    named_told config h now c of fatal seconds (found_is_live h id of found) (names_side (rounds h of.number) tag) is
 
 query_case : (config : Config) (h : List BoardEntry) (now : ℕ) (c : Control) (id : List ℕ) → GivesFor (demanded config h c) c.given c.act
     → (found : Option Call) → find_call h id ≡ found → c.act ≡ (query_of h c.given found).act
@@ -194,7 +200,7 @@ command_case config h now c (said.Offer id from_tag sdp options) asks gives is =
     offer_case config h now c id (offer_ask from_tag sdp options c.chosen) (ap (demanded_by h c) asks) gives (find_call h id) refl is
 command_case config h now c (said.Answer id from_tag to_tag sdp options) asks gives is =
     answer_case config h now c id (answer_ask from_tag to_tag sdp options c.chosen) (find_call h id) refl is
-command_case config h now c (said.Delete id from_tag fatal) asks gives is = delete_case config h now c id from_tag fatal (find_call h id) refl is
+command_case config h now c (said.Delete id from_tag fatal seconds) asks gives is = delete_case config h now c id from_tag fatal seconds (find_call h id) refl is
 command_case config h now c (said.Query id) asks gives is = query_case config h now c id gives (find_call h id) refl is
 command_case config h now c (said.Listing limit) asks gives is = tt
 
@@ -243,6 +249,9 @@ offer_told config h e o fits is = tells_of config h e (act.Offered o) fits is
 pub answer_told : (config : Config) (h : List BoardEntry) (e : BoardEntry) (a : Answer) → FitsBoard config h e → act e ≡ act.Answered a → IsAnswer h e a
 answer_told config h e a fits is = tells_of config h e (act.Answered a) fits is
 
+pub delay_told : (config : Config) (h : List BoardEntry) (e : BoardEntry) (of : Call) (seconds : ℕ) → FitsBoard config h e → act e ≡ act.Delayed of seconds → IsDelay h e of seconds
+delay_told config h e of seconds fits is = tells_of config h e (act.Delayed of seconds) fits is
+
 ended_by_turn : (config : Config) (h : List BoardEntry) (e : BoardEntry) (c : Call) (a : Act) → Tells config h e a → In c (ended_by_act a) → In c (live h)
 ended_by_turn config h e c (act.Deleted of) shown (here same) = subst (λ x. In x (live h)) (sym same) shown.is_live
 ended_by_turn config h e c (act.Deleted of) shown (there i) = elim i [ ]
@@ -254,10 +263,11 @@ ended_by_turn config h e c (act.Offered o) shown i = elim i [ ]
 ended_by_turn config h e c (act.Answered a) shown i = elim i [ ]
 ended_by_turn config h e c (act.Queried of) shown i = elim i [ ]
 ended_by_turn config h e c act.Told shown i = elim i [ ]
+ended_by_turn config h e c (act.Delayed of s) shown i = elim i [ ]
 
 ended_event : (config : Config) (h : List BoardEntry) (now : ℕ) (c : Call) (event : BoardEvent) → FitsAt config h now event → In c (ended_in event) → In c (live h)
 ended_event config h now c (Turn t) fits i = ended_by_turn config h (entry now t) c t.act (control_told config h now t fits) i
-ended_event config h now c (Tick calls) fits i = (filtered _ (live h) (subst (λ xs. In c xs) fits i)).0
+ended_event config h now c (Tick calls) fits i = (filtered _ (live h) (subst (λ xs. In c xs) fits.0 i)).0
 ended_event config h now c (Stop calls) fits i = subst (λ xs. In c xs) fits i
 
 -- a call that an entry ends was live

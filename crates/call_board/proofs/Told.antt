@@ -49,6 +49,10 @@ pub record IsDelete (h : List BoardEntry) (e : BoardEntry) (of : Call) : Type 0 
   pub turn : IsTurn e (act.Deleted of)
   pub is_live : In of (live h)
 
+pub record IsDelay (h : List BoardEntry) (e : BoardEntry) (of : Call) (seconds : ℕ) : Type 0 where
+  pub turn : IsTurn e (act.Delayed of seconds)
+  pub is_live : In of (live h)
+
 pub record IsQuery (h : List BoardEntry) (e : BoardEntry) (of : Call) : Type 0 where
   pub turn : IsTurn e (act.Queried of)
   pub is_live : In of (live h)
@@ -82,3 +86,4 @@ Tells config h e (act.Answered a) = IsAnswer h e a
 Tells config h e (act.Deleted of) = IsDelete h e of
 Tells config h e (act.Queried of) = IsQuery h e of
 Tells config h e act.Told = Unit {0}
+Tells config h e (act.Delayed of seconds) = IsDelay h e of seconds

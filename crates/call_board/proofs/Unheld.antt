@@ -47,6 +47,7 @@ lease_now h e p (act.Answered x) is i = elim i [ ]
 lease_now h e p (act.Deleted of) is i = elim i [ ]
 lease_now h e p (act.Queried of) is i = elim i [ ]
 lease_now h e p act.Told is i = elim i [ ]
+lease_now h e p (act.Delayed of s) is i = elim i [ ]
 
 leg_now : (h : List BoardEntry) (e : BoardEntry) (p : ℕ) → In p (map pair_of (legs_of_act (act e))) ⊎ In p (undone_pairs (act e)) → HeldOrReturned (e ∷ h) p
 leg_now h e p (inl i) =

@@ -38,8 +38,8 @@ pub record Answer : Type 0 where
   pub signal : List SectionSignal
 
 -- What a control datagram did: it repeated a kept cookie; it ran out of memory; it failed; it failed after it had leased
--- pairs and drawn keys, which were given back and used up; its offer, its answer, its delete was accepted; it asked after a
--- call; or it changed nothing
+-- pairs and drawn keys, which were given back and used up; its offer, its answer, its delete was accepted, the delete at once
+-- or with a delay in seconds; it asked after a call; or it changed nothing
 pub data Act : Type 0 where
   Repeated : Act
   OutOfMemory : Act
@@ -48,6 +48,7 @@ pub data Act : Type 0 where
   Offered : Offer → Act
   Answered : Answer → Act
   Deleted : Call → Act
+  Delayed : Call → (seconds : ℕ) → Act
   Queried : Call → Act
   Told : Act
 

@@ -1,11 +1,12 @@
 -- Which reply a control datagram gets and what it does, after the history of the board.
-use Rattle.std.specs.Prelude.{ℕ, Bool, true, false, not, ◌&&◌, nat_le, List, [], map, length, take, Option, Some, None, Result, Ok, Err, if◌then◌else◌}
+use Rattle.std.specs.Prelude.{ℕ, Bool, true, false, not, ◌&&◌, ◌==◌, nat_le, List, [], map, length, take, Option, Some, None, Result, Ok, Err, if◌then◌else◌}
 use Rattle.std.specs.List.{list_any}
+use Rattle.histories.specs.Words.{or_else}
 use Rattle.relay_outside.specs.declared.settings.Config.{Config}
 use Rattle.ng_command.specs.declared.command.Options.{Options}
 use Rattle.ng_command.specs.Meanings.{Said, Ping, Offer, Answer, Delete, Query, Listing}
 use Rattle.ng_reply.specs.declared.code.ErrorCode.{ErrorCode}
-use Rattle.ng_reply.specs.declared.code.ErrorCode.TheVariants.{E9, E10, E13, E14, E15, E16, E17}
+use Rattle.ng_reply.specs.declared.code.ErrorCode.TheVariants.{E9, E10, E13, E14, E15, E16, E17, E19}
 use Rattle.sdes_lines.specs.declared.crypto_line.CryptoLine.{CryptoLine}
 use Rattle.port_pool.specs.Ports.{pair_port}
 use Rattle.port_pool.specs.declared.reports.LegReport.{LegReport}
@@ -13,7 +14,7 @@ use Rattle.offer_answer.specs.Rounds.{Round, OfferAsk, AnswerAsk, Demand}
 use Rattle.offer_answer.specs.Plan as plan
 use Rattle.call_board.specs.Acts as act
 use Rattle.call_board.specs.Acts.{Call, Act, Given, Control, BoardEvent, Turn, Tick, Stop, BoardEntry}
-use Rattle.call_board.specs.Calls.{live, find_call, new_call, rounds, first_moment, latest_moment}
+use Rattle.call_board.specs.Calls.{live, find_call, new_call, rounds, is_ending, first_moment, latest_moment}
 use Rattle.call_board.specs.Pairs.{free_in, fronts, is_short, next_lease, leased_new_legs, drawn_keys_from, drawn}
 use Rattle.call_board.specs.Replies.{Reply, Pong, Done, Warned, Described, Reported, Listed, Fault, reply_datagram}
 use Rattle.call_board.specs.Requests.{asked}
@@ -28,6 +29,11 @@ failing code = record { reply = Fault code; act = act.Failed code }
 
 abbrev pub telling : Reply → Answering
 telling reply = record { reply = reply; act = act.Told }
+
+-- a call that is ending takes no offer or answer
+abbrev pub ending_error : Bool → Option ErrorCode
+ending_error false = None
+ending_error true = Some E19
 
 -- Offers.
 
@@ -77,7 +83,8 @@ abbrev pub offer_to : Config → List BoardEntry → Given → List ℕ → Offe
 offer_to config h given id ask None =
     offer_unless config h given ask (new_call h id) true [] (plan.offer_fault [] ask)
 offer_to config h given id ask (Some of) =
-    offer_unless config h given ask of false (rounds h of.number) (plan.offer_fault (rounds h of.number) ask)
+    offer_unless config h given ask of false (rounds h of.number)
+    (or_else (ending_error (is_ending h of.number)) (plan.offer_fault (rounds h of.number) ask))
 
 -- Answers.
 
@@ -94,7 +101,9 @@ answer_unless config ask of before None = record {
 
 abbrev pub answer_to : Config → List BoardEntry → AnswerAsk → Option Call → Answering
 answer_to config h ask None = failing E9
-answer_to config h ask (Some of) = answer_unless config ask of (rounds h of.number) (plan.answer_fault (rounds h of.number) ask)
+answer_to config h ask (Some of) =
+    answer_unless config ask of (rounds h of.number)
+    (or_else (ending_error (is_ending h of.number)) (plan.answer_fault (rounds h of.number) ask))
 
 -- Deletes.
 
@@ -107,10 +116,14 @@ names_side before (Some tag) = plan.is_side before tag
 abbrev pub nothing_to_end : Bool → ErrorCode → Answering
 nothing_to_end fatal code = if fatal then failing code else telling (Warned code)
 
-abbrev pub delete_of : List BoardEntry → Option (List ℕ) → Bool → Option Call → Answering
-delete_of h tag fatal None = nothing_to_end fatal E9
-delete_of h tag fatal (Some of) =
-    if names_side (rounds h of.number) tag then record { reply = Done; act = act.Deleted of } else nothing_to_end fatal E10
+-- a delete ends its call at once, or after a delay in seconds
+abbrev pub deleting : Call → ℕ → Act
+deleting of seconds = if seconds == 0 then act.Deleted of else act.Delayed of seconds
+
+abbrev pub delete_of : List BoardEntry → Option (List ℕ) → (fatal : Bool) → (seconds : ℕ) → Option Call → Answering
+delete_of h tag fatal seconds None = nothing_to_end fatal E9
+delete_of h tag fatal seconds (Some of) =
+    if names_side (rounds h of.number) tag then record { reply = Done; act = deleting of seconds } else nothing_to_end fatal E10
 
 -- Queries.
 
@@ -138,7 +151,7 @@ answering_command config h c (Offer id from_tag sdp options) =
     offer_to config h c.given id (offer_ask from_tag sdp options c.chosen) (find_call h id)
 answering_command config h c (Answer id from_tag to_tag sdp options) =
     answer_to config h (answer_ask from_tag to_tag sdp options c.chosen) (find_call h id)
-answering_command config h c (Delete id from_tag fatal) = delete_of h from_tag fatal (find_call h id)
+answering_command config h c (Delete id from_tag fatal seconds) = delete_of h from_tag fatal seconds (find_call h id)
 answering_command config h c (Query id) = query_of h c.given (find_call h id)
 answering_command config h c (Listing limit) = telling (Listed (take limit (map (λ call. call.id) (live h))))
 

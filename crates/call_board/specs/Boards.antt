@@ -22,6 +22,7 @@ pub record CallFor (config : Config) (call : LiveCall) (c : CallView) : Type 0 w
   pub dialog_for : DialogFor config call.dialog.value c.rounds
   pub first_is : call.first_moment ≡ c.first
   pub last_is : call.last_moment ≡ c.last
+  pub due_is : call.due_moment ≡ c.due
 
 abbrev pub CallsFor : Config → List LiveCall → List CallView → Type 0
 CallsFor config [] [] = Unit {0}

@@ -1,11 +1,11 @@
--- The calls: which are live, in which cells, and their accepted offers and answers.
-use Rattle.std.specs.Prelude.{ℕ, ◌+◌, Bool, false, not, ◌==◌, List, [], ◌∷◌, ◌++◌, map, length, Option, Some, None, filter, if◌then◌else◌}
+-- The calls: which are live, in which cells, which of them are ending, and their accepted offers and answers.
+use Rattle.std.specs.Prelude.{ℕ, ◌+◌, ◌*◌, ◌-◌, ◌^◌, min, nat_le, Bool, false, not, ◌==◌, List, [], ◌∷◌, ◌++◌, map, length, Option, Some, None, is_some, filter, if◌then◌else◌}
 use Rattle.std.specs.List.{list_any, flat_map}
 use Rattle.std.specs.Str.{bytes_eq}
 use Rattle.histories.specs.Words.{first, final, has, greatest, numbers}
 use Rattle.offer_answer.specs.Rounds.{Round}
 use Rattle.offer_answer.specs.Rounds as round
-use Rattle.call_board.specs.Acts.{Call, Act, Offered, Answered, Deleted, BoardEvent, Turn, Tick, Stop, BoardEntry, act}
+use Rattle.call_board.specs.Acts.{Call, Act, Offered, Answered, Deleted, Delayed, BoardEvent, Turn, Tick, Stop, BoardEntry, act}
 
 -- the call that the entry began
 abbrev pub begun_by_act : Act → List Call
@@ -40,6 +40,50 @@ live h = filter (λ c. not (has_ended h c)) (begun h)
 -- the live call of this call-id
 abbrev pub find_call : List BoardEntry → List ℕ → Option Call
 find_call h id = first (filter (λ c. bytes_eq c.id id) (live h))
+
+-- Calls that are ending: a delete with a delay found them.
+
+-- when a call ends that a delete with a delay of so many seconds finds at this moment, at most 2^64 - 1
+abbrev pub due_after : ℕ → ℕ → ℕ
+due_after moment seconds = min (2 ^ 64 - 1) (moment + 1000 * seconds)
+
+abbrev pub dues_by_act : ℕ → ℕ → Act → List ℕ
+dues_by_act number moment (Delayed of seconds) = if of.number == number then due_after moment seconds ∷ [] else []
+dues_by_act number moment _ = []
+
+-- the moments at which the deletes with a delay that found the call have it end, latest delete first
+abbrev pub dues : List BoardEntry → ℕ → List ℕ
+dues h number = flat_map (λ e. dues_by_act number e.moment (act e)) h
+
+abbrev pub sooner : ℕ → Option ℕ → ℕ
+sooner n None = n
+sooner n (Some m) = min n m
+
+abbrev pub least : List ℕ → Option ℕ
+least [] = None
+least (n ∷ ns) = Some (sooner n (least ns))
+
+-- the due moment of a call that is ending: the earliest of these
+abbrev pub due_moment : List BoardEntry → ℕ → Option ℕ
+due_moment h number = least (dues h number)
+
+abbrev pub is_ending : List BoardEntry → ℕ → Bool
+is_ending h number = is_some (due_moment h number)
+
+-- there is a call, and it is ending
+abbrev pub is_call_ending : List BoardEntry → Option Call → Bool
+is_call_ending h None = false
+is_call_ending h (Some of) = is_ending h of.number
+
+-- the due moment is there, and has come
+abbrev pub is_due_by : ℕ → Option ℕ → Bool
+is_due_by now None = false
+is_due_by now (Some moment) = nat_le moment now
+
+abbrev pub is_due_at : List BoardEntry → ℕ → ℕ → Bool
+is_due_at h number now = is_due_by now (due_moment h number)
+
+-- New calls.
 
 abbrev pub number_or_zero : Option ℕ → ℕ
 number_or_zero None = 0

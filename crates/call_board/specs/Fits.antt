@@ -11,7 +11,7 @@ use Rattle.offer_answer.specs.Rounds.{AnswerAsk, Demand}
 use Rattle.offer_answer.specs.Plan as plan
 use Rattle.call_board.specs.Acts as act
 use Rattle.call_board.specs.Acts.{Call, Act, Given, Control, BoardEvent, Turn, Tick, Stop, BoardEntry}
-use Rattle.call_board.specs.Calls.{live, find_call, rounds, rounds_of_call}
+use Rattle.call_board.specs.Calls.{live, find_call, rounds, rounds_of_call, is_due_at}
 use Rattle.call_board.specs.KeptReplies.{kept_reply}
 use Rattle.call_board.specs.Requests.{ReadsBody, asked}
 use Rattle.call_board.specs.Answers.{offer_ask, answer_ask, answering_unless, Answered}
@@ -66,6 +66,7 @@ GivesFor demand given (act.Failed code) = GivesNothing given × (given.report �
 GivesFor demand given (act.Answered answer) = GivesNothing given × (given.report ≡ None)
 GivesFor demand given (act.Deleted of) = GivesNothing given × (given.report ≡ None)
 GivesFor demand given act.Told = GivesNothing given × (given.report ≡ None)
+GivesFor demand given (act.Delayed of seconds) = GivesNothing given × (given.report ≡ None)
 
 abbrev pub ReadsAnswerOf : List BoardEntry → AnswerAsk → Option Call → Type 0
 ReadsAnswerOf h ask None = Unit {0}
@@ -126,9 +127,14 @@ pub record FitsControl (config : Config) (h : List BoardEntry) (now : ℕ) (c : 
 abbrev pub named_live : List BoardEntry → List Call → List Call
 named_live h calls = filter (λ c. has (map (λ d. d.number) calls) c.number) (live h)
 
+-- each of these calls that is due by then is among those of these numbers
+abbrev pub AreNamedWhenDue : List BoardEntry → (now : ℕ) → (named : List ℕ) → List Call → Type 0
+AreNamedWhenDue h now named [] = Unit {0}
+AreNamedWhenDue h now named (c ∷ calls) = (is_due_at h c.number now ≡ true → has named c.number ≡ true) × AreNamedWhenDue h now named calls
+
 abbrev pub FitsAt : Config → List BoardEntry → ℕ → BoardEvent → Type 0
 FitsAt config h now (Turn c) = FitsControl config h now c
-FitsAt config h now (Tick calls) = calls ≡ named_live h calls
+FitsAt config h now (Tick calls) = (calls ≡ named_live h calls) × AreNamedWhenDue h now (map (λ c. c.number) calls) (live h)
 FitsAt config h now (Stop calls) = calls ≡ live h
 
 -- the entry is one that the board's history demands

@@ -11,7 +11,7 @@ use Rattle.call_board.specs.declared.board_plan.BoardPlan.{BoardPlan}
 use Rattle.call_board.specs.declared.board_plan.NewCall.{NewCall}
 use Rattle.call_board.specs.declared.live_call.LiveCall.{LiveCall}
 use Rattle.call_board.specs.Acts.{Call}
-use Rattle.call_board.specs.Views.{CallView, View, with_calls, with_new_call, with_round, goes_on, call_of_id, call_numbered}
+use Rattle.call_board.specs.Views.{CallView, View, with_calls, with_new_call, with_round, with_due, goes_on, call_of_id, call_numbered}
 use Rattle.call_board.specs.Boards.{CallFor, IsLive}
 use Rattle.call_board.specs.Plans.{NewFor}
 
@@ -43,7 +43,7 @@ TakesRoundIn config v of round p (Some new) =
 -- what the board keeps then
 abbrev pub taken_in : View → Call → Round → ℕ → BoardPlan → Option NewCall → View
 taken_in v of round now p None = with_calls v (goes_on p.call round now v.calls)
-taken_in v of round now p (Some new) = with_new_call v (record { of = of; rounds = round ∷ []; first = now; last = now })
+taken_in v of round now p (Some new) = with_new_call v (record { of = of; rounds = round ∷ []; first = now; last = now; due = None })
 
 -- the call is live, or there is room for it
 abbrev pub MayApply : Board → BoardPlan → Option NewCall → Type 0
@@ -59,3 +59,12 @@ pub record CallGoesOn (old new : List LiveCall) (place : ℕ) (plan : Plan) (now
   pub number_is : after.number ≡ before.number
   pub taken : (config : Config) (c : CallView) (round : Round) → CallFor config before c → is_begun c.rounds ≡ true → IsPlanOf config c.rounds round plan →
       CallFor config after (with_round round now c)
+
+-- the call in this place of the list is to end at this moment, or earlier if that is due, and the others stay
+pub record CallEnds (old new : List LiveCall) (place : ℕ) (due : ℕ) : Type 0 where
+  pub before : LiveCall
+  pub after : LiveCall
+  pub before_is : before ≡ slice_index_or old place before
+  pub list_is : new ≡ slice_set old place after
+  pub number_is : after.number ≡ before.number
+  pub marked : (config : Config) (c : CallView) → CallFor config before c → CallFor config after (with_due due c)

@@ -1,8 +1,9 @@
 -- What the board plans, by what it keeps.
-use Rattle.std.specs.Prelude.{◌≡◌, ◌≢◌, ◌<◌, ◌≤◌, ℕ, Bool, true, false, ◌&&◌, List, [], map, length, nat_lt, nat_le, Option, Some, None, Result, Ok, Err, if◌then◌else◌}
+use Rattle.std.specs.Prelude.{◌≡◌, ◌≢◌, ◌<◌, ◌≤◌, ℕ, Bool, true, false, ◌&&◌, List, [], map, length, nat_lt, nat_le, Option, Some, None, is_some, Result, Ok, Err, if◌then◌else◌}
 use Rattle.relay_outside.specs.declared.settings.Config.{Config}
 use Rattle.ng_reply.specs.declared.code.ErrorCode.{ErrorCode}
-use Rattle.ng_reply.specs.declared.code.ErrorCode.TheVariants.{E8, E9, E10, E11, E12, E13, E14}
+use Rattle.ng_reply.specs.declared.code.ErrorCode.TheVariants.{E8, E9, E10, E11, E12, E13, E14, E19}
+use Rattle.histories.specs.Words.{or_else}
 use Rattle.port_pool.specs.LeaseLists.{LeaseList}
 use Rattle.offer_answer.specs.Rounds.{Round, OfferAsk, AnswerAsk}
 use Rattle.offer_answer.specs.Plan as plan
@@ -20,6 +21,7 @@ use Rattle.call_board.specs.declared.board_plan.BoardPlan.{BoardPlan}
 use Rattle.call_board.specs.declared.board.Board.{Board}
 use Rattle.call_board.specs.Acts.{Call}
 use Rattle.call_board.specs.Calls.{lowest_but}
+use Rattle.call_board.specs.Answers.{ending_error}
 use Rattle.call_board.specs.Views.{CallView, View, call_of_id}
 
 -- the error code of a fault
@@ -31,6 +33,7 @@ board_code faults.MediaCount = Some E12
 board_code faults.NoCrypto = Some E8
 board_code faults.SessionLimit = Some E14
 board_code faults.NoPair = Some E13
+board_code faults.Ending = Some E19
 board_code faults.OutOfMemory = None
 
 -- the board's fault for that of a plan
@@ -48,13 +51,9 @@ shortage config v begins rounds ask =
     else if nat_lt (length v.free) (length (plan.demand rounds ask).pairs) then Some E13
     else None
 
-abbrev pub fault_or : Option ErrorCode → Option ErrorCode → Option ErrorCode
-fault_or (Some code) other = Some code
-fault_or None other = other
-
--- the first fault or shortage of an offer of a call with these rounds
-abbrev pub refusal : Config → View → Bool → List Round → OfferAsk → Option ErrorCode
-refusal config v begins rounds ask = fault_or (plan.offer_fault rounds ask) (shortage config v begins rounds ask)
+-- the first fault or shortage of an offer after these rounds
+abbrev pub fault_or_shortage : Config → View → Bool → List Round → OfferAsk → Option ErrorCode
+fault_or_shortage config v begins rounds ask = or_else (plan.offer_fault rounds ask) (shortage config v begins rounds ask)
 
 -- the call that an offer of this call-id begins
 abbrev pub next_call : View → List ℕ → Call
@@ -64,14 +63,23 @@ next_call v id = record { number = v.begun; cell = lowest_but (map (λ (c : Call
 pub record Target : Type 0 where
   pub of : Call
   pub begins : Bool
+  pub ending : Bool
   pub rounds : List Round
 
 abbrev pub target_by : View → List ℕ → Option CallView → Target
-target_by v id None = record { of = next_call v id; begins = true; rounds = [] }
-target_by v id (Some c) = record { of = c.of; begins = false; rounds = c.rounds }
+target_by v id None = record { of = next_call v id; begins = true; ending = false; rounds = [] }
+target_by v id (Some c) = record { of = c.of; begins = false; ending = is_some c.due; rounds = c.rounds }
 
 abbrev pub target : View → List ℕ → Target
 target v id = target_by v id (call_of_id v id)
+
+-- why an offer is refused: its call is ending, or its first fault, or what it lacks
+abbrev pub refusal : Config → View → Target → OfferAsk → Option ErrorCode
+refusal config v t ask = or_else (ending_error t.ending) (fault_or_shortage config v t.begins t.rounds ask)
+
+-- why an answer to a live call is refused: the call is ending, or its first fault
+abbrev pub answer_refusal : CallView → AnswerAsk → Option ErrorCode
+answer_refusal c ask = or_else (ending_error (is_some c.due)) (plan.answer_fault c.rounds ask)
 
 -- what is kept for a call that is to begin
 pub record NewFor (config : Config) (id tag : List ℕ) (new : NewCall) : Type 0 where
@@ -97,8 +105,8 @@ pub record OfferPlanFor (config : Config) (t : Target) (ask : OfferAsk) (p : Boa
 
 -- the result of planning an offer: its first fault or shortage, a plan, or out of memory
 abbrev pub PlansFor : Config → View → Target → OfferAsk → Result BoardPlan BoardFault → Type 0
-PlansFor config v t ask (Err fault) = fault ≢ faults.OutOfMemory → refusal config v t.begins t.rounds ask ≡ board_code fault
-PlansFor config v t ask (Ok p) = (refusal config v t.begins t.rounds ask ≡ None) × OfferPlanFor config t ask p
+PlansFor config v t ask (Err fault) = fault ≢ faults.OutOfMemory → refusal config v t ask ≡ board_code fault
+PlansFor config v t ask (Ok p) = (refusal config v t ask ≡ None) × OfferPlanFor config t ask p
 
 abbrev pub PlansOffer : Config → View → List ℕ → OfferAsk → Result BoardPlan BoardFault → Type 0
 PlansOffer config v id ask result = PlansFor config v (target v id) ask result
@@ -128,6 +136,6 @@ pub record AnswerPlanFor (config : Config) (c : CallView) (ask : AnswerAsk) (lin
 abbrev pub PlansAnswer : Config → AnswerIn → List (List ℕ) → Option CallView → Result BoardPlan BoardFault → Type 0
 PlansAnswer config input lines None result = result ≡ Err faults.UnknownCall
 PlansAnswer config input lines (Some c) (Err fault) =
-    (ask : AnswerAsk) → AsksAnswer input lines c.rounds ask → fault ≢ faults.OutOfMemory → plan.answer_fault c.rounds ask ≡ board_code fault
+    (ask : AnswerAsk) → AsksAnswer input lines c.rounds ask → fault ≢ faults.OutOfMemory → answer_refusal c ask ≡ board_code fault
 PlansAnswer config input lines (Some c) (Ok p) =
-    (ask : AnswerAsk) → AsksAnswer input lines c.rounds ask → (plan.answer_fault c.rounds ask ≡ None) × AnswerPlanFor config c ask lines p
+    (ask : AnswerAsk) → AsksAnswer input lines c.rounds ask → (answer_refusal c ask ≡ None) × AnswerPlanFor config c ask lines p

@@ -73,7 +73,7 @@ abbrev pub description_error : Config → Said → Option ErrorCode
 description_error config Ping = None
 description_error config (Offer call_id from_tag sdp options) = sdp_error config sdp
 description_error config (Answer call_id from_tag to_tag sdp options) = sdp_error config sdp
-description_error config (Delete call_id from_tag fatal) = None
+description_error config (Delete call_id from_tag fatal seconds) = None
 description_error config (Query call_id) = None
 description_error config (Listing limit) = None
 

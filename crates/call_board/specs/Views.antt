@@ -1,21 +1,23 @@
 -- What the board keeps of its history.
-use Rattle.std.specs.Prelude.{ℕ, ◌+◌, ◌==◌, max, Bool, List, [], ◌∷◌, ◌++◌, map, length, drop, take, filter, count_by, Option, if◌then◌else◌}
+use Rattle.std.specs.Prelude.{ℕ, ◌+◌, ◌==◌, max, Bool, List, [], ◌∷◌, ◌++◌, map, length, drop, take, filter, count_by, Option, Some, if◌then◌else◌}
 use Rattle.std.specs.Str.{bytes_eq}
 use Rattle.relay_outside.specs.declared.settings.Config.{Config}
 use Rattle.histories.specs.Words.{first, greatest}
 use Rattle.cookie_cache.specs.Keepings.{Keeping}
 use Rattle.offer_answer.specs.Rounds.{Round}
 use Rattle.call_board.specs.Acts.{Call, BoardEntry}
-use Rattle.call_board.specs.Calls.{begun, live, rounds, first_moment, latest_moment}
+use Rattle.call_board.specs.Calls.{begun, live, rounds, due_moment, sooner, first_moment, latest_moment}
 use Rattle.call_board.specs.Pairs.{free, all_leased, drawn}
 use Rattle.call_board.specs.KeptReplies.{keepings}
 
--- a live call: its accepted offers and answers, and the moments of the first and of the last of them
+-- a live call: its accepted offers and answers, the moments of the first and of the last of them, and its due moment if it is
+-- ending
 pub record CallView : Type 0 where
   pub of : Call
   pub rounds : List Round
   pub first : ℕ
   pub last : ℕ
+  pub due : Option ℕ
 
 -- The greatest moment; how many calls were begun and keys drawn; the live calls in order of creation; the free pairs, the next
 -- to be leased in front; how often each pair was leased; and the kept replies, latest first
@@ -29,7 +31,8 @@ pub record View : Type 0 where
   pub keepings : List Keeping
 
 abbrev pub call_view : List BoardEntry → Call → CallView
-call_view h c = record { of = c; rounds = rounds h c.number; first = first_moment h c.number; last = latest_moment h c.number }
+call_view h c =
+    record { of = c; rounds = rounds h c.number; first = first_moment h c.number; last = latest_moment h c.number; due = due_moment h c.number }
 
 -- the greatest moment of a history, at first 0
 abbrev pub board_last_moment : List BoardEntry → ℕ
@@ -113,9 +116,21 @@ without_call v number = with_calls v (without number v.calls)
 
 -- one more accepted offer or answer of a call, at this moment
 abbrev pub with_round : Round → ℕ → CallView → CallView
-with_round round now c = record { of = c.of; rounds = round ∷ c.rounds; first = c.first; last = now }
+with_round round now c = record { of = c.of; rounds = round ∷ c.rounds; first = c.first; last = now; due = c.due }
 
--- the first call of this number has it
+-- the first call of this number is changed so
+abbrev pub change_call : ℕ → (CallView → CallView) → List CallView → List CallView
+change_call number change [] = []
+change_call number change (c ∷ calls) = if is_call_numbered number c then change c ∷ calls else c ∷ change_call number change calls
+
+-- the first call of this number has that round
 abbrev pub goes_on : ℕ → Round → ℕ → List CallView → List CallView
-goes_on number round now [] = []
-goes_on number round now (c ∷ calls) = if is_call_numbered number c then with_round round now c ∷ calls else c ∷ goes_on number round now calls
+goes_on number round now calls = change_call number (with_round round now) calls
+
+-- a call that is to end at this moment, or earlier if that is due
+abbrev pub with_due : ℕ → CallView → CallView
+with_due moment c = record { of = c.of; rounds = c.rounds; first = c.first; last = c.last; due = Some (sooner moment c.due) }
+
+-- the first call of this number is to end then
+abbrev pub ends_by : ℕ → ℕ → List CallView → List CallView
+ends_by number moment calls = change_call number (with_due moment) calls

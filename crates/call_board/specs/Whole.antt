@@ -1,13 +1,14 @@
 -- What an entry of the history makes of what the board keeps: the changes that the calls of its turn make, in their order.
-use Rattle.std.specs.Prelude.{◌≡◌, ◌≤◌, ℕ, zero, suc, List, [], ◌∷◌, map, length, if◌then◌else◌}
+use Rattle.std.specs.Prelude.{◌≡◌, ◌≤◌, ℕ, zero, suc, List, [], ◌∷◌, map, length, None, if◌then◌else◌}
 use Rattle.cookie_cache.specs.Keepings.{moment_used}
 use Rattle.port_pool.specs.declared.holder.Holder.{Holder}
 use Rattle.port_pool.specs.declared.pairs.Lease as pairs
 use Rattle.offer_answer.specs.Rounds.{Round, NewLeg}
 use Rattle.offer_answer.specs.Rounds as round
-use Rattle.call_board.specs.Acts.{Call, Lease, Offer, Answer, Act, Repeated, OutOfMemory, Failed, Undone, Offered, Answered, Deleted, Queried, Told, Control, BoardEvent, Turn, Tick, Stop, BoardEntry}
+use Rattle.call_board.specs.Acts.{Call, Lease, Offer, Answer, Act, Repeated, OutOfMemory, Failed, Undone, Offered, Answered, Deleted, Delayed, Queried, Told, Control, BoardEvent, Turn, Tick, Stop, BoardEntry}
+use Rattle.call_board.specs.Calls.{due_after}
 use Rattle.call_board.specs.Pairs.{closed_of}
-use Rattle.call_board.specs.Views.{View, board_last_moment, view_at_moment, with_keeping, one_drawn, with_calls, with_new_call, with_leases, with_returned, without_call, goes_on}
+use Rattle.call_board.specs.Views.{View, board_last_moment, view_at_moment, with_keeping, one_drawn, with_calls, with_new_call, with_leases, with_returned, without_call, goes_on, ends_by}
 
 -- The legs that an offer leases pairs for: a lease for each leg that it demands, in order.
 
@@ -40,7 +41,11 @@ with_more of round now v = with_calls v (goes_on of.number round now v.calls)
 
 -- the first offer of a call is taken in
 abbrev pub with_first : Call → Round → ℕ → View → View
-with_first of round now v = with_new_call v (record { of = of; rounds = round ∷ []; first = now; last = now })
+with_first of round now v = with_new_call v (record { of = of; rounds = round ∷ []; first = now; last = now; due = None })
+
+-- a live call is to end at this moment, or earlier if that is due
+abbrev pub with_due_call : ℕ → ℕ → View → View
+with_due_call number moment v = with_calls v (ends_by number moment v.calls)
 
 -- these calls end, one after the other, and the pairs of each are given back
 abbrev pub with_ended : List BoardEntry → BoardEntry → List Call → View → View
@@ -79,6 +84,10 @@ after_answer h e c a v = with_reply e.moment c (with_closed h e a.of (with_more 
 abbrev pub after_delete : List BoardEntry → BoardEntry → Control → Call → View → View
 after_delete h e c of v = with_reply e.moment c (with_closed h e of (without_call v of.number))
 
+-- a delete with a delay made its call ending
+abbrev pub after_delay : BoardEntry → Control → Call → (seconds : ℕ) → View → View
+after_delay e c of seconds v = with_reply e.moment c (with_due_call of.number (due_after e.moment seconds) v)
+
 abbrev pub after_act : List BoardEntry → BoardEntry → Control → Act → View → View
 after_act h e c Repeated v = after_nothing v
 after_act h e c OutOfMemory v = after_nothing v
@@ -87,6 +96,7 @@ after_act h e c (Undone code leases draws) v = after_undone e c leases draws v
 after_act h e c (Offered o) v = after_offer h e c o v
 after_act h e c (Answered a) v = after_answer h e c a v
 after_act h e c (Deleted of) v = after_delete h e c of v
+after_act h e c (Delayed of seconds) v = after_delay e c of seconds v
 after_act h e c (Queried of) v = after_reply e c v
 after_act h e c Told v = after_reply e c v
 

@@ -35,6 +35,9 @@ impl Board {
         ensures writes { IfOk result (λ p. WritesFrom p.plan sdp.now) }
     {
         let call = self.calls.at(place);
+        if call.due_moment.is_some() {
+            return Err(BoardFault::Ending);
+        }
         let plan = answer(alloc, &self.config, &*call.dialog, input, sdp)?;
         Ok(BoardPlan {
             plan,
@@ -48,7 +51,7 @@ impl Board {
     /// The plan of an answer, or its first fault. It takes all memory that the answer needs of the board, and demands no pair and
     /// no key.
     ///
-    /// `UnknownCall`: no live call has its call-id. A plan may be dropped: the board is as before.
+    /// `UnknownCall`: no live call has its call-id. `Ending`: that call is ending. A plan may be dropped: the board is as before.
     pub fn plan_answer(
         &mut self,
         alloc: Global,

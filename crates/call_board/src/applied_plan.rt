@@ -1,6 +1,6 @@
 //! Taking in a plan.
 
-ghost use Rattle.std.specs.Prelude.{◌≡◌, ◌<◌, ◌^◌, ℕ, [], ◌∷◌, true, Some};
+ghost use Rattle.std.specs.Prelude.{◌≡◌, ◌<◌, ◌^◌, ℕ, [], ◌∷◌, true, Some, None};
 ghost use Rattle.relay_outside.specs.declared.settings.Config.{Config};
 ghost use Rattle.offer_answer.specs.Rounds.{Round};
 ghost use Rattle.offer_answer.specs.Sides.{is_begun};
@@ -34,7 +34,7 @@ impl Board {
         ensures replies { KeepsReplies self.old self.new }
         ensures taken { (config : Config) (v : View) (of : Call) (round : Round) → BoardMatches config self.old v → IsNext config v of → cell ≡ of.cell →
             BeginsBy config of.id round new → IsPlanOf config [] round plan →
-            BoardMatches config self.new (with_new_call v (record { of = of; rounds = round ∷ []; first = now; last = now })) }
+            BoardMatches config self.new (with_new_call v (record { of = of; rounds = round ∷ []; first = now; last = now; due = None })) }
     {
         let NewCall {
             id,
@@ -49,6 +49,7 @@ impl Board {
             dialog,
             first_moment: now,
             last_moment: now,
+            due_moment: None,
         };
         self.calls.push(key, begun);
         self.begun += 1;

@@ -80,7 +80,7 @@ impl Board {
         self.moment
     }
 
-    /// The reply that is kept for this source and cookie, which has 1 to 255 bytes, at the moment `now`, in milliseconds.
+    /// The reply that is kept for this source and cookie, which has 1 to 255 bytes, at the moment `now`, in milliseconds. `None`: none is.
     pub fn find_reply(&self, source: Addr, cookie: &[u8], now: u64) -> Option<&[u8]>
         requires { IsCookie cookie.now }
         ensures { (config : Config) (v : View) → BoardMatches config self.now v →
@@ -219,7 +219,7 @@ impl Board {
     }
 
     /// A live call.
-    fn live(&self, call: u64) -> &LiveCall
+    pub(crate) fn live(&self, call: u64) -> &LiveCall
         requires { IsLive self.now call }
         ensures { (config : Config) (v : View) → BoardMatches config self.now v → CallMatches config v call result.now }
     {

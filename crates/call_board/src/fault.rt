@@ -7,11 +7,14 @@ ghost use Rattle.call_board.specs.Plans.{board_fault};
 use offer_answer::OaFault;
 use relay_outside::OutOfMemory;
 
-/// Why the board refuses an offer or an answer. Nothing has changed then.
+/// Why the board refuses an offer or an answer: the first that holds, in this order, but that memory may run out before any of them. Nothing
+/// has changed then.
 #[derive(Clone, Copy, Debug, PartialEq, Eq)]
 pub enum BoardFault {
     /// No live call has the call-id of the answer.
     UnknownCall,
+    /// The call is ending.
+    Ending,
     /// A tag is no side's where it must be one's, or both tags of an answer are the same.
     UnknownTag,
     /// The last offer was made by the other side.

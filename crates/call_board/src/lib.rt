@@ -1,11 +1,12 @@
 //! The board: the live calls, the port pairs, the drawn keys and the kept replies, by the history of the control datagrams.
 //!
-//! `specs/Acts.antt` has the entries of that history, `specs/Calls.antt` the live calls and their rounds, `specs/Pairs.antt`
+//! `specs/Acts.antt` has the entries of that history, `specs/Calls.antt` the live calls, those that are ending, and their rounds, `specs/Pairs.antt`
 //! who holds which pair and which pairs are free, `specs/KeptReplies.antt` the replies that are kept, `specs/Answers.antt` which reply a
 //! datagram gets and what it does.
 //!
 //! Module `board` has the board, `live_calls` its live calls, `live_call` one of them. `offer_plan` plans offers and `answer_plan` answers as a `BoardPlan`,
-//! `offer_leases` leases the pairs that it demands and takes them back, `applied_plan` takes it in, `call_end` ends a call.
+//! `offer_leases` leases the pairs that it demands and takes them back, `applied_plan` takes it in, `ending` has a call end when it is due,
+//! `call_end` ends one.
 //! `specs/Views.antt` says what the board keeps of its history, and what each call changes of that; `specs/Boards.antt` that it
 //! keeps it, `specs/Plans.antt` the result of planning an offer or an answer, `specs/NextBoards.antt` what a plan makes of the board,
 //! `specs/Whole.antt` what the calls of an entry's turn make together, and `law` that this is the entry. `specs/Futures.antt` says that
@@ -18,6 +19,7 @@ mod board;
 mod board_plan;
 mod call_end;
 mod cell_marks;
+mod ending;
 mod fault;
 mod law;
 mod live_call;

@@ -20,13 +20,15 @@ pub struct LiveCall {
     pub(crate) first_moment: u64,
     /// The moment of the last of them.
     pub(crate) last_moment: u64,
+    /// The moment from which a tick ends it. `None`: it isn't ending.
+    pub(crate) due_moment: Option<u64>,
 }
 
 impl LiveCall {
     ghost use Rattle.relay_outside.specs.declared.settings.Config.{Config};
     ghost use Rattle.offer_answer.specs.Rounds.{Round};
     ghost use Rattle.offer_answer.specs.Sides.{is_begun};
-    ghost use Rattle.call_board.specs.Views.{CallView, with_round};
+    ghost use Rattle.call_board.specs.Views.{CallView, with_round, with_due};
     ghost use Rattle.call_board.specs.Boards.{CallFor};
     ghost use Rattle.call_board.specs.NextBoards.{IsPlanOf};
 
@@ -39,5 +41,17 @@ impl LiveCall {
     {
         self.dialog.apply(plan);
         self.last_moment = now;
+    }
+
+    /// Has it end at the moment `due`, or earlier if that is due.
+    pub(crate) fn mark_ending(&mut self, due: u64)
+        ensures marked { (config : Config) (c : CallView) → CallFor config self.old c → CallFor config self.new (with_due due c) }
+        ensures id { self.new.id ≡ self.old.id }
+        ensures number { self.new.number ≡ self.old.number }
+    {
+        self.due_moment = Some(match self.due_moment {
+            Some(moment) => due.min(moment),
+            None => due,
+        });
     }
 }

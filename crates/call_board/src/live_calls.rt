@@ -39,7 +39,7 @@ impl Model for LiveCalls {
 impl LiveCalls {
     ghost use Rattle.std.specs.Prelude.{map};
     ghost use Rattle.indexmap.specs.IndexMap.{keys, values};
-    ghost use Rattle.call_board.specs.NextBoards.{CallGoesOn};
+    ghost use Rattle.call_board.specs.NextBoards.{CallGoesOn, CallEnds};
     ghost use Rattle.call_board.specs.CallNumbers.{NumbersRise};
 
     /// No calls.
@@ -101,6 +101,14 @@ impl LiveCalls {
         ensures { CallGoesOn self.old.list self.new.list place plan now }
     {
         self.calls[place].go_on(plan, now);
+    }
+
+    /// Has the call in a place, from 0, end at the moment `due`, or earlier if that is due.
+    pub fn mark_ending(&mut self, place: usize, due: u64)
+        requires { place < length self.old.list }
+        ensures { CallEnds self.old.list self.new.list place due }
+    {
+        self.calls[place].mark_ending(due);
     }
 
     /// Makes room for one more call. The calls stay, also when it fails.

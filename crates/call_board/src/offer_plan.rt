@@ -118,6 +118,9 @@ impl Board {
         ensures writes { IfOk result (λ p. WritesFrom p.plan sdp.now) }
     {
         let call = self.calls.at(place);
+        if call.due_moment.is_some() {
+            return Err(BoardFault::Ending);
+        }
         let plan = offer(alloc, &self.config, &*call.dialog, input, sdp)?;
         if self.lacks_pairs(&plan) {
             return Err(BoardFault::NoPair);
@@ -173,7 +176,7 @@ impl Board {
 
     /// The plan of an offer, or its first fault. It takes all memory that the offer needs of the board, and leases nothing.
     ///
-    /// `SessionLimit`: the offer would begin a call while as many are live as may be. `NoPair`: fewer pairs are free than two
+    /// `Ending`: its call is ending. `SessionLimit`: the offer would begin a call while as many are live as may be. `NoPair`: fewer pairs are free than two
     /// for each new active section. A plan that was not leased may be dropped: the board is as before.
     pub fn plan_offer(
         &mut self,

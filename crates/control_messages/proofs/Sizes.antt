@@ -16,7 +16,7 @@ described : (pairs : Entries) (says : Said) → said_or_fault pairs ≡ Ok says 
 described pairs Ping e = omega arith
 described pairs (Offer call_id from_tag sdp options) e = told_within pairs (Offer call_id from_tag sdp options) e
 described pairs (Answer call_id from_tag to_tag sdp options) e = told_within pairs (Answer call_id from_tag to_tag sdp options) e
-described pairs (Delete call_id from_tag fatal) e = omega arith
+described pairs (Delete call_id from_tag fatal seconds) e = omega arith
 described pairs (Query call_id) e = omega arith
 described pairs (Listing limit) e = omega arith
 
@@ -28,7 +28,7 @@ described_at_most : (n : ℕ) (pairs : Entries) (says : Said) → PairsAreShort 
 described_at_most n pairs Ping h e = omega arith
 described_at_most n pairs (Offer call_id from_tag sdp options) h e = told_at_most n pairs (Offer call_id from_tag sdp options) h e
 described_at_most n pairs (Answer call_id from_tag to_tag sdp options) h e = told_at_most n pairs (Answer call_id from_tag to_tag sdp options) h e
-described_at_most n pairs (Delete call_id from_tag fatal) h e = omega arith
+described_at_most n pairs (Delete call_id from_tag fatal seconds) h e = omega arith
 described_at_most n pairs (Query call_id) h e = omega arith
 described_at_most n pairs (Listing limit) h e = omega arith
 

@@ -31,7 +31,7 @@ abbrev pub description_in : Said → List ℕ
 description_in Ping = []
 description_in (Offer call_id from_tag sdp options) = sdp
 description_in (Answer call_id from_tag to_tag sdp options) = sdp
-description_in (Delete call_id from_tag fatal) = []
+description_in (Delete call_id from_tag fatal seconds) = []
 description_in (Query call_id) = []
 description_in (Listing limit) = []
 

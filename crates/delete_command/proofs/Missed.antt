@@ -37,12 +37,12 @@ abbrev pub asking_with : Request → Option Entries → Control
 asking_with request pairs = unanswered (record_as request pairs [] Nothing)
 
 -- what it asks
-pub asks_delete : (config : Config) (h : List BoardEntry) (moment : ℕ) (request : Request) (pairs : Option Entries) (id : List ℕ) (tag : Option (List ℕ)) (fatal : Bool)
-    → IsAnew h moment request → IsAsking request pairs (Delete id tag fatal) → Asks config h moment (asking_with request pairs) (Ok (Delete id tag fatal))
-asks_delete config h moment request pairs id tag fatal anew asking = record {
+pub asks_delete : (config : Config) (h : List BoardEntry) (moment : ℕ) (request : Request) (pairs : Option Entries) (id : List ℕ) (tag : Option (List ℕ)) (fatal : Bool) (seconds : ℕ)
+    → IsAnew h moment request → IsAsking request pairs (Delete id tag fatal seconds) → Asks config h moment (asking_with request pairs) (Ok (Delete id tag fatal seconds))
+asks_delete config h moment request pairs id tag fatal seconds anew asking = record {
   nothing_kept = anew.not_kept;
   not_out_of_memory = refl;
-  is_asked = ap (λ (long : Bool). asked config long pairs) asking.short ∙ asks_so config false pairs (Delete id tag fatal) asking.command refl;
+  is_asked = ap (λ (long : Bool). asked config long pairs) asking.short ∙ asks_so config false pairs (Delete id tag fatal seconds) asking.command refl;
 }
 
 -- what is due to a delete that finds nothing to end
@@ -50,15 +50,15 @@ abbrev missing_due : Config → Control → ErrorCode → Bool → Answered
 missing_due config c code true = with_reply config c (Fault code) (act.Failed code)
 missing_due config c code false = with_reply config c (Warned code) act.Told
 
-unknown_due : (config : Config) (h : List BoardEntry) (now : ℕ) (c : Control) (id : List ℕ) (tag : Option (List ℕ)) (fatal : Bool)
-    → Asks config h now c (Ok (Delete id tag fatal)) → find_call h id ≡ None → IsDue config h now c (missing_due config c E9 fatal)
-unknown_due config h now c id tag true asks none = delete_unknown_due config h now c id tag true asks none refl
-unknown_due config h now c id tag false asks none = delete_unknown_warned config h now c id tag false asks none refl
+unknown_due : (config : Config) (h : List BoardEntry) (now : ℕ) (c : Control) (id : List ℕ) (tag : Option (List ℕ)) (fatal : Bool) (seconds : ℕ)
+    → Asks config h now c (Ok (Delete id tag fatal seconds)) → find_call h id ≡ None → IsDue config h now c (missing_due config c E9 fatal)
+unknown_due config h now c id tag true seconds asks none = delete_unknown_due config h now c id tag true seconds asks none refl
+unknown_due config h now c id tag false seconds asks none = delete_unknown_warned config h now c id tag false seconds asks none refl
 
-stranger_due : (config : Config) (h : List BoardEntry) (now : ℕ) (c : Control) (id : List ℕ) (tag : Option (List ℕ)) (fatal : Bool) (of : Call)
-    → Asks config h now c (Ok (Delete id tag fatal)) → find_call h id ≡ Some of → names_side (rounds h of.number) tag ≡ false → IsDue config h now c (missing_due config c E10 fatal)
-stranger_due config h now c id tag true of asks found names = delete_stranger_due config h now c id tag true of asks found names refl
-stranger_due config h now c id tag false of asks found names = delete_stranger_warned config h now c id tag false of asks found names refl
+stranger_due : (config : Config) (h : List BoardEntry) (now : ℕ) (c : Control) (id : List ℕ) (tag : Option (List ℕ)) (fatal : Bool) (seconds : ℕ) (of : Call)
+    → Asks config h now c (Ok (Delete id tag fatal seconds)) → find_call h id ≡ Some of → names_side (rounds h of.number) tag ≡ false → IsDue config h now c (missing_due config c E10 fatal)
+stranger_due config h now c id tag true seconds of asks found names = delete_stranger_due config h now c id tag true seconds of asks found names refl
+stranger_due config h now c id tag false seconds of asks found names = delete_stranger_warned config h now c id tag false seconds of asks found names refl
 
 module _ {M I O T : Type 0} {g : _} where
   missed : (config : Config) (turns : Turns M (Part I O) Made T) (hand : Hand M (Part I O) Made T g) (entry_id : BoardEntryId) (request : Request) (pairs : Option Entries)
@@ -77,25 +77,25 @@ module _ {M I O T : Type 0} {g : _} where
 
   -- no live call has the call-id
   pub unknown_carries : (config : Config) (turns : Turns M (Part I O) Made T) (hand : Hand M (Part I O) Made T g) (entry_id : BoardEntryId) (request : Request) (pairs : Option Entries)
-      (id : List ℕ) (tag : Option (List ℕ)) (fatal : Bool) (done : CommandOutcome) (board : Board) (log : Option (List PortCall))
+      (id : List ℕ) (tag : Option (List ℕ)) (fatal : Bool) (seconds : ℕ) (done : CommandOutcome) (board : Board) (log : Option (List PortCall))
       → InTurn config turns hand entry_id board log → IsAnew (board_history (made_by hand) entry_id.number) entry_id.moment request
-      → IsAsking request pairs (Delete id tag fatal) → find_call (board_history (made_by hand) entry_id.number) id ≡ None
+      → IsAsking request pairs (Delete id tag fatal seconds) → find_call (board_history (made_by hand) entry_id.number) id ≡ None
       → Tells [] (reply_datagram config request.cookie.now request.body.now (missing_reply fatal E9)) done
       → ExecutesCommand config hand hand entry_id (record_by request pairs done) done.reply board log
-  unknown_carries config turns hand entry_id request pairs id tag fatal done board log turn anew asking none tells =
+  unknown_carries config turns hand entry_id request pairs id tag fatal seconds done board log turn anew asking none tells =
       let h = board_history (made_by hand) entry_id.number in
       missed config turns hand entry_id request pairs E9 fatal done board log turn anew (λ short. asking.reads) refl
-      (unknown_due config h entry_id.moment (asking_with request pairs) id tag fatal (asks_delete config h entry_id.moment request pairs id tag fatal anew asking) none) tells
+      (unknown_due config h entry_id.moment (asking_with request pairs) id tag fatal seconds (asks_delete config h entry_id.moment request pairs id tag fatal seconds anew asking) none) tells
 
   -- the tag is of no side of the call
   pub stranger_carries : (config : Config) (turns : Turns M (Part I O) Made T) (hand : Hand M (Part I O) Made T g) (entry_id : BoardEntryId) (request : Request) (pairs : Option Entries)
-      (id : List ℕ) (tag : Option (List ℕ)) (fatal : Bool) (of : Call) (done : CommandOutcome) (board : Board) (log : Option (List PortCall))
+      (id : List ℕ) (tag : Option (List ℕ)) (fatal : Bool) (seconds : ℕ) (of : Call) (done : CommandOutcome) (board : Board) (log : Option (List PortCall))
       → InTurn config turns hand entry_id board log → IsAnew (board_history (made_by hand) entry_id.number) entry_id.moment request
-      → IsAsking request pairs (Delete id tag fatal) → find_call (board_history (made_by hand) entry_id.number) id ≡ Some of
+      → IsAsking request pairs (Delete id tag fatal seconds) → find_call (board_history (made_by hand) entry_id.number) id ≡ Some of
       → names_side (rounds (board_history (made_by hand) entry_id.number) of.number) tag ≡ false
       → Tells [] (reply_datagram config request.cookie.now request.body.now (missing_reply fatal E10)) done
       → ExecutesCommand config hand hand entry_id (record_by request pairs done) done.reply board log
-  stranger_carries config turns hand entry_id request pairs id tag fatal of done board log turn anew asking found names tells =
+  stranger_carries config turns hand entry_id request pairs id tag fatal seconds of done board log turn anew asking found names tells =
       let h = board_history (made_by hand) entry_id.number in
       missed config turns hand entry_id request pairs E10 fatal done board log turn anew (λ short. asking.reads) refl
-      (stranger_due config h entry_id.moment (asking_with request pairs) id tag fatal of (asks_delete config h entry_id.moment request pairs id tag fatal anew asking) found names) tells
+      (stranger_due config h entry_id.moment (asking_with request pairs) id tag fatal seconds of (asks_delete config h entry_id.moment request pairs id tag fatal seconds anew asking) found names) tells

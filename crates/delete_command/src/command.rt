@@ -6,6 +6,7 @@ ghost use Rattle.ng_bencode.specs.Tree.{Entries};
 ghost use Rattle.ng_command.specs.Meanings.{Delete, strings_in_list};
 ghost use Rattle.offer_answer.specs.Sides.{is_tag_of};
 ghost use Rattle.call_board.specs.Answers.{names_side};
+ghost use Rattle.call_board.specs.Calls.{due_after};
 ghost use Rattle.call_board.specs.Boards.{BoardMatches, IsLive};
 ghost use Rattle.call_board.specs.Views.{View, CallView, call_numbered};
 ghost use Rattle.media_ports.specs.Openings.{NoneOpened};
@@ -51,9 +52,16 @@ fn names_side(board: &Board, call: u64, tag: &Option<Text>) -> bool
     is_tag_of(board, call, Side::A, tag) || is_tag_of(board, call, Side::B, tag)
 }
 
-/// Ends the live call of a delete, in the board's turn of its datagram, or tells that there is none to end: no live call has the
-/// call-id (`E9`), or the tag is of no side of it (`E10`), which is an error where the delete is fatal and else a warning. Then, and
-/// where memory runs out, nothing is done.
+/// When a call ends that is deleted at a moment, in milliseconds, with a delay in seconds: at most 2^64 - 1.
+fn due_after(moment: u64, delay_s: u32) -> u64
+    ensures { result ≡ due_after moment delay_s }
+{
+    moment.saturating_add(1_000 * u64::from(delay_s))
+}
+
+/// Ends the live call of a delete, in the board's turn of its datagram, at once or, with a delay, at the tick that finds it due; or tells
+/// that there is none to end: no live call has the call-id (`E9`), or the tag is of no side of it (`E10`), which is an error where the
+/// delete is fatal and else a warning. Then, and where memory runs out, nothing is done.
 pub fn delete<P: PortMaker, R: Wait>(
     rt: &R,
     turn: &mut BoardTurn<P>,
@@ -61,9 +69,9 @@ pub fn delete<P: PortMaker, R: Wait>(
 ) -> CommandOutcome
     requires begins { Begins P.log turn.old }
     requires anew { IsAnew (past_of turn.old.main) turn.old.main.entry_id.moment asked.now.request.now }
-    requires asked { (pairs : Option Entries) × IsAsking asked.now.request.now pairs (Delete asked.now.input.now.call_id.list (strings_in_list asked.now.input.now.from_tag) asked.now.input.now.fatal) }
+    requires asked { (pairs : Option Entries) × IsAsking asked.now.request.now pairs (Delete asked.now.input.now.call_id.list (strings_in_list asked.now.input.now.from_tag) asked.now.input.now.fatal asked.now.input.now.delay_s) }
     ensures works { Works P.log P.faults turn.old turn.new }
-    ensures carries { (pairs : Option Entries) → IsAsking asked.now.request.now pairs (Delete asked.now.input.now.call_id.list (strings_in_list asked.now.input.now.from_tag) asked.now.input.now.fatal) →
+    ensures carries { (pairs : Option Entries) → IsAsking asked.now.request.now pairs (Delete asked.now.input.now.call_id.list (strings_in_list asked.now.input.now.from_tag) asked.now.input.now.fatal asked.now.input.now.delay_s) →
         CarriesOut P.log turn.old turn.new (record_by asked.now.request.now pairs result) result.reply }
     ensures closes { Gained (P.log turn.old.ports.now) (P.log turn.new.ports.now) NoneOpened }
     ensures unasked { IsUnasked result.device_answers }
@@ -82,7 +90,12 @@ pub fn delete<P: PortMaker, R: Wait>(
     let Ok(reply) = done_datagram(alloc, request) else {
         return short();
     };
-    delete_call(rt, turn, call);
+    if input.delay_s == 0 {
+        delete_call(rt, turn, call);
+    } else {
+        let due = due_after(turn.main.entry_id.moment, input.delay_s);
+        turn.board.mark_ending(call, due);
+    }
     CommandOutcome {
         chosen_lines: ChosenLines::none(),
         device_answers: DeviceAnswers::Nothing,

@@ -59,6 +59,7 @@ after_kept h e c (act.Answered a) v t = refl
 after_kept h e c (act.Deleted of) v t = refl
 after_kept h e c (act.Queried of) v t = refl
 after_kept h e c act.Told v t = refl
+after_kept h e c (act.Delayed of s) v t = refl
 
 -- the turn of a repeat, and of one that ran out of memory, leaves all as it was
 after_unkept : (h : List BoardEntry) (e : BoardEntry) (c : Control) (a : Act) (v : View) → is_plain a ≡ true → is_kept a ≡ false → after_act h e c a v ≡ v
@@ -71,6 +72,7 @@ after_unkept h e c (act.Answered a) v t k = absurd (let f : true ≡ false = k i
 after_unkept h e c (act.Deleted of) v t k = absurd (let f : true ≡ false = k in cc)
 after_unkept h e c (act.Queried of) v t k = absurd (let f : true ≡ false = k in cc)
 after_unkept h e c act.Told v t k = absurd (let f : true ≡ false = k in cc)
+after_unkept h e c (act.Delayed of s) v t k = absurd (let f : true ≡ false = k in cc)
 
 reply_case : (config : Config) (h : List BoardEntry) (e : BoardEntry) (c : Control) (request : Request) (reply : Option (Room ℕ)) (v : View) (board : Board)
     → c.source ≡ request.source → c.cookie ≡ request.cookie.now → IsReplyOf c reply

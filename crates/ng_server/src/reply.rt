@@ -15,8 +15,8 @@ use control_messages::Request;
 use ng_bencode::Text;
 use relay_outside::{ControlLink, Failed};
 
-/// Sends the reply to a request to its source, and keeps it, in the room that was made for it; where there is none, it sends that
-/// Out of memory.
+/// Sends the reply to a request to its source, and keeps it, in the room that was made for it; where there is none, it sends
+/// the error that says out of memory.
 pub(crate) fn reply_to<N: ControlLink>(
     board: &mut Board,
     link: &mut N,

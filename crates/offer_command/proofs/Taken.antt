@@ -17,11 +17,12 @@ use Rattle.call_board.specs.Pairs.{free, drawn_keys_from, leased_new_legs}
 use Rattle.call_board.specs.Fits.{IsFitting}
 use Rattle.call_board.specs.Views.{View, CallView, call_view, view_of, call_numbered}
 use Rattle.call_board.specs.Boards.{lease_at, front_leases}
-use Rattle.call_board.specs.Plans.{BeginsFor, refusal}
+use Rattle.call_board.specs.Answers.{ending_error}
+use Rattle.call_board.specs.Plans.{BeginsFor, fault_or_shortage}
 use Rattle.call_board.specs.NextBoards.{IsNext, IsPlanOf, TakesRoundIn, taken_in}
 use Rattle.call_board.specs.declared.board_plan.BoardPlan.{BoardPlan}
 use Rattle.call_board.specs.declared.board_plan.NewCall.{NewCall}
-use Rattle.call_board.proofs.Dues.{goes_on_with, begins_new, next_is, taken_is}
+use Rattle.call_board.proofs.Dues.{goes_on_with, begins_new, next_is, taken_is, no_fault}
 use Rattle.call_board.proofs.Found.{found_by_number, live_is_begun}
 use Rattle.relay_core.proofs.CallRounds.{offer_round}
 use Rattle.offer_command.specs.Offers.{IsDue, next_key_number, target_of, demand_of, pairs_for, offer_of, ports_of_legs, with_offer}
@@ -94,8 +95,9 @@ module _ (config : Config) (h : List BoardEntry) (id : List ℕ) (ask : OfferAsk
       let t = target_of config h id in
       subst (λ (c : Call). IsNext config v c) (sym b.of_is)
       (next_is config h v id ask
-      (ap (λ (rs : List Round). refusal config (view_of config h) true rs ask) (sym b.no_rounds)
-      ∙ ap (λ (x : Bool). refusal config (view_of config h) x t.rounds ask) (sym new) ∙ d.plans.0)
+      (ap (λ (rs : List Round). fault_or_shortage config (view_of config h) true rs ask) (sym b.no_rounds)
+      ∙ ap (λ (x : Bool). fault_or_shortage config (view_of config h) x t.rounds ask) (sym new)
+      ∙ no_fault (ending_error t.ending) (fault_or_shortage config (view_of config h) t.begins t.rounds ask) d.plans.0)
       begun_is calls_are b.none)
 
   takes_case : (v : View) (filled : BoardPlan) → v.calls ≡ (view_of config h).calls → v.begun ≡ (view_of config h).begun → filled.call ≡ (target_of config h id).of.number →

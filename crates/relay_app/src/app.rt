@@ -22,7 +22,8 @@ use std::thread::Threads;
 /// binds the control link and replies to the datagrams that it takes until the link gives no more, a take
 /// fails, or `--turns` takes gave a datagram or nothing. Calls begin, are answered and end as the datagrams ask: their ports are
 /// opened and closed by the port maker, their keys drawn from the key source. Once a second of the timer, calls end whose last activity is
-/// `--timeout` ago, or whose first offer is `--offer-timeout` ago and was not answered. Meanwhile `--num-threads` threads relay media, each the
+/// `--timeout` ago, whose first offer is `--offer-timeout` ago and was not answered, or which were deleted with a delay that has passed.
+/// Meanwhile `--num-threads` threads relay media, each the
 /// packets of its own pairs of ports, handed moments of the clock, each inside the gate; with 0, at most one packet of each port is relayed after each take.
 /// At the end the threads end, then all calls, and a line of totals is printed. The timer, in milliseconds, is asked once for each take
 /// of the link. Where no thread can be started, each thread's work is done after the last take.

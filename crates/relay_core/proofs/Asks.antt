@@ -1,7 +1,7 @@
 -- What an accepted offer or answer asked: its command, and that it has no fault. So the rounds of a call are as they come about.
 use Rattle.std.proofs.Common.{◌≡◌, ◌∙◌, sym, ap, refl, ℕ, ◌≤◌, List, [], Bool, true, false, cond, Option, Some, None, not, length}
 use Rattle.std.specs.Prelude.{Result, Ok, Err}
-use Rattle.std.specs.Prelude.{◌&&◌, nat_le}
+use Rattle.std.specs.Prelude.{◌&&◌, ◌==◌, nat_le}
 use Rattle.std.specs.List.{list_any}
 use Rattle.relay_outside.specs.declared.settings.Config.{Config}
 use Rattle.ng_bencode.specs.Tree.{Entries}
@@ -20,12 +20,12 @@ use Rattle.offer_answer.specs.Plan as plan
 use Rattle.offer_answer.proofs.Demanded.{few_sections}
 use Rattle.call_board.specs.Acts as act
 use Rattle.call_board.specs.Acts.{Call, Act, Given, Control, BoardEvent, Turn, Tick, Stop, BoardEntry}
-use Rattle.call_board.specs.Calls.{live, find_call, new_call, rounds, rounds_of_call}
+use Rattle.call_board.specs.Calls.{live, find_call, new_call, rounds, rounds_of_call, is_ending}
 use Rattle.call_board.specs.Pairs.{free_in, is_short}
 use Rattle.call_board.specs.KeptReplies.{kept_reply}
 use Rattle.call_board.specs.Requests.{asked, asked_by, command_in, sdp_error, description_error, unless, code_if, v6_error}
 use Rattle.call_board.specs.Replies.{Fault, Done, reply_datagram}
-use Rattle.call_board.specs.Answers.{failing, offer_ask, answer_ask, leased_pairs, offer_leased, offer_unless, offer_to, answer_unless, answer_to, delete_of, nothing_to_end, names_side, query_of, answering_command, answering_asked, answering, answering_unless, spelled, Answered}
+use Rattle.call_board.specs.Answers.{failing, ending_error, deleting, offer_ask, answer_ask, leased_pairs, offer_leased, offer_unless, offer_to, answer_unless, answer_to, delete_of, nothing_to_end, names_side, query_of, answering_command, answering_asked, answering, answering_unless, spelled, Answered}
 use Rattle.call_board.specs.Fits.{FitsControl}
 use Rattle.call_board.proofs.Tells.{leased_case}
 
@@ -69,6 +69,11 @@ pub data IsItsCall (h : List BoardEntry) (id : List ℕ) (of : Call) : Type 0 wh
   is_new : find_call h id ≡ None → of ≡ new_call h id → IsItsCall h id of
   is_found : find_call h id ≡ Some of → IsItsCall h id of
 
+-- where neither of two is there, the second isn't
+second_none : {X : Type 0} (a b : Option X) → or_else a b ≡ None → b ≡ None
+second_none None b q = q
+second_none (Some x) b q = absurd (let e = q in cc)
+
 -- an offer to that call has no fault after the rounds of the call that its call-id finds
 record IsTo (h : List BoardEntry) (id : List ℕ) (ask : OfferAsk) (p : Call × OfferAsk) : Type 0 where
   ask_is : p.1 ≡ ask
@@ -81,8 +86,13 @@ to_is config h given id ask p None found q =
     let u = unless_is config h given ask (new_call h id) true [] p (plan.offer_fault [] ask) q in
     record { call_is = is_new found (sym (ap (λ (x : Call × OfferAsk). x.0) u.1)); ask_is = sym (ap (λ (x : Call × OfferAsk). x.1) u.1); no_fault = ap (λ (o : Option Call). plan.offer_fault (rounds_of_call h o) ask) found ∙ u.0 }
 to_is config h given id ask p (Some of) found q =
-    let u = unless_is config h given ask of false (rounds h of.number) p (plan.offer_fault (rounds h of.number) ask) q in
-    record { call_is = is_found (found ∙ ap (λ (x : Call × OfferAsk). Some x.0) u.1); ask_is = sym (ap (λ (x : Call × OfferAsk). x.1) u.1); no_fault = ap (λ (o : Option Call). plan.offer_fault (rounds_of_call h o) ask) found ∙ u.0 }
+    let fault = plan.offer_fault (rounds h of.number) ask in
+    let u = unless_is config h given ask of false (rounds h of.number) p (or_else (ending_error (is_ending h of.number)) fault) q in
+    record {
+      call_is = is_found (found ∙ ap (λ (x : Call × OfferAsk). Some x.0) u.1);
+      ask_is = sym (ap (λ (x : Call × OfferAsk). x.1) u.1);
+      no_fault = ap (λ (o : Option Call). plan.offer_fault (rounds_of_call h o) ask) found ∙ second_none (ending_error (is_ending h of.number)) fault u.0;
+    }
 
 -- Answers.
 
@@ -93,7 +103,8 @@ answer_no_offer config ask of before None = refl
 
 found_no_offer : (config : Config) (h : List BoardEntry) (ask : AnswerAsk) → (found : Option Call) → offer_in (answer_to config h ask found).act ≡ None
 found_no_offer config h ask None = refl
-found_no_offer config h ask (Some of) = answer_no_offer config ask of (rounds h of.number) (plan.answer_fault (rounds h of.number) ask)
+found_no_offer config h ask (Some of) =
+    answer_no_offer config ask of (rounds h of.number) (or_else (ending_error (is_ending h of.number)) (plan.answer_fault (rounds h of.number) ask))
 
 answered_is : (config : Config) (ask : AnswerAsk) (of : Call) (before : List Round) (p : Call × AnswerAsk) → (fault : Option ErrorCode)
     → answer_in (answer_unless config ask of before fault).act ≡ Some p → (fault ≡ None) × ((of, ask) ≡ p)
@@ -110,12 +121,13 @@ by_is : (config : Config) (h : List BoardEntry) (id : List ℕ) (ask : AnswerAsk
     → answer_in (answer_to config h ask found).act ≡ Some p → IsBy h id ask p
 by_is config h id ask p None found q = absurd (let e = q in cc)
 by_is config h id ask p (Some of) found q =
-    let u = answered_is config ask of (rounds h of.number) p (plan.answer_fault (rounds h of.number) ask) q in
+    let fault = plan.answer_fault (rounds h of.number) ask in
+    let u = answered_is config ask of (rounds h of.number) p (or_else (ending_error (is_ending h of.number)) fault) q in
     let same : of ≡ p.0 = ap (λ (x : Call × AnswerAsk). x.0) u.1 in
     record {
       ask_is = sym (ap (λ (x : Call × AnswerAsk). x.1) u.1);
       found = found ∙ ap Some same;
-      no_fault = ap (λ (c : Call). plan.answer_fault (rounds h c.number) ask) (sym same) ∙ u.0;
+      no_fault = ap (λ (c : Call). plan.answer_fault (rounds h c.number) ask) (sym same) ∙ second_none (ending_error (is_ending h of.number)) fault u.0;
     }
 
 fault_no_answer : (config : Config) (h : List BoardEntry) (given : Given) (ask : OfferAsk) (of : Call) (new : Bool) (before : List Round) (pairs : List ℕ)
@@ -140,7 +152,9 @@ unless_no_answer config h given ask of new before None =
 to_no_answer : (config : Config) (h : List BoardEntry) (given : Given) (id : List ℕ) (ask : OfferAsk) → (found : Option Call)
     → answer_in (offer_to config h given id ask found).act ≡ None
 to_no_answer config h given id ask None = unless_no_answer config h given ask (new_call h id) true [] (plan.offer_fault [] ask)
-to_no_answer config h given id ask (Some of) = unless_no_answer config h given ask of false (rounds h of.number) (plan.offer_fault (rounds h of.number) ask)
+to_no_answer config h given id ask (Some of) =
+    unless_no_answer config h given ask of false (rounds h of.number)
+    (or_else (ending_error (is_ending h of.number)) (plan.offer_fault (rounds h of.number) ask))
 
 -- Deletes and queries are neither.
 
@@ -148,16 +162,21 @@ missing_neither : (fatal : Bool) (code : ErrorCode) → (offer_in (nothing_to_en
 missing_neither true code = (refl, refl)
 missing_neither false code = (refl, refl)
 
-named_neither : (names fatal : Bool) (of : Call)
-    → (offer_in (cond names (record { reply = Done; act = act.Deleted of }) (nothing_to_end fatal E10)).act ≡ None)
-    × (answer_in (cond names (record { reply = Done; act = act.Deleted of }) (nothing_to_end fatal E10)).act ≡ None)
-named_neither true fatal of = (refl, refl)
-named_neither false fatal of = missing_neither fatal E10
+deleting_neither : (of : Call) (seconds : ℕ) → (at_once : Bool)
+    → (offer_in (cond at_once (act.Deleted of) (act.Delayed of seconds)) ≡ None) × (answer_in (cond at_once (act.Deleted of) (act.Delayed of seconds)) ≡ None)
+deleting_neither of seconds true = (refl, refl)
+deleting_neither of seconds false = (refl, refl)
 
-delete_neither : (h : List BoardEntry) (tag : Option (List ℕ)) (fatal : Bool) → (found : Option Call)
-    → (offer_in (delete_of h tag fatal found).act ≡ None) × (answer_in (delete_of h tag fatal found).act ≡ None)
-delete_neither h tag fatal None = missing_neither fatal E9
-delete_neither h tag fatal (Some of) = named_neither (names_side (rounds h of.number) tag) fatal of
+named_neither : (names fatal : Bool) (of : Call) (seconds : ℕ)
+    → (offer_in (cond names (record { reply = Done; act = deleting of seconds }) (nothing_to_end fatal E10)).act ≡ None)
+    × (answer_in (cond names (record { reply = Done; act = deleting of seconds }) (nothing_to_end fatal E10)).act ≡ None)
+named_neither true fatal of seconds = deleting_neither of seconds (seconds == 0)
+named_neither false fatal of seconds = missing_neither fatal E10
+
+delete_neither : (h : List BoardEntry) (tag : Option (List ℕ)) (fatal : Bool) (seconds : ℕ) → (found : Option Call)
+    → (offer_in (delete_of h tag fatal seconds found).act ≡ None) × (answer_in (delete_of h tag fatal seconds found).act ≡ None)
+delete_neither h tag fatal seconds None = missing_neither fatal E9
+delete_neither h tag fatal seconds (Some of) = named_neither (names_side (rounds h of.number) tag) fatal of seconds
 
 query_neither : (h : List BoardEntry) (given : Given) → (found : Option Call)
     → (offer_in (query_of h given found).act ≡ None) × (answer_in (query_of h given found).act ≡ None)
@@ -198,7 +217,7 @@ command_offers config h c p (said.Offer id from_tag sdp options) asks q =
     }
 command_offers config h c p (said.Answer id from_tag to_tag sdp options) asks q =
     absurd (none_some (found_no_offer config h (answer_ask from_tag to_tag sdp options c.chosen) (find_call h id)) q)
-command_offers config h c p (said.Delete id from_tag fatal) asks q = absurd (none_some (delete_neither h from_tag fatal (find_call h id)).0 q)
+command_offers config h c p (said.Delete id from_tag fatal seconds) asks q = absurd (none_some (delete_neither h from_tag fatal seconds (find_call h id)).0 q)
 command_offers config h c p (said.Query id) asks q = absurd (none_some (query_neither h c.given (find_call h id)).0 q)
 command_offers config h c p (said.Listing limit) asks q = absurd (none_some refl q)
 
@@ -233,7 +252,7 @@ command_answers config h c p (said.Answer id from_tag to_tag sdp options) asks q
       found = t.found;
       no_fault = ap (λ (a : AnswerAsk). plan.answer_fault (rounds h p.0.number) a) t.ask_is ∙ t.no_fault;
     }
-command_answers config h c p (said.Delete id from_tag fatal) asks q = absurd (none_some (delete_neither h from_tag fatal (find_call h id)).1 q)
+command_answers config h c p (said.Delete id from_tag fatal seconds) asks q = absurd (none_some (delete_neither h from_tag fatal seconds (find_call h id)).1 q)
 command_answers config h c p (said.Query id) asks q = absurd (none_some (query_neither h c.given (find_call h id)).1 q)
 command_answers config h c p (said.Listing limit) asks q = absurd (none_some refl q)
 

@@ -61,6 +61,7 @@ more_by h x number (act.Undone code leases draws) q = none (ap (λ (d : Act). ro
 more_by h x number (act.Deleted of) q = none (ap (λ (d : Act). round_of number d ++ rounds h number) q)
 more_by h x number (act.Queried of) q = none (ap (λ (d : Act). round_of number d ++ rounds h number) q)
 more_by h x number act.Told q = none (ap (λ (d : Act). round_of number d ++ rounds h number) q)
+more_by h x number (act.Delayed of s) q = none (ap (λ (d : Act). round_of number d ++ rounds h number) q)
 
 pub more_rounds : (h : List BoardEntry) (x : BoardEntry) (number : ℕ) → MoreRounds h x number
 more_rounds h x number = more_by h x number (act.act x) refl

@@ -10,7 +10,7 @@ use Rattle.port_pool.specs.declared.reports.LegReport.{LegReport}
 use Rattle.call_cell.specs.Cells.{CellEvent, Prepare, Commit, Expire, Read, End}
 use Rattle.call_board.specs.Acts as act
 use Rattle.call_board.specs.Acts.{Call, Act, Control, BoardEvent, Turn, Tick, Stop, BoardEntry}
-use Rattle.call_board.specs.Calls.{live, find_call}
+use Rattle.call_board.specs.Calls.{live, find_call, is_due_at}
 use Rattle.call_board.specs.Pairs.{closed_of}
 use Rattle.call_board.specs.Requests.{asked}
 use Rattle.call_board.specs.Fits.{FitsBoard, IsFitting}
@@ -20,7 +20,7 @@ use Rattle.call_board.proofs.Calls.{found_live, offered_live}
 use Rattle.call_board.proofs.Cells.{live_cell}
 use Rattle.relay_core.specs.Entries.{is_nested, is_nested_cell}
 use Rattle.relay_core.specs.Legal.{StandsAt}
-use Rattle.relay_core.specs.Scripts.{Owed, open_owed, closing, in_cell, closings, ending, expiring, reading, reading_out_of_memory, script_of_act, script}
+use Rattle.relay_core.specs.Scripts.{Owed, open_owed, closing, in_cell, closings, ending, asking, expiring, reading, reading_out_of_memory, script_of_act, script}
 
 -- a nested event, at the place of a cell or of a box
 abbrev pub IsElsewhere : Config → Owed → Type 0
@@ -51,7 +51,7 @@ at_out_of_memory config h c (Ok (Query id)) w good i = at_reading config h (find
 at_out_of_memory config h c (Ok Ping) w good i = elim i [ ]
 at_out_of_memory config h c (Ok (Offer id from sdp options)) w good i = elim i [ ]
 at_out_of_memory config h c (Ok (Answer id from to sdp options)) w good i = elim i [ ]
-at_out_of_memory config h c (Ok (Delete id from fatal)) w good i = elim i [ ]
+at_out_of_memory config h c (Ok (Delete id from fatal seconds)) w good i = elim i [ ]
 at_out_of_memory config h c (Ok (Listing limit)) w good i = elim i [ ]
 at_out_of_memory config h c (Err code) w good i = elim i [ ]
 
@@ -86,24 +86,30 @@ at_act config h moment c w good fits (act.Queried of) q i =
     let shown : IsQuery h (turn moment c) of = tells_of config h (turn moment c) (act.Queried of) fits q in
     at_reading config h (Some of) c.given.report w good (λ d p. subst (λ x. In x (live h)) (let k = p in cc) shown.is_live) i
 at_act config h moment c w good fits act.Told q i = elim i [ ]
+at_act config h moment c w good fits (act.Delayed of s) q i = elim i [ ]
 
-at_due : (config : Config) (h : List BoardEntry) (e : BoardEntry) (c : Call) (w : Owed) → IsFitting config h → In c (live h) → (due : Bool)
-    → In w (cond due (ending config h e c) []) → IsElsewhere config w
-at_due config h e c w good i false j = elim j [ ]
-at_due config h e c w good i true j = at_ending config h e c w good i j
+at_timeout : (config : Config) (h : List BoardEntry) (e : BoardEntry) (c : Call) (w : Owed) → IsFitting config h → In c (live h) → (timed_out : Bool)
+    → In w (cond timed_out (ending config h e c) []) → IsElsewhere config w
+at_timeout config h e c w good i false j = elim j [ ]
+at_timeout config h e c w good i true j = at_ending config h e c w good i j
 
-at_expiring : (config : Config) (h : List BoardEntry) (e : BoardEntry) (calls : List Call) (c : Call) (w : Owed) → IsFitting config h → In c (live h)
-    → In w (expiring config h e calls c) → IsElsewhere config w
-at_expiring config h e calls c w good i (here p) =
-    subst (IsElsewhere config) (sym p) (at_cell config h c (Expire (has (map (λ d. d.number) calls) c.number)) good i refl)
-at_expiring config h e calls c w good i (there j) = at_due config h e c w good i (has (map (λ d. d.number) calls) c.number) j
+at_asking : (config : Config) (h : List BoardEntry) (e : BoardEntry) (c : Call) (w : Owed) → IsFitting config h → In c (live h) → (timed_out : Bool)
+    → In w (asking config h e c timed_out) → IsElsewhere config w
+at_asking config h e c w good i timed_out (here p) = subst (IsElsewhere config) (sym p) (at_cell config h c (Expire timed_out) good i refl)
+at_asking config h e c w good i timed_out (there j) = at_timeout config h e c w good i timed_out j
+
+at_expiring : (config : Config) (h : List BoardEntry) (e : BoardEntry) (c : Call) (w : Owed) → IsFitting config h → In c (live h) → (timed_out due : Bool)
+    → In w (cond due (ending config h e c) (asking config h e c timed_out)) → IsElsewhere config w
+at_expiring config h e c w good i timed_out true j = at_ending config h e c w good i j
+at_expiring config h e c w good i timed_out false j = at_asking config h e c w good i timed_out j
 
 at_event : (config : Config) (h : List BoardEntry) (moment : ℕ) (v : BoardEvent) (w : Owed) → IsFitting config h
     → FitsBoard config h (record { moment = moment; event = v }) → In w (script config h (record { moment = moment; event = v })) → IsElsewhere config w
 at_event config h moment (Turn c) w good fits i = at_act config h moment c w good fits c.act refl i
 at_event config h moment (Tick calls) w good fits i =
     let m = spread (expiring config h (record { moment = moment; event = Tick calls }) calls) (live h) i in
-    at_expiring config h (record { moment = moment; event = Tick calls }) calls m.from w good m.is_in m.has_it
+    at_expiring config h (record { moment = moment; event = Tick calls }) m.from w good m.is_in
+    (has (map (λ (d : Call). d.number) calls) m.from.number) (is_due_at h m.from.number moment) m.has_it
 at_event config h moment (Stop calls) w good fits i =
     let m = spread (ending config h (record { moment = moment; event = Stop calls })) calls i in
     at_ending config h (record { moment = moment; event = Stop calls }) m.from w good (subst (λ cs. In m.from cs) fits m.is_in) m.has_it

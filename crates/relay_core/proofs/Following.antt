@@ -93,6 +93,7 @@ offers_by x place (act.Undone code leases draws) q = no_offer x place (ap is_off
 offers_by x place (act.Deleted of) q = no_offer x place (ap is_offer q)
 offers_by x place (act.Queried of) q = no_offer x place (ap is_offer q)
 offers_by x place act.Told q = no_offer x place (ap is_offer q)
+offers_by x place (act.Delayed of s) q = no_offer x place (ap is_offer q)
 
 answers_by : (x : BoardEntry) (place : ℕ) (a : Act) → act.act x ≡ a → AnswersAt x place ⊎ ((r : act.Answer) → act.act x ≡ act.Answered r → r.of.cell ≡ place → ⊥)
 answers_by x place (act.Answered p) q = answer_case x place p q (p.of.cell == place) refl
@@ -104,6 +105,7 @@ answers_by x place (act.Undone code leases draws) q = no_answer x place (ap is_a
 answers_by x place (act.Deleted of) q = no_answer x place (ap is_answer q)
 answers_by x place (act.Queried of) q = no_answer x place (ap is_answer q)
 answers_by x place act.Told q = no_answer x place (ap is_answer q)
+answers_by x place (act.Delayed of s) q = no_answer x place (ap is_answer q)
 
 none_any : (x : BoardEntry) (place : ℕ) → list_any (λ (d : Call). d.cell == place) (ended_by x) ≡ false → (d : Call) → In d (ended_by x) → d.cell ≡ place → ⊥
 none_any x place q d i at =
@@ -139,6 +141,7 @@ begins_offered of (act.Undone code leases draws) i = elim i [ ]
 begins_offered of (act.Deleted d) i = elim i [ ]
 begins_offered of (act.Queried d) i = elim i [ ]
 begins_offered of act.Told i = elim i [ ]
+begins_offered of (act.Delayed d s) i = elim i [ ]
 
 module _ (config : Config) (h : List BoardEntry) (x : BoardEntry) (good : IsFitting config h) (fits : FitsBoard config h x) (place : ℕ) where
   -- a call that an entry ends is not live after it

@@ -59,6 +59,7 @@ round_by call (act.Undone code leases draws) = no_round refl
 round_by call (act.Deleted of) = no_round refl
 round_by call (act.Queried of) = no_round refl
 round_by call act.Told = no_round refl
+round_by call (act.Delayed of s) = no_round refl
 
 -- In what follows an entry x, after the history s, drew the key by an offer o.
 module _ (config : Config) (call section : ℕ) (key : NewKey) (s : List BoardEntry) (x : BoardEntry) (o : act.Offer) (drew : act.act x ≡ act.Offered o)

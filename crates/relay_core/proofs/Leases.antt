@@ -43,6 +43,7 @@ leases_offered (act.Undone code leases draws) i = elim i [ ]
 leases_offered (act.Deleted d) i = elim i [ ]
 leases_offered (act.Queried d) i = elim i [ ]
 leases_offered act.Told i = elim i [ ]
+leases_offered (act.Delayed of s) i = elim i [ ]
 
 unclosed_more : (l : List Entry) (from n : ℕ) (leg : Holder) → IsUnclosed l from n leg
     → ((f : Entry) (y : BoardEntry) → In f l → f.place ≡ 0 → f.number ≡ n → board_entry f ≡ Some y → closes_leg y leg ≡ false)

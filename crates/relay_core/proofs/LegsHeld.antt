@@ -164,6 +164,7 @@ by_act config h x number good fits none rest (act.Undone code leases draws) q =
 by_act config h x number good fits none rest (act.Deleted of) q = by_other h x number (act.Deleted of) q none refl (λ leg. refl) refl rest
 by_act config h x number good fits none rest (act.Queried of) q = by_other h x number (act.Queried of) q none refl (λ leg. refl) refl rest
 by_act config h x number good fits none rest act.Told q = by_other h x number act.Told q none refl (λ leg. refl) refl rest
+by_act config h x number good fits none rest (act.Delayed of s) q = by_other h x number (act.Delayed of s) q none refl (λ leg. refl) refl rest
 
 none_here : (b c : Bool) → (b || c) ≡ false → (b ≡ false) × (c ≡ false)
 none_here true c q = absurd (let k = q in cc)

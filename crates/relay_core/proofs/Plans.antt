@@ -94,6 +94,7 @@ begins_offered of (act.Undone code leases draws) i = elim i [ ]
 begins_offered of (act.Deleted d) i = elim i [ ]
 begins_offered of (act.Queried d) i = elim i [ ]
 begins_offered of act.Told i = elim i [ ]
+begins_offered of (act.Delayed d s) i = elim i [ ]
 
 beginning_more : (l : List Entry) (n : ℕ) (of : Call) → Beginning l n of → Beginning l (suc n) of
 beginning_more l n of b = record {

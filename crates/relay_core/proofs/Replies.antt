@@ -7,17 +7,17 @@ use Rattle.ng_command.specs.declared.command.Options.{Options}
 use Rattle.ng_command.specs.Meanings as said
 use Rattle.ng_reply.specs.declared.code.ErrorCode.{ErrorCode}
 use Rattle.ng_reply.specs.declared.code.ErrorCode.TheVariants.{E13, E14, E17}
-use Rattle.histories.specs.Words.{In}
+use Rattle.histories.specs.Words.{In, or_else}
 use Rattle.offer_answer.specs.Plan as plan
 use Rattle.offer_answer.specs.Rounds.{Round, OfferAsk}
 use Rattle.call_board.specs.Acts as act
 use Rattle.call_board.specs.Acts.{Act, Control, Turn, BoardEntry}
-use Rattle.call_board.specs.Calls.{live, rounds, find_call, new_call}
+use Rattle.call_board.specs.Calls.{live, rounds, due_moment, find_call, new_call, is_ending}
 use Rattle.call_board.specs.Pairs.{held, free, free_in, is_short, drawn}
 use Rattle.call_board.specs.KeptReplies.{kept_reply}
 use Rattle.call_board.specs.Requests.{ReadsBody, asked}
 use Rattle.call_board.specs.Replies.{Fault, reply_datagram}
-use Rattle.call_board.specs.Answers.{Answered, failing, leased_pairs, offer_ask, offer_leased, offer_unless, offer_to, answering_asked, answering_unless, spelled}
+use Rattle.call_board.specs.Answers.{Answered, failing, ending_error, leased_pairs, offer_ask, offer_leased, offer_unless, offer_to, answering_asked, answering_unless, spelled}
 use Rattle.call_board.specs.Fits.{FitsControl, is_read, is_request_read, ReadsRequest, answered_in}
 use Rattle.relay_core.specs.Entries.{Board, Entry, is_nested, board_at, board_entry, board_history}
 use Rattle.relay_core.specs.Scripts.{owed_by, script, script_of_act}
@@ -81,6 +81,7 @@ repeated config l o e c reply i q k =
       owes_nothing = owes_nothing config l o e c i q r.0;
       same_live = ap live m ∙ n.same_live;
       same_rounds = λ call. ap (λ t. rounds t call) m ∙ n.same_rounds call;
+      same_due = λ call. ap (λ t. due_moment t call) m ∙ n.same_due call;
       same_held = ap held m ∙ n.same_held;
       same_free = ap (free config) m ∙ n.same_free;
       same_drawn = ap drawn m ∙ n.same_drawn;
@@ -123,7 +124,8 @@ found_tells : (config : Config) (cookie body : List ℕ) (h : List BoardEntry) (
     → TellsIt config cookie body (spelled config cookie body (offer_to config h given id ask found))
 found_tells config cookie body h given id ask None = unless_tells config cookie body h given ask (new_call h id) true [] (plan.offer_fault [] ask)
 found_tells config cookie body h given id ask (Some of) =
-    unless_tells config cookie body h given ask of false (rounds h of.number) (plan.offer_fault (rounds h of.number) ask)
+    unless_tells config cookie body h given ask of false (rounds h of.number)
+    (or_else (ending_error (is_ending h of.number)) (plan.offer_fault (rounds h of.number) ask))
 
 out_of_memory_tells : (config : Config) (cookie body : List ℕ) (a : Answered) → TellsIt config cookie body a → (out_of_memory : Bool)
     → TellsIt config cookie body (cond out_of_memory (record { bytes = reply_datagram config cookie body (Fault E17); act = act.OutOfMemory }) a)
@@ -157,4 +159,4 @@ offers_answered config l o e c id ask i q v =
     let fits = fits_turn config l o e c i q in
     offer_reply config h c id ask
     (offer_tells config h e.moment c id ask.from_tag ask.sdp ask.options fits v.nothing_kept v.is_asked)
-    (offer_ends config h e.moment c id ask (good_history config l o e.number) fits v.nothing_kept v.is_asked v.is_heard v.no_fault)
+    (offer_ends config h e.moment c id ask (good_history config l o e.number) fits v.nothing_kept v.is_asked v.is_heard v.not_ending v.no_fault)

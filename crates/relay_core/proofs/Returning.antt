@@ -10,19 +10,19 @@ use Rattle.histories.specs.Words.{In, has}
 use Rattle.port_pool.specs.declared.holder.Holder.{Holder}
 use Rattle.port_pool.specs.declared.reports.LegReport.{LegReport}
 use Rattle.port_pool.specs.Boxes.{Open, Take, Close}
-use Rattle.call_cell.specs.Cells.{Prepare, Expire}
+use Rattle.call_cell.specs.Cells.{Prepare}
 use Rattle.call_board.specs.Acts as act
 use Rattle.call_board.specs.Acts.{Call, Act, Control, BoardEvent, Turn, Tick, Stop, BoardEntry}
 use Rattle.call_board.specs.Requests.{asked}
-use Rattle.call_board.specs.Calls.{live, ended_by_act, find_call}
-use Rattle.call_board.specs.Fits.{FitsBoard}
+use Rattle.call_board.specs.Calls.{live, ended_by_act, find_call, is_due_at}
+use Rattle.call_board.specs.Fits.{FitsBoard, AreNamedWhenDue}
 use Rattle.call_board.specs.Futures.{closed_pairs}
 use Rattle.call_board.specs.Pairs.{signalled_by, closed_of}
 use Rattle.relay_core.specs.FirstPlaces.{pair_at}
 use Rattle.relay_core.specs.Entries.{Event, Board, Cell, Box, Entry, is_nested, belongs_to, board_entry, board_history}
 use Rattle.relay_core.specs.Legal.{Orderly}
 use Rattle.relay_core.specs.ReturnedPairs.{shuts_in, pairs_shut}
-use Rattle.relay_core.specs.Scripts.{Owed, owed_by, open_owed, closing, in_cell, closings, ending, expiring, reading, reading_out_of_memory, script_of_act, script}
+use Rattle.relay_core.specs.Scripts.{Owed, owed_by, open_owed, closing, in_cell, closings, ending, asking, expiring, reading, reading_out_of_memory, script_of_act, script}
 use Rattle.relay_core.specs.EndLogs.{is_closing}
 use Rattle.relay_core.proofs.Turns.{filter_append}
 
@@ -60,7 +60,7 @@ shut_out_of_memory config h c (Ok (Query id)) = shut_reading config (find_call h
 shut_out_of_memory config h c (Ok Ping) = refl
 shut_out_of_memory config h c (Ok (Offer id from sdp options)) = refl
 shut_out_of_memory config h c (Ok (Answer id from to sdp options)) = refl
-shut_out_of_memory config h c (Ok (Delete id from fatal)) = refl
+shut_out_of_memory config h c (Ok (Delete id from fatal seconds)) = refl
 shut_out_of_memory config h c (Ok (Listing limit)) = refl
 shut_out_of_memory config h c (Err code) = refl
 
@@ -86,6 +86,7 @@ shut_act config h e c (act.Answered a) = one_call config h e a.of
 shut_act config h e c (act.Deleted of) = one_call config h e of
 shut_act config h e c (act.Queried of) = shut_reading config (Some of) c.given.report
 shut_act config h e c act.Told = refl
+shut_act config h e c (act.Delayed of s) = refl
 
 more_calls : (config : Config) (h : List BoardEntry) (e : BoardEntry) (of : Call) (rest : List Owed) (calls : List Call)
     → shut_by config rest ≡ pairs_of h e calls → shut_by config (ending config h e of ++ rest) ≡ pairs_of h e (of ∷ calls)
@@ -102,23 +103,29 @@ shut_stop config h e (of ∷ calls) = more_calls config h e of (flat_map (ending
 abbrev is_named : List Call → Call → Bool
 is_named calls c = has (map (λ (d : Call). d.number) calls) c.number
 
+-- those of a tick, of these calls, each of which it names where that is due
 shut_tick : (config : Config) (h : List BoardEntry) (e : BoardEntry) (calls those : List Call)
+    → AreNamedWhenDue h e.moment (map (λ (d : Call). d.number) calls) those
     → shut_by config (flat_map (expiring config h e calls) those) ≡ pairs_of h e (filter (is_named calls) those)
-shut_tick config h e calls [] = refl
-shut_tick config h e calls (of ∷ those) = by_case (is_named calls of) (shut_tick config h e calls those)
+shut_tick config h e calls [] when = refl
+shut_tick config h e calls (of ∷ those) when =
+    by_case (is_named calls of) (is_due_at h of.number e.moment) when.0 (shut_tick config h e calls those when.1)
   where
-    by_case : (due : Bool) → shut_by config (flat_map (expiring config h e calls) those) ≡ pairs_of h e (filter (is_named calls) those)
-        → shut_by config ((in_cell of (Expire due) ∷ cond due (ending config h e of) []) ++ flat_map (expiring config h e calls) those)
-        ≡ pairs_of h e (cond due (of ∷ filter (is_named calls) those) (filter (is_named calls) those))
-    by_case true rest = more_calls config h e of (flat_map (expiring config h e calls) those) (filter (is_named calls) those) rest
-    by_case false rest = rest
+    by_case : (named due : Bool) → (due ≡ true → named ≡ true)
+        → shut_by config (flat_map (expiring config h e calls) those) ≡ pairs_of h e (filter (is_named calls) those)
+        → shut_by config (cond due (ending config h e of) (asking config h e of named) ++ flat_map (expiring config h e calls) those)
+        ≡ pairs_of h e (cond named (of ∷ filter (is_named calls) those) (filter (is_named calls) those))
+    by_case true true names rest = more_calls config h e of (flat_map (expiring config h e calls) those) (filter (is_named calls) those) rest
+    by_case true false names rest = more_calls config h e of (flat_map (expiring config h e calls) those) (filter (is_named calls) those) rest
+    by_case false true names rest = absurd (let k : false ≡ true = names refl in cc)
+    by_case false false names rest = rest
 
 shut_event : (config : Config) (h : List BoardEntry) (moment : ℕ) (v : BoardEvent) → FitsBoard config h (record { moment = moment; event = v })
     → shut_by config (script config h (record { moment = moment; event = v })) ≡ closed_pairs h (record { moment = moment; event = v })
 shut_event config h moment (Turn c) fits = shut_act config h (record { moment = moment; event = Turn c }) c c.act
 shut_event config h moment (Tick calls) fits =
     let e : BoardEntry = record { moment = moment; event = Tick calls } in
-    shut_tick config h e calls (live h) ∙ ap (λ (cs : List Call). pairs_of h e cs) (sym fits)
+    shut_tick config h e calls (live h) fits.1 ∙ ap (λ (cs : List Call). pairs_of h e cs) (sym fits.0)
 shut_event config h moment (Stop calls) fits = shut_stop config h (record { moment = moment; event = Stop calls }) calls
 
 -- By the list.

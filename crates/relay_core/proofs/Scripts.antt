@@ -11,12 +11,12 @@ use Rattle.port_pool.specs.declared.reports.LegReport.{LegReport}
 use Rattle.call_cell.specs.Cells.{Prepare, Commit, Expire, Read, End}
 use Rattle.call_board.specs.Acts as act
 use Rattle.call_board.specs.Acts.{Call, Act, Control, BoardEvent, Turn, Tick, Stop, BoardEntry}
-use Rattle.call_board.specs.Calls.{live, ended_by_act, ended_by, find_call}
+use Rattle.call_board.specs.Calls.{live, ended_by_act, ended_by, find_call, is_due_at}
 use Rattle.call_board.specs.Pairs.{signalled_by, calls_in, closed_of}
 use Rattle.call_board.specs.Requests.{asked}
-use Rattle.call_board.specs.Fits.{FitsBoard, named_live}
+use Rattle.call_board.specs.Fits.{FitsBoard, named_live, AreNamedWhenDue}
 use Rattle.relay_core.specs.Entries.{Entry, is_nested, belongs_to, board_entry, board_history}
-use Rattle.relay_core.specs.Scripts.{Owed, owed_by, open_owed, closing, in_cell, closings, ending, expiring, reading, reading_out_of_memory, script_of_act, script}
+use Rattle.relay_core.specs.Scripts.{Owed, owed_by, open_owed, closing, in_cell, closings, ending, asking, expiring, reading, reading_out_of_memory, script_of_act, script}
 use Rattle.relay_core.specs.Legal.{Orderly}
 use Rattle.relay_core.proofs.Histories.{both, and_true}
 
@@ -56,7 +56,7 @@ owed_out_of_memory config h e c (Ok (Query id)) w i = owed_read config h e (find
 owed_out_of_memory config h e c (Ok Ping) w i = elim i [ ]
 owed_out_of_memory config h e c (Ok (Offer id from sdp options)) w i = elim i [ ]
 owed_out_of_memory config h e c (Ok (Answer id from to sdp options)) w i = elim i [ ]
-owed_out_of_memory config h e c (Ok (Delete id from fatal)) w i = elim i [ ]
+owed_out_of_memory config h e c (Ok (Delete id from fatal seconds)) w i = elim i [ ]
 owed_out_of_memory config h e c (Ok (Listing limit)) w i = elim i [ ]
 owed_out_of_memory config h e c (Err code) w i = elim i [ ]
 
@@ -92,30 +92,54 @@ owed_act config h moment c w (act.Deleted of) q i =
     owed_ending config h (turn moment c) of w (subst (λ b. In of (ended_by_act b)) (sym q) (here refl)) i
 owed_act config h moment c w (act.Queried of) q i = owed_read config h (turn moment c) (Some of) c.given.report w i
 owed_act config h moment c w act.Told q i = elim i [ ]
+owed_act config h moment c w (act.Delayed of s) q i = elim i [ ]
 
-owed_due : (config : Config) (h : List BoardEntry) (moment : ℕ) (calls : List Call) (c : Call) (w : Owed)
-    → calls ≡ named_live h calls → In c (live h) → (due : Bool) → has (map (λ d. d.number) calls) c.number ≡ due
-    → In w (cond due (ending config h (record { moment = moment; event = Tick calls }) c) [])
-    → IsOwed config h (record { moment = moment; event = Tick calls }) w
-owed_due config h moment calls c w fits j false q i = elim i [ ]
-owed_due config h moment calls c w fits j true q i =
-    owed_ending config h (record { moment = moment; event = Tick calls }) c w
-    (subst (λ cs. In c cs) (sym fits) (keeps (λ d. has (map (λ x. x.number) calls) d.number) (live h) j q)) i
+abbrev tick : ℕ → List Call → BoardEntry
+tick moment calls = record { moment = moment; event = Tick calls }
+
+-- a live call that a tick names is among those that it ends
+named_in : (h : List BoardEntry) (calls : List Call) (c : Call) → calls ≡ named_live h calls → In c (live h)
+    → has (map (λ d. d.number) calls) c.number ≡ true → In c calls
+named_in h calls c names j q =
+    subst (λ cs. In c cs) (sym names) (keeps (λ d. has (map (λ x. x.number) calls) d.number) (live h) j q)
+
+-- and so is each one that is due
+due_is_named : (h : List BoardEntry) (now : ℕ) (named : List ℕ) (calls : List Call) (c : Call) → AreNamedWhenDue h now named calls → In c calls
+    → is_due_at h c.number now ≡ true → has named c.number ≡ true
+due_is_named h now named [] c when i due = elim i [ ]
+due_is_named h now named (d ∷ calls) c when (here q) due =
+    subst (λ (x : Call). has named x.number ≡ true) (sym q) (when.0 (subst (λ (x : Call). is_due_at h x.number now ≡ true) q due))
+due_is_named h now named (d ∷ calls) c when (there i) due = due_is_named h now named calls c when.1 i due
+
+owed_timed_out : (config : Config) (h : List BoardEntry) (moment : ℕ) (calls : List Call) (c : Call) (w : Owed)
+    → calls ≡ named_live h calls → In c (live h) → (timed_out : Bool) → has (map (λ d. d.number) calls) c.number ≡ timed_out
+    → In w (cond timed_out (ending config h (tick moment calls) c) []) → IsOwed config h (tick moment calls) w
+owed_timed_out config h moment calls c w names j false q i = elim i [ ]
+owed_timed_out config h moment calls c w names j true q i = owed_ending config h (tick moment calls) c w (named_in h calls c names j q) i
+
+owed_asked : (config : Config) (h : List BoardEntry) (moment : ℕ) (calls : List Call) (c : Call) (w : Owed)
+    → calls ≡ named_live h calls → In c (live h)
+    → In w (asking config h (tick moment calls) c (has (map (λ d. d.number) calls) c.number)) → IsOwed config h (tick moment calls) w
+owed_asked config h moment calls c w names j (here q) = expires c (has (map (λ d. d.number) calls) c.number) j q
+owed_asked config h moment calls c w names j (there i) =
+    owed_timed_out config h moment calls c w names j (has (map (λ d. d.number) calls) c.number) refl i
 
 owed_tick : (config : Config) (h : List BoardEntry) (moment : ℕ) (calls : List Call) (c : Call) (w : Owed)
-    → calls ≡ named_live h calls → In c (live h)
-    → In w (expiring config h (record { moment = moment; event = Tick calls }) calls c)
-    → IsOwed config h (record { moment = moment; event = Tick calls }) w
-owed_tick config h moment calls c w fits j (here q) = expires c (has (map (λ d. d.number) calls) c.number) j q
-owed_tick config h moment calls c w fits j (there i) = owed_due config h moment calls c w fits j (has (map (λ d. d.number) calls) c.number) refl i
+    → FitsBoard config h (tick moment calls) → In c (live h) → (due : Bool) → is_due_at h c.number moment ≡ due
+    → In w (cond due (ending config h (tick moment calls) c) (asking config h (tick moment calls) c (has (map (λ d. d.number) calls) c.number)))
+    → IsOwed config h (tick moment calls) w
+owed_tick config h moment calls c w fits j true q i =
+    owed_ending config h (tick moment calls) c w
+    (named_in h calls c fits.0 j (due_is_named h moment (map (λ d. d.number) calls) (live h) c fits.1 j q)) i
+owed_tick config h moment calls c w fits j false q i = owed_asked config h moment calls c w fits.0 j i
 
 owed_of : (config : Config) (h : List BoardEntry) (moment : ℕ) (v : BoardEvent) (w : Owed)
     → FitsBoard config h (record { moment = moment; event = v }) → In w (script config h (record { moment = moment; event = v }))
     → IsOwed config h (record { moment = moment; event = v }) w
 owed_of config h moment (Turn c) w fits i = owed_act config h moment c w c.act refl i
 owed_of config h moment (Tick calls) w fits i =
-    let m = spread (expiring config h (record { moment = moment; event = Tick calls }) calls) (live h) i in
-    owed_tick config h moment calls m.from w fits m.is_in m.has_it
+    let m = spread (expiring config h (tick moment calls) calls) (live h) i in
+    owed_tick config h moment calls m.from w fits m.is_in (is_due_at h m.from.number moment) refl m.has_it
 owed_of config h moment (Stop calls) w fits i =
     let m = spread (ending config h (record { moment = moment; event = Stop calls })) calls i in
     owed_ending config h (record { moment = moment; event = Stop calls }) m.from w m.is_in m.has_it
@@ -167,20 +191,23 @@ ending_act config h moment c of w (act.Offered o) q j i = elim j [ ]
 ending_act config h moment c of w (act.Answered o) q j i = elim j [ ]
 ending_act config h moment c of w (act.Queried o) q j i = elim j [ ]
 ending_act config h moment c of w act.Told q j i = elim j [ ]
+ending_act config h moment c of w (act.Delayed d s) q j i = elim j [ ]
 
-ending_due : (config : Config) (h : List BoardEntry) (e : BoardEntry) (c : Call) (w : Owed) (due : Bool) → due ≡ true
-    → In w (ending config h e c) → In w (cond due (ending config h e c) [])
-ending_due config h e c w true q i = i
-ending_due config h e c w false q i = absurd (let k = q in cc)
+-- a tick ends a call that it names, whether that is due or has timed out
+ending_named : (config : Config) (h : List BoardEntry) (e : BoardEntry) (c : Call) (w : Owed) (named due : Bool) → named ≡ true
+    → In w (ending config h e c) → In w (cond due (ending config h e c) (asking config h e c named))
+ending_named config h e c w named true q i = i
+ending_named config h e c w true false q i = there i
+ending_named config h e c w false false q i = absurd (let k = q in cc)
 
 ending_of : (config : Config) (h : List BoardEntry) (moment : ℕ) (v : BoardEvent) (of : Call) (w : Owed)
     → FitsBoard config h (record { moment = moment; event = v }) → In of (ended_by (record { moment = moment; event = v }))
     → In w (ending config h (record { moment = moment; event = v }) of) → In w (script config h (record { moment = moment; event = v }))
 ending_of config h moment (Turn c) of w fits j i = ending_act config h moment c of w c.act refl j i
 ending_of config h moment (Tick calls) of w fits j i =
-    let f = filtered (λ d. has (map (λ x. x.number) calls) d.number) (live h) (subst (λ cs. In of cs) fits j) in
-    spreads (expiring config h (record { moment = moment; event = Tick calls }) calls) (live h) f.0
-    (there (ending_due config h (record { moment = moment; event = Tick calls }) of w (has (map (λ d. d.number) calls) of.number) f.1 i))
+    let f = filtered (λ d. has (map (λ x. x.number) calls) d.number) (live h) (subst (λ cs. In of cs) fits.0 j) in
+    spreads (expiring config h (tick moment calls) calls) (live h) f.0
+    (ending_named config h (tick moment calls) of w (has (map (λ d. d.number) calls) of.number) (is_due_at h of.number moment) f.1 i)
 ending_of config h moment (Stop calls) of w fits j i = spreads (ending config h (record { moment = moment; event = Stop calls })) calls j i
 
 pub has_ending : (config : Config) (h : List BoardEntry) (e : BoardEntry) (of : Call) (w : Owed) → FitsBoard config h e
@@ -209,6 +236,7 @@ signalled_closing config h e leg c (act.Undone code leases draws) q j i = elim j
 signalled_closing config h e leg c (act.Deleted d) q j i = elim j [ ]
 signalled_closing config h e leg c (act.Queried d) q j i = elim j [ ]
 signalled_closing config h e leg c act.Told q j i = elim j [ ]
+signalled_closing config h e leg c (act.Delayed of s) q j i = elim j [ ]
 
 closing_case : (config : Config) (h : List BoardEntry) (e : BoardEntry) (leg : Holder) (c : Call) → FitsBoard config h e
     → In c (signalled_by (act.act e)) ⊎ In c (ended_by e) → In leg (closed_of h e c) → In (closing config leg) (script config h e)

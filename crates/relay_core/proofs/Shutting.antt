@@ -15,7 +15,7 @@ use Rattle.ng_reply.specs.declared.code.ErrorCode.{ErrorCode}
 use Rattle.std.specs.Prelude.{Result, Ok, Err}
 use Rattle.call_board.specs.Acts as act
 use Rattle.call_board.specs.Acts.{Act, Call, Control, BoardEvent, Turn, Tick, Stop, BoardEntry}
-use Rattle.call_board.specs.Calls.{live, find_call}
+use Rattle.call_board.specs.Calls.{live, find_call, is_due_at}
 use Rattle.call_board.specs.Pairs.{Once, held, closed_of, closes_leg}
 use Rattle.call_board.specs.Requests.{asked}
 use Rattle.call_board.specs.Fits.{FitsBoard, IsFitting}
@@ -25,7 +25,7 @@ use Rattle.call_board.proofs.Cells.{live_cells_once}
 use Rattle.call_board.proofs.Held.{closed_of_held}
 use Rattle.call_board.proofs.Free.{free_not_held, new_leg_free, new_legs_once, held_once, held_apart}
 use Rattle.relay_core.specs.Entries.{Event, Board, Cell, Box, Entry, is_nested, belongs_to, front, board_history, history, box_in, box_event, box_history, box_of}
-use Rattle.relay_core.specs.Scripts.{Owed, owed_by, open_owed, closing, in_cell, closings, ending, expiring, reading, reading_out_of_memory, script_of_act, script}
+use Rattle.relay_core.specs.Scripts.{Owed, owed_by, open_owed, closing, in_cell, closings, ending, asking, expiring, reading, reading_out_of_memory, script_of_act, script}
 use Rattle.relay_core.specs.Legal.{Orderly}
 use Rattle.relay_core.specs.Safe.{box_before}
 use Rattle.relay_core.proofs.Histories.{and_true, both, same_at, good_history}
@@ -135,19 +135,23 @@ spread_once config h e f good by (c ∷ cs) alive once =
 ending_by : (config : Config) (h : List BoardEntry) (e : BoardEntry) → IsFitting config h → CallByCall config h e (ending config h e)
 ending_by config h e good = record { each = λ c. closed_once config h e c good; from = λ c p i. closed_place config h e c p i }
 
-due_once : (config : Config) (h : List BoardEntry) (e : BoardEntry) (c : Call) → IsFitting config h → (due : Bool) → Once (box_places (cond due (ending config h e c) []))
-due_once config h e c good true = closed_once config h e c good
-due_once config h e c good false = tt
+expiring_once : (config : Config) (h : List BoardEntry) (e : BoardEntry) (c : Call) → IsFitting config h → (timed_out due : Bool)
+    → Once (box_places (cond due (ending config h e c) (asking config h e c timed_out)))
+expiring_once config h e c good timed_out true = closed_once config h e c good
+expiring_once config h e c good true false = closed_once config h e c good
+expiring_once config h e c good false false = tt
 
-due_from : (config : Config) (h : List BoardEntry) (e : BoardEntry) (c : Call) (p : ℕ) → (due : Bool) → In p (box_places (cond due (ending config h e c) []))
+expiring_from : (config : Config) (h : List BoardEntry) (e : BoardEntry) (c : Call) (p : ℕ) → (timed_out due : Bool)
+    → In p (box_places (cond due (ending config h e c) (asking config h e c timed_out)))
     → (leg : Holder) × In leg (closed_of h e c) × (box_of config leg.pair ≡ p)
-due_from config h e c p true i = closed_place config h e c p i
-due_from config h e c p false i = elim i [ ]
+expiring_from config h e c p timed_out true i = closed_place config h e c p i
+expiring_from config h e c p true false i = closed_place config h e c p i
+expiring_from config h e c p false false i = elim i [ ]
 
 expiring_by : (config : Config) (h : List BoardEntry) (e : BoardEntry) (calls : List Call) → IsFitting config h → CallByCall config h e (expiring config h e calls)
 expiring_by config h e calls good = record {
-  each = λ c. due_once config h e c good (has (map (λ (d : Call). d.number) calls) c.number);
-  from = λ c p i. due_from config h e c p (has (map (λ (d : Call). d.number) calls) c.number) i;
+  each = λ c. expiring_once config h e c good (has (map (λ (d : Call). d.number) calls) c.number) (is_due_at h c.number e.moment);
+  from = λ c p i. expiring_from config h e c p (has (map (λ (d : Call). d.number) calls) c.number) (is_due_at h c.number e.moment) i;
 }
 
 read_once : (o : Option Call) (all_reports : Option (List LegReport)) → Once (box_places (reading o all_reports))
@@ -160,7 +164,7 @@ out_of_memory_once h c (Ok (Query id)) = read_once (find_call h id) c.given.repo
 out_of_memory_once h c (Ok Ping) = tt
 out_of_memory_once h c (Ok (Offer id from sdp options)) = tt
 out_of_memory_once h c (Ok (Answer id from to sdp options)) = tt
-out_of_memory_once h c (Ok (Delete id from fatal)) = tt
+out_of_memory_once h c (Ok (Delete id from fatal seconds)) = tt
 out_of_memory_once h c (Ok (Listing limit)) = tt
 out_of_memory_once h c (Err code) = tt
 
@@ -188,6 +192,7 @@ act_once config h moment c good fits (act.Answered a) q = closed_once config h (
 act_once config h moment c good fits (act.Deleted of) q = closed_once config h (turn moment c) of good
 act_once config h moment c good fits (act.Queried of) q = read_once (Some of) c.given.report
 act_once config h moment c good fits act.Told q = tt
+act_once config h moment c good fits (act.Delayed of s) q = tt
 
 event_once : (config : Config) (h : List BoardEntry) (moment : ℕ) (v : BoardEvent) → IsFitting config h → FitsBoard config h (record { moment = moment; event = v })
     → Once (box_places (script config h (record { moment = moment; event = v })))

@@ -23,7 +23,7 @@ use Rattle.call_cell.specs.Deeds.{deed, way, transform}
 use Rattle.call_cell.specs.Cells as cells
 use Rattle.call_board.specs.Acts as act
 use Rattle.call_board.specs.Acts.{Control, Turn, BoardEntry}
-use Rattle.call_board.specs.Calls.{live, rounds, find_call, rounds_of_call}
+use Rattle.call_board.specs.Calls.{live, rounds, due_moment, find_call, rounds_of_call, is_call_ending}
 use Rattle.call_board.specs.Pairs.{Once, held, free, free_in, is_short, drawn}
 use Rattle.call_board.specs.KeptReplies.{kept_reply}
 use Rattle.call_board.specs.Requests.{ReadsBody, asked}
@@ -121,6 +121,7 @@ pub record IsRepeat (config : Config) (l : List Entry) (e : Entry) (c : Control)
   pub owes_nothing : (f : Entry) → In f l → is_nested f.event ≡ true → f.board ≡ e.number → ⊥
   pub same_live : live (board_history l (suc e.number)) ≡ live (board_history l e.number)
   pub same_rounds : (n : ℕ) → rounds (board_history l (suc e.number)) n ≡ rounds (board_history l e.number) n
+  pub same_due : (n : ℕ) → due_moment (board_history l (suc e.number)) n ≡ due_moment (board_history l e.number) n
   pub same_held : held (board_history l (suc e.number)) ≡ held (board_history l e.number)
   pub same_free : free config (board_history l (suc e.number)) ≡ free config (board_history l e.number)
   pub same_drawn : drawn (board_history l (suc e.number)) ≡ drawn (board_history l e.number)
@@ -128,11 +129,12 @@ pub record IsRepeat (config : Config) (l : List Entry) (e : Entry) (c : Control)
 
 -- Offers.
 
--- nothing is kept for the datagram, and it is an offer without a fault
+-- nothing is kept for the datagram, and it is an offer without a fault, of no call that is ending
 pub record IsValidOffer (config : Config) (h : List BoardEntry) (c : Control) (now : ℕ) (id : List ℕ) (ask : OfferAsk) : Type 0 where
   pub nothing_kept : kept_reply h c.source c.cookie now ≡ None
   pub is_asked : asked config c.too_long c.pairs ≡ Ok (said.Offer id ask.from_tag ask.sdp ask.options)
   pub is_heard : ask.chosen ≡ c.chosen
+  pub not_ending : is_call_ending h (find_call h id) ≡ false
   pub no_fault : plan.offer_fault (rounds_of_call h (find_call h id)) ask ≡ None
 
 -- the reply is a success, or the error of what it lacks

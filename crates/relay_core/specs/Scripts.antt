@@ -1,5 +1,5 @@
 -- The nested entries that an entry of the board owes, in order.
-use Rattle.std.specs.Prelude.{ℕ, List, [], ◌∷◌, ◌++◌, map, Option, Some, None, Result, Ok, if◌then◌else◌}
+use Rattle.std.specs.Prelude.{ℕ, Bool, List, [], ◌∷◌, ◌++◌, map, Option, Some, None, Result, Ok, if◌then◌else◌}
 use Rattle.std.specs.List.{flat_map}
 use Rattle.relay_outside.specs.declared.settings.Config.{Config}
 use Rattle.ng_command.specs.Meanings.{Said, Query}
@@ -11,7 +11,7 @@ use Rattle.port_pool.specs.Boxes.{Open, Close}
 use Rattle.call_cell.specs.Cells.{CellEvent, Prepare, Commit, Expire, Read, End}
 use Rattle.call_board.specs.Acts as act
 use Rattle.call_board.specs.Acts.{Call, Act, Control, BoardEvent, Turn, Tick, Stop, BoardEntry}
-use Rattle.call_board.specs.Calls.{live, find_call}
+use Rattle.call_board.specs.Calls.{live, find_call, is_due_at}
 use Rattle.call_board.specs.Pairs.{closed_of}
 use Rattle.call_board.specs.Requests.{asked}
 use Rattle.relay_core.specs.Entries.{Event, Cell, Box, Entry, box_of}
@@ -41,11 +41,14 @@ closings config h e c = map (closing config) (closed_of h e c)
 abbrev pub ending : Config → List BoardEntry → BoardEntry → Call → List Owed
 ending config h e c = in_cell c End ∷ closings config h e c
 
--- a tick asks a call whether it is due, and ends it where it is
+-- a call that is asked whether it has timed out, and ends where it has
+abbrev pub asking : Config → List BoardEntry → BoardEntry → Call → (timed_out : Bool) → List Owed
+asking config h e c timed_out = in_cell c (Expire timed_out) ∷ (if timed_out then ending config h e c else [])
+
+-- a tick ends each call that is ending and due, and asks the others; those that end are among these
 abbrev pub expiring : Config → List BoardEntry → BoardEntry → List Call → Call → List Owed
 expiring config h e calls c =
-    let due = has (map (λ d. d.number) calls) c.number in
-    in_cell c (Expire due) ∷ (if due then ending config h e c else [])
+    if is_due_at h c.number e.moment then ending config h e c else asking config h e c (has (map (λ d. d.number) calls) c.number)
 
 abbrev pub reading : Option Call → Option (List LegReport) → List Owed
 reading None report = []
@@ -67,6 +70,7 @@ script_of_act config h e c (act.Offered o) =
 script_of_act config h e c (act.Answered a) = in_cell a.of (Commit a.signal) ∷ closings config h e a.of
 script_of_act config h e c (act.Deleted of) = ending config h e of
 script_of_act config h e c (act.Queried of) = reading (Some of) c.given.report
+script_of_act config h e c (act.Delayed of seconds) = []
 script_of_act config h e c act.Told = []
 
 abbrev pub script_of : Config → List BoardEntry → BoardEntry → BoardEvent → List Owed

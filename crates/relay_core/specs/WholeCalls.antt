@@ -1,5 +1,5 @@
--- What a list has that carries a call from its offer to its end, and then another one.
-use Rattle.std.specs.Prelude.{◌≡◌, ℕ, ◌+◌, ◌<◌, false, true, List, [], ◌∷◌, length, Some}
+-- What a list has that carries a call from its offer to its end, and then two other ones.
+use Rattle.std.specs.Prelude.{◌≡◌, ℕ, ◌+◌, ◌*◌, ◌<◌, Bool, false, true, List, [], ◌∷◌, length, Some}
 use Rattle.relay_outside.specs.declared.settings.Config.{Config}
 use Rattle.srtp_sources.specs.Notes.{Note}
 use Rattle.srtp_context.specs.Packets as srtp
@@ -40,11 +40,12 @@ pub record CarriesPacket (config : Config) (l : List Entry) (from to : Holder) :
   pub sends : relay.deed.sending ≡ Some sending
   pub is_sent : relay.deed.outcome ≡ Sent (half_port config to.pair sending.half) sending.to (length sending.bytes)
 
--- An offer begins a call and draws keys, its datagram comes again, the offer is answered, a tick finds the call not due, and it
--- is deleted, which ends its cell and closes the boxes of its legs. In between a packet of side A is sent on to side B,
--- protected under a key that was drawn, and one of side B, protected under the key of its crypto line, is sent on in the clear
--- to where the first one came from. The next call gets a port pair of the first one in a later lease, a packet that was taken for
--- the first one is refused as stale, and a tick ends the next call.
+-- An offer begins a call and draws keys, its datagram comes again, the offer is answered, a tick finds that the call has not
+-- timed out, and it is deleted, which ends its cell and closes the boxes of its legs. In between a packet of side A is sent on to
+-- side B, protected under a key that was drawn, and one of side B, protected under the key of its crypto line, is sent on in the
+-- clear to where the first one came from. The next call gets a port pair of the first one in a later lease, a packet that was taken
+-- for the first one is refused as stale, and a tick ends the next call. The last call is deleted with a delay: a tick just before its
+-- due moment asks whether it has timed out, and one at that moment ends it and closes the boxes of its legs, and asks nothing.
 pub record CarriesCalls (config : Config) (l : List Entry) : Type 0 where
   pub offer_turn : Control
   pub is_offered : Occurs l 0 (Board (Turn offer_turn))
@@ -106,8 +107,29 @@ pub record CarriesCalls (config : Config) (l : List Entry) : Type 0 where
   pub for_former : late.packet.holder ≡ leg_a
   pub is_stale : late.deed.outcome ≡ Refused Stale
   pub times_out : Occurs l 0 (Board (Tick (next.of ∷ [])))
-  -- one after the other: the entries of the board, and those of the cell, which both calls have
+  -- the last call
+  pub last_turn : Control
+  pub is_offered_last : Occurs l 0 (Board (Turn last_turn))
+  pub last : act.Offer
+  pub accepts_last : last_turn.act ≡ act.Offered last
+  pub begins_last : last.begins ≡ true
+  pub delay_turn : Control
+  pub is_delayed : Occurs l 0 (Board (Turn delay_turn))
+  pub seconds : ℕ
+  pub accepts_delay : delay_turn.act ≡ act.Delayed last.of seconds
+  pub some_delay : 0 < seconds
+  pub early : Occurs l 0 (Board (Tick []))
+  pub asks_early : OccursOf l early.0.number last.of.cell (Cell (Expire false))
+  pub is_over : Occurs l 0 (Board (Tick (last.of ∷ [])))
+  pub when_due : is_over.0.moment ≡ is_delayed.0.moment + 1000 * seconds
+  pub just_before : early.0.moment + 1 ≡ is_over.0.moment
+  pub unasked : (timed_out : Bool) → OccursOf l is_over.0.number last.of.cell (Cell (Expire timed_out)) → ⊥
+  pub ends_last : OccursOf l is_over.0.number last.of.cell (Cell End)
+  pub closes_last : (leg : Holder) → In leg last.legs → OccursOf l is_over.0.number (box_of config leg.pair) (Box Close)
+  -- one after the other: the entries of the board, and those of the cell, which all these calls have
   pub in_turn : Rises (is_offered.0.number ∷ is_repeated.0.number ∷ is_answered.0.number ∷ is_ticked.0.number ∷ is_deleted.0.number
-      ∷ is_offered_next.0.number ∷ times_out.0.number ∷ [])
-  pub in_cell : Rises (to_b.is_relayed.0.number ∷ to_a.is_relayed.0.number ∷ is_asked.0.number ∷ ends.0.number ∷ is_late.0.number ∷ [])
-  pub same_cell : next.of.cell ≡ offer.of.cell
+      ∷ is_offered_next.0.number ∷ times_out.0.number ∷ is_offered_last.0.number ∷ is_delayed.0.number ∷ early.0.number
+      ∷ is_over.0.number ∷ [])
+  pub in_cell : Rises (to_b.is_relayed.0.number ∷ to_a.is_relayed.0.number ∷ is_asked.0.number ∷ ends.0.number ∷ is_late.0.number
+      ∷ asks_early.0.number ∷ ends_last.0.number ∷ [])
+  pub same_cell : (next.of.cell ≡ offer.of.cell) × (last.of.cell ≡ offer.of.cell)

@@ -38,7 +38,8 @@ pub fn orderly_is_safe()
 
 /// There are legal lists that do something, so that what is said of every legal list is said of something: one that carries a
 /// call from its offer to its end, with a packet that is taken as plain RTP and sent as SRTP under a key that the offer drew,
-/// and one that is opened and sent in the clear; and then another call at the same ports, which times out.
+/// and one that is opened and sent in the clear; then another call at the same ports, which times out; and then one that is
+/// deleted with a delay, which a tick ends when it is due.
 pub fn a_legal_list_exists()
     ensures { (config : Config) × (l : List Entry) × Legal config l × CarriesCalls config l }
 {}

@@ -10,7 +10,7 @@ use Rattle.turn_table.specs.declared.view.View.{View}
 use Rattle.turn_table.specs.Histories.{times, one_if}
 use Rattle.turn_table.specs.Steps.{AreKnown}
 use Rattle.turn_table.proofs.Lists.{below_in}
-use Rattle.histories.specs.Words.{In, here, there}
+use Rattle.histories.specs.Words.{In, here, there, has}
 use Rattle.histories.proofs.Lists.{in_left, in_right, in_append, mapped, maps, spread}
 use Rattle.port_pool.specs.declared.reports.LegReport.{LegReport}
 use Rattle.port_pool.specs.declared.signal.SectionSignal.{SectionSignal}
@@ -18,13 +18,13 @@ use Rattle.port_pool.specs.Boxes.{Close}
 use Rattle.call_cell.specs.Cells.{Prepare, Commit, Relay, Relayed, Expire, Read, End}
 use Rattle.call_board.specs.Acts as act
 use Rattle.call_board.specs.Acts.{Call, Act, Control, BoardEvent, Turn, Tick, Stop, BoardEntry}
-use Rattle.call_board.specs.Calls.{live, find_call}
+use Rattle.call_board.specs.Calls.{live, find_call, is_due_at}
 use Rattle.call_board.specs.Pairs.{closed_of}
 use Rattle.call_board.specs.Requests.{asked}
 use Rattle.relay_core.specs.Entries.{Event, Board, Cell, Box, Entry, is_nested, is_at, board_history}
 use Rattle.relay_core.specs.Legal.{Orderly}
 use Rattle.relay_core.specs.Records.{Made, entry_of, list_of, as_logged, logged_event, logged_relay}
-use Rattle.relay_core.specs.Scripts.{Owed, owed_by, open_owed, closing, in_cell, closings, ending, expiring, reading, reading_out_of_memory, script_of_act, script_of, script}
+use Rattle.relay_core.specs.Scripts.{Owed, owed_by, open_owed, closing, in_cell, closings, ending, asking, expiring, reading, reading_out_of_memory, script_of_act, script_of, script}
 use Rattle.relay_core.specs.Turns.{Numbered}
 use Rattle.relay_core.proofs.Closed.{in_range}
 use Rattle.relay_core.proofs.Joins.{not_in_both}
@@ -58,7 +58,7 @@ in_spent h c (Ok (Query id)) w i = in_reading (find_call h id) c.given.report w 
 in_spent h c (Ok Ping) w i = elim i [ ]
 in_spent h c (Ok (Offer id from sdp options)) w i = elim i [ ]
 in_spent h c (Ok (Answer id from to sdp options)) w i = elim i [ ]
-in_spent h c (Ok (Delete id from fatal)) w i = elim i [ ]
+in_spent h c (Ok (Delete id from fatal seconds)) w i = elim i [ ]
 in_spent h c (Ok (Listing limit)) w i = elim i [ ]
 in_spent h c (Err code) w i = elim i [ ]
 
@@ -81,14 +81,22 @@ module _ (config : Config) (h : List BoardEntry) (e : BoardEntry) where
   in_act c (act.Deleted of) w i = in_ending config h e of w i
   in_act c (act.Queried of) w i = in_reading (Some of) c.given.report w i
   in_act c act.Told w i = elim i [ ]
+  in_act c (act.Delayed of s) w i = elim i [ ]
 
-  in_due : (c : Call) (due : Bool) (w : Owed) → In w (cond due (ending config h e c) []) → is_nested w.event ≡ true
-  in_due c true w i = in_ending config h e c w i
-  in_due c false w i = elim i [ ]
+  in_timed_out : (c : Call) (timed_out : Bool) (w : Owed) → In w (cond timed_out (ending config h e c) []) → is_nested w.event ≡ true
+  in_timed_out c true w i = in_ending config h e c w i
+  in_timed_out c false w i = elim i [ ]
+
+  in_asking : (c : Call) (timed_out : Bool) (w : Owed) → In w (asking config h e c timed_out) → is_nested w.event ≡ true
+  in_asking c timed_out w (here p) = ap (λ (v : Owed). is_nested v.event) p
+  in_asking c timed_out w (there j) = in_timed_out c timed_out w j
+
+  in_due : (c : Call) (due timed_out : Bool) (w : Owed) → In w (cond due (ending config h e c) (asking config h e c timed_out)) → is_nested w.event ≡ true
+  in_due c true timed_out w i = in_ending config h e c w i
+  in_due c false timed_out w i = in_asking c timed_out w i
 
   in_expiring : (calls : List Call) (c : Call) (w : Owed) → In w (expiring config h e calls c) → is_nested w.event ≡ true
-  in_expiring calls c w (here p) = ap (λ (v : Owed). is_nested v.event) p
-  in_expiring calls c w (there j) = in_due c _ w j
+  in_expiring calls c w i = in_due c (is_due_at h c.number e.moment) (has (map (λ (d : Call). d.number) calls) c.number) w i
 
   in_script : (v : BoardEvent) (w : Owed) → In w (script_of config h e v) → is_nested w.event ≡ true
   in_script (Turn c) w i = in_act c c.act w i

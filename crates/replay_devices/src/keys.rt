@@ -77,7 +77,7 @@ impl<'a> ReplayKeys<'a> {
         }
     }
 
-    /// The draws so far: `None` where the source tells nothing any more.
+    /// The draws so far: `None` where the source logs nothing any more.
     pub fn calls(&self) -> Option<&[KeyCall]>
         ensures { MatchOption result (self.now.log ≡ None) (λ calls. self.now.log ≡ Some calls.now) }
     {

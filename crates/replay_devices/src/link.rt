@@ -108,7 +108,7 @@ impl<'a> ReplayLink<'a> {
         }
     }
 
-    /// The last send that returned Ok: `None` where there was none, or the link tells nothing any more.
+    /// The last send that returned Ok: `None` where there was none, or the link logs nothing any more.
     pub fn last_sent(&self) -> Option<(Addr, &[u8])>
         ensures { MatchOption result (last_sent self.now.log ≡ None) (λ sent. last_sent self.now.log ≡ Some (sent.0, sent.1.now)) }
     {
@@ -116,7 +116,7 @@ impl<'a> ReplayLink<'a> {
         last_sent_of(calls)
     }
 
-    /// The last datagram that a take gave: `None` where there was none, or the link tells nothing any more.
+    /// The last datagram that a take gave: `None` where there was none, or the link logs nothing any more.
     pub fn last_taken(&self) -> Option<(Addr, &[u8])>
         ensures { MatchOption result (last_taken self.now.log ≡ None) (λ taken. last_taken self.now.log ≡ Some (taken.0, taken.1.now)) }
     {

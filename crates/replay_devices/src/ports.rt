@@ -82,7 +82,7 @@ impl<'a> ReplayPorts<'a> {
         }
     }
 
-    /// The calls so far: `None` where the maker tells nothing any more.
+    /// The calls so far: `None` where the maker logs nothing any more.
     pub fn calls(&self) -> Option<&[PortCall]>
         ensures { MatchOption result (self.now.log ≡ None) (λ calls. self.now.log ≡ Some calls.now) }
     {
@@ -97,7 +97,7 @@ impl<'a> ReplayPorts<'a> {
     }
 }
 
-/// The record of a closing; `None` where an end tells nothing any more.
+/// The record of a closing; `None` where an end logs nothing any more.
 fn close_call<'a>(at: Addr, receiving: ReplayIn<'a>, sending: ReplayOut<'a>) -> Option<PortCall>
     ensures call { IfSome result (λ call. call ≡ PortCall.Close at receiving.entry.log.calls sending.entry.log.calls) }
     ensures log { IsSome result → IsSome receiving.entry.log.calls × IsSome sending.entry.log.calls }

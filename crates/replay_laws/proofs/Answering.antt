@@ -8,19 +8,19 @@ use Rattle.ng_command.specs.Meanings as said
 use Rattle.ng_command.specs.Meanings.{Said}
 use Rattle.ng_reply.specs.declared.code.ErrorCode.{ErrorCode}
 use Rattle.ng_reply.specs.declared.code.ErrorCode.TheVariants.{E9, E10, E13, E14, E17}
-use Rattle.histories.specs.Words.{has}
+use Rattle.histories.specs.Words.{has, or_else}
 use Rattle.port_pool.specs.declared.holder.Holder.{Holder}
 use Rattle.offer_answer.specs.Rounds.{Round, OfferAsk, AnswerAsk}
 use Rattle.offer_answer.specs.Plan as plan
 use Rattle.call_cell.specs.Cells.{Prepare, Commit, End}
 use Rattle.call_board.specs.Acts as act
 use Rattle.call_board.specs.Acts.{Act, Call, Given, Control, BoardEvent, Turn, BoardEntry}
-use Rattle.call_board.specs.Calls.{live, find_call, new_call, rounds, ended_by_act}
+use Rattle.call_board.specs.Calls.{live, find_call, new_call, is_ending, rounds, ended_by_act}
 use Rattle.call_board.specs.Pairs.{held, free_in, is_short, closes_leg_act}
 use Rattle.call_board.specs.KeptReplies.{kept_reply}
 use Rattle.call_board.specs.Requests.{asked}
 use Rattle.call_board.specs.Replies.{Done, Fault, reply_text, reply_datagram, fault_datagram}
-use Rattle.call_board.specs.Answers.{Answered, failing, leased_pairs, offer_ask, answer_ask, offer_leased, offer_unless, offer_to, answer_unless, answer_to, nothing_to_end, names_side, delete_of, query_of, answering, answering_asked, answering_unless}
+use Rattle.call_board.specs.Answers.{Answered, failing, ending_error, deleting, leased_pairs, offer_ask, answer_ask, offer_leased, offer_unless, offer_to, answer_unless, answer_to, nothing_to_end, names_side, delete_of, query_of, answering, answering_asked, answering_unless}
 use Rattle.call_board.specs.Fits.{FitsControl, GivesFor, demanded}
 use Rattle.call_board.proofs.Fixed.{unless_out_of_memory}
 use Rattle.call_board.proofs.Tells.{leased_case}
@@ -55,7 +55,8 @@ unless_fed config h g ask of begins before None =
 
 offer_fed : (config : Config) (h : List BoardEntry) (g : Given) (id : List ℕ) (ask : OfferAsk) (o : Option Call) → runs_out (offer_to config h g id ask o).act ≡ false
 offer_fed config h g id ask None = unless_fed config h g ask (new_call h id) true [] (plan.offer_fault [] ask)
-offer_fed config h g id ask (Some of) = unless_fed config h g ask of false (rounds h of.number) (plan.offer_fault (rounds h of.number) ask)
+offer_fed config h g id ask (Some of) =
+    unless_fed config h g ask of false (rounds h of.number) (or_else (ending_error (is_ending h of.number)) (plan.offer_fault (rounds h of.number) ask))
 
 replied_fed : (config : Config) (ask : AnswerAsk) (of : Call) (before : List Round) (fault : Option ErrorCode) → runs_out (answer_unless config ask of before fault).act ≡ false
 replied_fed config ask of before (Some code) = refl
@@ -63,19 +64,24 @@ replied_fed config ask of before None = refl
 
 answer_fed : (config : Config) (h : List BoardEntry) (ask : AnswerAsk) (o : Option Call) → runs_out (answer_to config h ask o).act ≡ false
 answer_fed config h ask None = refl
-answer_fed config h ask (Some of) = replied_fed config ask of (rounds h of.number) (plan.answer_fault (rounds h of.number) ask)
+answer_fed config h ask (Some of) =
+    replied_fed config ask of (rounds h of.number) (or_else (ending_error (is_ending h of.number)) (plan.answer_fault (rounds h of.number) ask))
 
 missing_fed : (fatal : Bool) (code : ErrorCode) → runs_out (nothing_to_end fatal code).act ≡ false
 missing_fed true code = refl
 missing_fed false code = refl
 
-named_fed : (of : Call) (fatal named : Bool) → runs_out (cond named (record { reply = Done; act = act.Deleted of }) (nothing_to_end fatal E10)).act ≡ false
-named_fed of fatal true = refl
-named_fed of fatal false = missing_fed fatal E10
+deleting_fed : (of : Call) (seconds : ℕ) (at_once : Bool) → runs_out (cond at_once (act.Deleted of) (act.Delayed of seconds)) ≡ false
+deleting_fed of seconds true = refl
+deleting_fed of seconds false = refl
 
-delete_fed : (h : List BoardEntry) (tag : Option (List ℕ)) (fatal : Bool) (o : Option Call) → runs_out (delete_of h tag fatal o).act ≡ false
-delete_fed h tag fatal None = missing_fed fatal E9
-delete_fed h tag fatal (Some of) = named_fed of fatal (names_side (rounds h of.number) tag)
+named_fed : (of : Call) (seconds : ℕ) (fatal named : Bool) → runs_out (cond named (record { reply = Done; act = deleting of seconds }) (nothing_to_end fatal E10)).act ≡ false
+named_fed of seconds fatal true = deleting_fed of seconds (seconds == 0)
+named_fed of seconds fatal false = missing_fed fatal E10
+
+delete_fed : (h : List BoardEntry) (tag : Option (List ℕ)) (fatal : Bool) (seconds : ℕ) (o : Option Call) → runs_out (delete_of h tag fatal seconds o).act ≡ false
+delete_fed h tag fatal seconds None = missing_fed fatal E9
+delete_fed h tag fatal seconds (Some of) = named_fed of seconds fatal (names_side (rounds h of.number) tag)
 
 query_fed : (h : List BoardEntry) (g : Given) (o : Option Call) → runs_out (query_of h g o).act ≡ false
 query_fed h g None = refl
@@ -86,7 +92,7 @@ asked_fed config h c (Err code) = refl
 asked_fed config h c (Ok said.Ping) = refl
 asked_fed config h c (Ok (said.Offer id from_tag sdp options)) = offer_fed config h c.given id (offer_ask from_tag sdp options c.chosen) (find_call h id)
 asked_fed config h c (Ok (said.Answer id from_tag to_tag sdp options)) = answer_fed config h (answer_ask from_tag to_tag sdp options c.chosen) (find_call h id)
-asked_fed config h c (Ok (said.Delete id from_tag fatal)) = delete_fed h from_tag fatal (find_call h id)
+asked_fed config h c (Ok (said.Delete id from_tag fatal seconds)) = delete_fed h from_tag fatal seconds (find_call h id)
 asked_fed config h c (Ok (said.Query id)) = query_fed h c.given (find_call h id)
 asked_fed config h c (Ok (said.Listing limit)) = refl
 
@@ -152,6 +158,7 @@ act_owes config h moment c d given same (act.Answered x) fed = ap (λ (a : Act).
 act_owes config h moment c d given same (act.Deleted of) fed = ap (λ (a : Act). in_cell of End ∷ closes config h a of) same
 act_owes config h moment c d given same (act.Queried of) fed = ap (λ (g : Given). reading (Some of) g.report) given
 act_owes config h moment c d given same act.Told fed = refl
+act_owes config h moment c d given same (act.Delayed of s) fed = refl
 
 pub owes_one : (config : Config) (h : List BoardEntry) (moment : ℕ) (c d : Control) → c.given ≡ d.given → c.act ≡ d.act → (c.act ≡ act.OutOfMemory → ⊥)
     → script config h (entry moment c) ≡ script config h (entry moment d)

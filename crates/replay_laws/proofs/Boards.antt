@@ -7,7 +7,7 @@ use Rattle.histories.specs.Words.{final, first, has, last_once, numbers}
 use Rattle.port_pool.specs.Ports.{pair_count}
 use Rattle.port_pool.specs.declared.holder.Holder.{Holder}
 use Rattle.call_board.specs.Acts.{Call, Act, BoardEvent, Turn, Tick, Stop, BoardEntry, act, act_in}
-use Rattle.call_board.specs.Calls.{begun, begun_by_act, ended_in, has_ended, live, round_of, rounds, is_round, moment_or_zero, first_moment, latest_moment}
+use Rattle.call_board.specs.Calls.{begun, begun_by_act, ended_in, has_ended, live, dues_by_act, least, due_moment, round_of, rounds, is_round, moment_or_zero, first_moment, latest_moment}
 use Rattle.call_board.specs.Pairs.{legs_of_act, closes_leg, held, calls_in, closed, leased_by_act, all_leased, undone_pairs, returned, free, draws_of_act, drawn}
 use Rattle.call_board.specs.KeptReplies.{keeping_at, keeping_of, keepings}
 use Rattle.call_board.specs.Views.{board_last_moment}
@@ -74,6 +74,10 @@ live_bare h =
 
 rounds_bare : (h : List BoardEntry) (n : ℕ) → rounds (map bare h) n ≡ rounds h n
 rounds_bare h n = flat_bare (λ (e : BoardEntry). round_of n (act e)) h (λ e. ap (round_of n) (act_bare e.event))
+
+due_bare : (h : List BoardEntry) (n : ℕ) → due_moment (map bare h) n ≡ due_moment h n
+due_bare h n =
+    ap least (flat_bare (λ (e : BoardEntry). dues_by_act n e.moment (act e)) h (λ e. ap (dues_by_act n e.moment) (act_bare e.event)))
 
 final_bare : (xs : List BoardEntry) → moment_or_zero (final (map bare xs)) ≡ moment_or_zero (final xs)
 final_bare [] = refl
@@ -150,6 +154,7 @@ pub record SameBoards (config : Config) (h k : List BoardEntry) : Type 0 where
   pub begun_is : begun h ≡ begun k
   pub live_is : live h ≡ live k
   pub rounds_are : (n : ℕ) → rounds h n ≡ rounds k n
+  pub dues_are : (n : ℕ) → due_moment h n ≡ due_moment k n
   pub firsts_are : (n : ℕ) → first_moment h n ≡ first_moment k n
   pub latests_are : (n : ℕ) → latest_moment h n ≡ latest_moment k n
   pub drawn_is : drawn h ≡ drawn k
@@ -164,6 +169,7 @@ same_boards config h k is = record {
   begun_is = sym (begun_bare h) ∙ ap begun is ∙ begun_bare k;
   live_is = sym (live_bare h) ∙ ap live is ∙ live_bare k;
   rounds_are = λ n. sym (rounds_bare h n) ∙ ap (λ (x : List BoardEntry). rounds x n) is ∙ rounds_bare k n;
+  dues_are = λ n. sym (due_bare h n) ∙ ap (λ (x : List BoardEntry). due_moment x n) is ∙ due_bare k n;
   firsts_are = λ n. sym (first_bare h n) ∙ ap (λ (x : List BoardEntry). first_moment x n) is ∙ first_bare k n;
   latests_are = λ n. sym (latest_bare h n) ∙ ap (λ (x : List BoardEntry). latest_moment x n) is ∙ latest_bare k n;
   drawn_is = sym (drawn_bare h) ∙ ap drawn is ∙ drawn_bare k;

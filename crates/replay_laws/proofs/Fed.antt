@@ -72,6 +72,7 @@ by_act e c is (act.Answered a) q = inl (did_not e c is (act.Answered a) q (λ r.
 by_act e c is (act.Deleted of) q = inl (did_not e c is (act.Deleted of) q (λ r. let k = r in cc))
 by_act e c is (act.Queried of) q = inl (did_not e c is (act.Queried of) q (λ r. let k = r in cc))
 by_act e c is act.Told q = inl (did_not e c is act.Told q (λ r. let k = r in cc))
+by_act e c is (act.Delayed of s) q = inl (did_not e c is (act.Delayed of s) q (λ r. let k = r in cc))
 
 by_event : (e : Entry) (v : Event) → e.event ≡ v → NeverOutOfMemory (e ∷ []) ⊎ RunsOut (e ∷ [])
 by_event e (Board (Turn c)) is = by_act e c is c.act refl

@@ -12,25 +12,29 @@ use Rattle.ng_command.specs.Meanings as said
 use Rattle.ng_command.specs.Meanings.{Said}
 use Rattle.ng_reply.specs.declared.code.ErrorCode.{ErrorCode}
 use Rattle.ng_reply.specs.declared.code.ErrorCode.TheVariants.{E10, E13, E14, E15, E16}
-use Rattle.histories.specs.Words.{first, has}
+use Rattle.histories.specs.Words.{first, has, or_else}
 use Rattle.port_pool.specs.declared.holder.Holder.{Holder}
 use Rattle.offer_answer.specs.Rounds.{Round, NewLeg, OfferAsk, AnswerAsk, Demand}
 use Rattle.offer_answer.specs.Plan as plan
 use Rattle.call_cell.specs.Cells.{Prepare, Commit, Expire, End}
 use Rattle.call_board.specs.Acts as act
 use Rattle.call_board.specs.Acts.{Call, Act, Lease, Given, Control, BoardEvent, Turn, Tick, Stop, BoardEntry}
-use Rattle.call_board.specs.Calls.{begun, live, lowest_but, find_call, new_call, rounds, rounds_of_call, first_moment, latest_moment}
+use Rattle.call_board.specs.Calls.{begun, live, lowest_but, find_call, new_call, is_due_by, is_due_at, is_ending, rounds, rounds_of_call, first_moment, latest_moment}
 use Rattle.call_board.specs.Pairs.{held, closes_leg, free, pair_family, family_eq, fronts, is_short, next_generation, leased_new_legs, drawn_keys_from, drawn, all_leased}
 use Rattle.call_board.specs.KeptReplies.{kept_reply}
 use Rattle.call_board.specs.Requests.{asked}
 use Rattle.call_board.specs.Replies.{Done, Fault, Reported, Listed}
-use Rattle.call_board.specs.Answers.{Answering, failing, telling, leased_pairs, undoing, offering, offer_ask, answer_ask, offer_leased, offer_planned, offer_unless, offer_to, answer_unless, answer_to, names_side, nothing_to_end, delete_of, reported_legs, query_of, answering_asked, answering_unless}
+use Rattle.call_board.specs.Answers.{Answering, failing, telling, ending_error, deleting, leased_pairs, undoing, offering, offer_ask, answer_ask, offer_leased, offer_planned, offer_unless, offer_to, answer_unless, answer_to, names_side, nothing_to_end, delete_of, reported_legs, query_of, answering_asked, answering_unless}
 use Rattle.call_board.specs.Fits.{FitsControl, GivesFor, ReadsRequest, ReadsAnswerOf, demanded_by, asks_after}
 use Rattle.call_board.proofs.Fixed.{unless_out_of_memory}
 use Rattle.call_board.proofs.Tells.{leased_case}
-use Rattle.relay_core.specs.Scripts.{Owed, open_owed, closing, in_cell, reading, reading_out_of_memory, script_of_act, script_of, script}
+use Rattle.relay_core.specs.Scripts.{Owed, open_owed, closing, in_cell, expiring, reading, reading_out_of_memory, script_of_act, script_of, script}
 use Rattle.board_turns.specs.Controls.{RequestRecord, unanswered, with_answer, control_of, moment_at}
 use Rattle.replay_laws.proofs.Boards.{SameBoards}
+
+flat_same : (f g : Call → List Owed) (cs : List Call) → ((c : Call) → f c ≡ g c) → flat_map f cs ≡ flat_map g cs
+flat_same f g [] same = refl
+flat_same f g (c ∷ cs) same = ap (λ (ws : List Owed). ws ++ flat_map f cs) (same c) ∙ ap (λ (ws : List Owed). g c ++ ws) (flat_same f g cs same)
 
 abbrev call_as : ℕ → ℕ → List ℕ → Call
 call_as number cell id = record { number = number; cell = cell; id = id }
@@ -72,6 +76,9 @@ module _ (config : Config) (h k : List BoardEntry) (same : SameBoards config h k
   rounds_of_same : (o : Option Call) → rounds_of_call h o ≡ rounds_of_call k o
   rounds_of_same None = refl
   rounds_of_same (Some of) = same.rounds_are of.number
+
+  ending_same : (n : ℕ) → is_ending h n ≡ is_ending k n
+  ending_same n = ap is_some (same.dues_are n)
 
   legs_same : (c : Call) (ps : List ℕ) (legs : List NewLeg) → leased_new_legs h c ps legs ≡ leased_new_legs k c ps legs
   legs_same c [] legs = refl
@@ -123,17 +130,20 @@ module _ (config : Config) (h k : List BoardEntry) (same : SameBoards config h k
       unless_same given ask (new_call h id) true [] (plan.offer_fault [] ask)
       ∙ ap (λ (of : Call). offer_unless config k given ask of true [] (plan.offer_fault [] ask)) (new_same id)
   offer_same given id ask (Some of) =
-      unless_same given ask of false (rounds h of.number) (plan.offer_fault (rounds h of.number) ask)
-      ∙ ap (λ (rs : List Round). offer_unless config k given ask of false rs (plan.offer_fault rs ask)) (same.rounds_are of.number)
+      unless_same given ask of false (rounds h of.number) (or_else (ending_error (is_ending h of.number)) (plan.offer_fault (rounds h of.number) ask))
+      ∙ ap (λ (b : Bool). offer_unless config k given ask of false (rounds h of.number) (or_else (ending_error b) (plan.offer_fault (rounds h of.number) ask))) (ending_same of.number)
+      ∙ ap (λ (rs : List Round). offer_unless config k given ask of false rs (or_else (ending_error (is_ending k of.number)) (plan.offer_fault rs ask))) (same.rounds_are of.number)
 
   answer_same : (ask : AnswerAsk) (o : Option Call) → answer_to config h ask o ≡ answer_to config k ask o
   answer_same ask None = refl
-  answer_same ask (Some of) = ap (λ (rs : List Round). answer_unless config ask of rs (plan.answer_fault rs ask)) (same.rounds_are of.number)
+  answer_same ask (Some of) =
+      ap (λ (b : Bool). answer_unless config ask of (rounds h of.number) (or_else (ending_error b) (plan.answer_fault (rounds h of.number) ask))) (ending_same of.number)
+      ∙ ap (λ (rs : List Round). answer_unless config ask of rs (or_else (ending_error (is_ending k of.number)) (plan.answer_fault rs ask))) (same.rounds_are of.number)
 
-  delete_same : (tag : Option (List ℕ)) (fatal : Bool) (o : Option Call) → delete_of h tag fatal o ≡ delete_of k tag fatal o
-  delete_same tag fatal None = refl
-  delete_same tag fatal (Some of) =
-      ap (λ (rs : List Round). cond (names_side rs tag) (record { reply = Done; act = act.Deleted of }) (nothing_to_end fatal E10)) (same.rounds_are of.number)
+  delete_same : (tag : Option (List ℕ)) (fatal : Bool) (seconds : ℕ) (o : Option Call) → delete_of h tag fatal seconds o ≡ delete_of k tag fatal seconds o
+  delete_same tag fatal seconds None = refl
+  delete_same tag fatal seconds (Some of) =
+      ap (λ (rs : List Round). cond (names_side rs tag) (record { reply = Done; act = deleting of seconds }) (nothing_to_end fatal E10)) (same.rounds_are of.number)
 
   query_same : (given : Given) (o : Option Call) → query_of h given o ≡ query_of k given o
   query_same given None = refl
@@ -151,7 +161,7 @@ module _ (config : Config) (h k : List BoardEntry) (same : SameBoards config h k
   asked_same c (Ok (said.Answer id from_tag to_tag sdp options)) =
       answer_same (answer_ask from_tag to_tag sdp options c.chosen) (find_call h id)
       ∙ ap (answer_to config k (answer_ask from_tag to_tag sdp options c.chosen)) (find_same id)
-  asked_same c (Ok (said.Delete id from_tag fatal)) = delete_same from_tag fatal (find_call h id) ∙ ap (delete_of k from_tag fatal) (find_same id)
+  asked_same c (Ok (said.Delete id from_tag fatal seconds)) = delete_same from_tag fatal seconds (find_call h id) ∙ ap (delete_of k from_tag fatal seconds) (find_same id)
   asked_same c (Ok (said.Query id)) = query_same c.given (find_call h id) ∙ ap (query_of k c.given) (find_same id)
   asked_same c (Ok (said.Listing limit)) = ap (λ (cs : List Call). telling (Listed (take limit (map (λ (call : Call). call.id) cs)))) same.live_is
 
@@ -175,7 +185,7 @@ module _ (config : Config) (h k : List BoardEntry) (same : SameBoards config h k
   hears_same c (Ok (said.Offer id from_tag sdp options)) heard = heard
   hears_same c (Ok (said.Answer id from_tag to_tag sdp options)) heard =
       subst (ReadsAnswerOf k (answer_ask from_tag to_tag sdp options c.chosen)) (find_same id) (answer_heard (answer_ask from_tag to_tag sdp options c.chosen) (find_call h id) heard)
-  hears_same c (Ok (said.Delete id from_tag fatal)) heard = tt
+  hears_same c (Ok (said.Delete id from_tag fatal seconds)) heard = tt
   hears_same c (Ok (said.Query id)) heard = tt
   hears_same c (Ok (said.Listing limit)) heard = tt
 
@@ -185,7 +195,7 @@ module _ (config : Config) (h k : List BoardEntry) (same : SameBoards config h k
   demand_same c (Ok (said.Offer id from_tag sdp options)) =
       ap (λ (rs : List Round). plan.demand rs (offer_ask from_tag sdp options c.chosen)) (rounds_of_same (find_call h id) ∙ ap (rounds_of_call k) (find_same id))
   demand_same c (Ok (said.Answer id from_tag to_tag sdp options)) = refl
-  demand_same c (Ok (said.Delete id from_tag fatal)) = refl
+  demand_same c (Ok (said.Delete id from_tag fatal seconds)) = refl
   demand_same c (Ok (said.Query id)) = refl
   demand_same c (Ok (said.Listing limit)) = refl
 
@@ -194,7 +204,7 @@ module _ (config : Config) (h k : List BoardEntry) (same : SameBoards config h k
   after_same (Ok said.Ping) = refl
   after_same (Ok (said.Offer id from_tag sdp options)) = refl
   after_same (Ok (said.Answer id from_tag to_tag sdp options)) = refl
-  after_same (Ok (said.Delete id from_tag fatal)) = refl
+  after_same (Ok (said.Delete id from_tag fatal seconds)) = refl
   after_same (Ok (said.Query id)) = ap is_some (find_same id)
   after_same (Ok (said.Listing limit)) = refl
 
@@ -226,7 +236,7 @@ module _ (config : Config) (h k : List BoardEntry) (same : SameBoards config h k
   out_of_memory_same c (Ok said.Ping) = refl
   out_of_memory_same c (Ok (said.Offer id from_tag sdp options)) = refl
   out_of_memory_same c (Ok (said.Answer id from_tag to_tag sdp options)) = refl
-  out_of_memory_same c (Ok (said.Delete id from_tag fatal)) = refl
+  out_of_memory_same c (Ok (said.Delete id from_tag fatal seconds)) = refl
   out_of_memory_same c (Ok (said.Query id)) = ap (λ (o : Option Call). reading o c.given.report) (find_same id)
   out_of_memory_same c (Ok (said.Listing limit)) = refl
 
@@ -241,14 +251,21 @@ module _ (config : Config) (h k : List BoardEntry) (same : SameBoards config h k
   act_same e c (act.Deleted of) = ap (λ (ls : List Holder). in_cell of End ∷ closing_as e of ls) same.held_is
   act_same e c (act.Queried of) = refl
   act_same e c act.Told = refl
+  act_same e c (act.Delayed of s) = refl
+
+  abbrev expiring_as : BoardEntry → Call → List Holder → (named due : Bool) → List Owed
+  expiring_as e c ls named due = cond due (in_cell c End ∷ closing_as e c ls) (in_cell c (Expire named) ∷ cond named (in_cell c End ∷ closing_as e c ls) [])
+
+  expiring_same : (e : BoardEntry) (calls : List Call) (c : Call) → expiring config h e calls c ≡ expiring config k e calls c
+  expiring_same e calls c =
+      ap (λ (ls : List Holder). expiring_as e c ls (has (map (λ (d : Call). d.number) calls) c.number) (is_due_at h c.number e.moment)) same.held_is
+      ∙ ap (λ (d : Option ℕ). expiring_as e c (held k) (has (map (λ (d : Call). d.number) calls) c.number) (is_due_by e.moment d)) (same.dues_are c.number)
 
   event_same : (e : BoardEntry) (v : BoardEvent) → script_of config h e v ≡ script_of config k e v
   event_same e (Turn c) = act_same e c c.act
   event_same e (Tick calls) =
-      ap (λ (ls : List Holder). flat_map (λ (c : Call). in_cell c (Expire (has (map (λ (d : Call). d.number) calls) c.number))
-      ∷ cond (has (map (λ (d : Call). d.number) calls) c.number) (in_cell c End ∷ closing_as e c ls) []) (live h)) same.held_is
-      ∙ ap (λ (cs : List Call). flat_map (λ (c : Call). in_cell c (Expire (has (map (λ (d : Call). d.number) calls) c.number))
-      ∷ cond (has (map (λ (d : Call). d.number) calls) c.number) (in_cell c End ∷ closing_as e c (held k)) []) cs) same.live_is
+      flat_same (expiring config h e calls) (expiring config k e calls) (live h) (expiring_same e calls)
+      ∙ ap (flat_map (expiring config k e calls)) same.live_is
   event_same e (Stop calls) = ap (λ (ls : List Holder). flat_map (λ (c : Call). in_cell c End ∷ closing_as e c ls) calls) same.held_is
 
   pub script_same : (e : BoardEntry) → script config h e ≡ script config k e

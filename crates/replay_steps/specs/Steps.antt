@@ -26,7 +26,7 @@ use Rattle.relay_core.specs.Records.{as_logged}
 use Rattle.relay_core.specs.Turns.{IsAbove, IsTurn, with_turn}
 use Rattle.board_turns.specs.Between.{board_of}
 use Rattle.board_turns.specs.Stops.{stop_entry}
-use Rattle.board_turns.specs.Ticks.{IsDueBy, tick_entry}
+use Rattle.board_turns.specs.Ticks.{EndsRightly, tick_entry}
 use Rattle.board_turns.specs.Controls.{RequestRecord, control_of, entry_at, moment_at}
 use Rattle.board_turns.specs.DeviceAnswers.{draws_of}
 use Rattle.ng_server.specs.ControlTurns.{is_too_long}
@@ -252,11 +252,11 @@ Arrives config l port source bytes failing (arrived.Untold untold.DeviceFault) n
 -- Ticks.
 
 -- A tick at the clock's moment, or at the board's last one, where that is later: one turn of the board, with the entry that ends these calls.
--- A live call is among them just where it is due by the whole history of its cell, and how many they are is printed
+-- A live call is among them just where the tick has to end it, by the whole history of its cell, and how many they are is printed
 pub record TicksAt (config : Config) (clock : ℕ) (l : List Entry) (e : Printed) (new : List Entry) : Type 0 where
   pub calls : List Call
   pub turns : TurnsBoard config l (tick_entry (board_of l) clock calls) new
-  pub due : (c : Call) → In c (live (board_of l)) → IsDueBy config l c.cell (max clock (board_last_moment (board_of l))) (has (map (λ (d : Call). d.number) calls) c.number)
+  pub due : (c : Call) → In c (live (board_of l)) → EndsRightly config (board_of l) l (max clock (board_last_moment (board_of l))) c (has (map (λ (d : Call). d.number) calls) c.number)
   pub printed : e ≡ event.Ended (length calls)
 
 -- Steps.

@@ -47,7 +47,7 @@ impl<'a> Devices<'a> {
         self.link.tells() && self.ports.tells() && self.keys.tells()
     }
 
-    /// Why one of them didn't do as the script says: it tells nothing any more, for want of memory, or it did otherwise.
+    /// Why one of them didn't do as the script says: it logs nothing any more, for want of memory, or it did otherwise.
     pub(crate) fn cause(&self) -> Untold
         ensures { result ≡ Untold.DeviceFault → IsSome self.now.link.log × IsSome self.now.ports.log × IsSome self.now.keys.log }
     {

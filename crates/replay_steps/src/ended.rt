@@ -9,7 +9,7 @@ pub enum Ended {
     ScriptRead,
     /// A line could not be written. Nothing was done after it.
     PrintFault,
-    /// There was no memory, or a device in memory told nothing any more.
+    /// There was no memory, or a device in memory logged nothing any more.
     OutOfMemory,
     /// A device in memory did otherwise than the script says, at a line that calls devices: `ng`, `take`, `relay` or `packet`. The steps of
     /// the lines before were made.
@@ -19,7 +19,7 @@ pub enum Ended {
 /// Why it can't be told what a step did.
 #[derive(Clone, Copy, PartialEq, Eq, Debug)]
 pub(crate) enum Untold {
-    /// There was no memory, or a device in memory told nothing any more.
+    /// There was no memory, or a device in memory logged nothing any more.
     OutOfMemory,
     /// A device in memory did otherwise than the script says: it gave another datagram, packet or key, or a call failed where it had
     /// not to, or did not where it had to.

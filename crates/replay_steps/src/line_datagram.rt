@@ -56,7 +56,7 @@ fn gave_line(link: &ReplayLink<'_>, source: Addr, bytes: &[u8]) -> bool
     }
 }
 
-/// Why the link didn't do as the script says: it tells nothing any more, for want of memory, or it did otherwise.
+/// Why the link didn't do as the script says: it logs nothing any more, for want of memory, or it did otherwise.
 fn cause_of(link: &ReplayLink<'_>) -> Untold
     ensures { result ≡ Untold.DeviceFault → IsSome link.now.log }
 {

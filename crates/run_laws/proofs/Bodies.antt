@@ -87,9 +87,9 @@ read_body number pairs short spells =
 
 -- The command of a body.
 
--- a command that ends no call
+-- a command that ends no call, at once or later
 abbrev pub EndsNothing : Said → Type 0
-EndsNothing (Delete id tag fatal) = ⊥
+EndsNothing (Delete id tag fatal seconds) = ⊥
 EndsNothing _ = Unit {0}
 
 -- and what asks none, or is refused

@@ -2,6 +2,7 @@
 use Rattle.std.proofs.Common.{◌≡◌, refl, subst, ℕ, ◌<◌, ◌^◌, true, false, cond, not, Bool, List, [], length, Option, None, Some, Result, Ok, Err}
 use Rattle.std.specs.Prelude.{◌&&◌, ◌||◌, nat_le, is_some}
 use Rattle.std.specs.List.{list_any}
+use Rattle.histories.specs.Words.{or_else}
 use Rattle.relay_outside.specs.declared.settings.Config.{Config}
 use Rattle.ng_bencode.specs.Spells.{spelling}
 use Rattle.ng_command.specs.Meanings.{Said, Ping, Offer, Answer, Delete, Query, Listing}
@@ -11,9 +12,9 @@ use Rattle.offer_answer.specs.Rounds.{Round, OfferAsk, AnswerAsk}
 use Rattle.offer_answer.specs.Plan as plan
 use Rattle.call_board.specs.Acts as act
 use Rattle.call_board.specs.Acts.{Call, Act, Given, Control, BoardEntry}
-use Rattle.call_board.specs.Answers.{Answering, leased_pairs, offer_ask, offer_leased, offer_unless, offer_to, answer_ask, answer_unless, answer_to, query_of, answering_command, answering_asked, answering, Answered, spelled, answering_unless}
+use Rattle.call_board.specs.Answers.{Answering, ending_error, leased_pairs, offer_ask, offer_leased, offer_unless, offer_to, answer_ask, answer_unless, answer_to, query_of, answering_command, answering_asked, answering, Answered, spelled, answering_unless}
 use Rattle.call_board.specs.Requests.{ReadsBody, asked}
-use Rattle.call_board.specs.Calls.{live, find_call, new_call, rounds}
+use Rattle.call_board.specs.Calls.{live, find_call, new_call, is_ending, rounds}
 use Rattle.call_board.specs.Fits.{is_repeat, is_read}
 use Rattle.call_board.specs.Pairs.{free_in, is_short}
 use Rattle.call_board.specs.Replies.{Fault, reply_datagram}
@@ -21,7 +22,7 @@ use Rattle.board_turns.specs.Controls.{RequestRecord, unanswered, with_answer}
 use Rattle.load_maker.specs.Datagrams.{body_of}
 use Rattle.run_laws.proofs.Bodies.{EndsNothing, AsksNoEnd, asks_no_end}
 
--- the act ends no call
+-- the act ends no call at once
 abbrev pub EndsNone : Act → Type 0
 EndsNone (act.Deleted of) = ⊥
 EndsNone _ = Unit {0}
@@ -43,7 +44,7 @@ module _ (config : Config) (h : List BoardEntry) (given : Given) where
 
   by_offer : (id : List ℕ) (ask : OfferAsk) (found : Option Call) → EndsNone (offer_to config h given id ask found).act
   by_offer id ask None = by_plan ask (new_call h id) true [] (plan.offer_fault [] ask)
-  by_offer id ask (Some of) = by_plan ask of false (rounds h of.number) (plan.offer_fault (rounds h of.number) ask)
+  by_offer id ask (Some of) = by_plan ask of false (rounds h of.number) (or_else (ending_error (is_ending h of.number)) (plan.offer_fault (rounds h of.number) ask))
 
   by_signal : (ask : AnswerAsk) (of : Call) (before : List Round) (fault : Option ErrorCode) → EndsNone (answer_unless config ask of before fault).act
   by_signal ask of before (Some code) = tt
@@ -51,7 +52,7 @@ module _ (config : Config) (h : List BoardEntry) (given : Given) where
 
   by_answer : (ask : AnswerAsk) (found : Option Call) → EndsNone (answer_to config h ask found).act
   by_answer ask None = tt
-  by_answer ask (Some of) = by_signal ask of (rounds h of.number) (plan.answer_fault (rounds h of.number) ask)
+  by_answer ask (Some of) = by_signal ask of (rounds h of.number) (or_else (ending_error (is_ending h of.number)) (plan.answer_fault (rounds h of.number) ask))
 
   by_query : (found : Option Call) → EndsNone (query_of h given found).act
   by_query None = tt
@@ -62,7 +63,7 @@ module _ (config : Config) (h : List BoardEntry) (c : Control) where
   by_command Ping none = tt
   by_command (Offer id from_tag sdp options) none = by_offer config h c.given id (offer_ask from_tag sdp options c.chosen) (find_call h id)
   by_command (Answer id from_tag to_tag sdp options) none = by_answer config h c.given (answer_ask from_tag to_tag sdp options c.chosen) (find_call h id)
-  by_command (Delete id from_tag fatal) none = absurd none
+  by_command (Delete id from_tag fatal seconds) none = absurd none
   by_command (Query id) none = by_query config h c.given (find_call h id)
   by_command (Listing limit) none = tt
 
@@ -85,6 +86,7 @@ unless_ends (act.Answered answer) never = tt
 unless_ends (act.Deleted of) never = never of refl
 unless_ends (act.Queried of) never = tt
 unless_ends act.Told never = tt
+unless_ends (act.Delayed of s) never = tt
 
 -- What the datagram does that is recorded so, where its body is one of a load
 module _ (config : Config) (h : List BoardEntry) (x : RequestRecord) (number : ℕ) (body_is : x.body ≡ spelling (body_of number)) (short : x.too_long ≡ false → length x.body < 2 ^ 64) where

@@ -77,7 +77,7 @@ module _ (config : Config) (h : List BoardEntry) (e : BoardEntry) where
   in_spent c (Ok Ping) w i q = elim i [ ]
   in_spent c (Ok (Offer id from sdp options)) w i q = elim i [ ]
   in_spent c (Ok (Answer id from to sdp options)) w i q = elim i [ ]
-  in_spent c (Ok (Delete id from fatal)) w i q = elim i [ ]
+  in_spent c (Ok (Delete id from fatal seconds)) w i q = elim i [ ]
   in_spent c (Ok (Listing limit)) w i q = elim i [ ]
   in_spent c (Err code) w i q = elim i [ ]
 
@@ -104,6 +104,7 @@ module _ (config : Config) (h : List BoardEntry) (e : BoardEntry) where
   in_act c (act.Deleted of) w none i q = none
   in_act c (act.Queried of) w none i q = in_reading (Some of) c.given.report w i q
   in_act c act.Told w none i q = elim i [ ]
+  in_act c (act.Delayed of s) w none i q = elim i [ ]
 
 -- What the link of a load gave.
 

@@ -4,7 +4,7 @@ use Rattle.std.specs.Prelude.{codes}
 use Rattle.relay_outside.specs.declared.address.Family.TheVariants.{V6}
 use Rattle.port_pool.specs.Ports.{pair_count}
 use Rattle.ng_command.specs.Meanings as said
-use Rattle.ng_reply.specs.declared.code.ErrorCode.TheVariants.{E3, E9, E10, E13, E14, E15, E16, E17}
+use Rattle.ng_reply.specs.declared.code.ErrorCode.TheVariants.{E3, E9, E10, E13, E14, E15, E16, E17, E19}
 use Rattle.port_pool.specs.declared.holder.Side.TheVariants.{B}
 use Rattle.offer_answer.specs.Rounds.{Round}
 use Rattle.offer_answer.specs.Plan as plan
@@ -13,9 +13,9 @@ use Rattle.call_board.specs.Acts.{Call, Given, Control, Tick, Stop, BoardEntry}
 use Rattle.call_board.specs.Calls.{rounds}
 use Rattle.call_board.specs.Pairs.{free_in, is_short, drawn_keys_from}
 use Rattle.call_board.specs.Replies.{Pong, Done, Warned, Reported, Listed, Fault, reply_datagram}
-use Rattle.call_board.specs.Answers.{failing, telling, answering_command, answering_asked, answering_unless, delete_of, offer_planned, offer_leased, leased_pairs, offering}
+use Rattle.call_board.specs.Answers.{failing, telling, answering_command, answering_asked, answering_unless, delete_of, offer_to, answer_to, offer_planned, offer_leased, leased_pairs, offering}
 use Rattle.call_board.specs.Fits.{FitsAt, named_live}
-use Rattle.call_board.proofs.rows.Histories.{config, asked, options, from_port, given, at, history_of, c1, c2, c3, leg, lease, begins, offer, deletes, key}
+use Rattle.call_board.proofs.rows.Histories.{config, asked, options, from_port, given, at, history_of, c1, c2, c3, leg, lease, begins, offer, deletes, ending, answered, key}
 
 abbrev datagram : Given → Control
 datagram gave = record { source = from_port 2223; cookie = codes "7_o"; body = []; too_long = false; pairs = None; chosen = []; given = gave; reply = []; act = act.Told }
@@ -62,27 +62,47 @@ answer_of_none = refl
 query_of_none : answering_command config two (datagram given) (said.Query (codes "c3")) ≡ record { reply = Fault E9; act = act.Failed E9 }
 query_of_none = refl
 
-delete_of_none : answering_command config two (datagram given) (said.Delete (codes "c3") None false) ≡ record { reply = Warned E9; act = act.Told }
+delete_of_none : answering_command config two (datagram given) (said.Delete (codes "c3") None false 0) ≡ record { reply = Warned E9; act = act.Told }
 delete_of_none = refl
 
-fatal_delete_of_none : answering_command config two (datagram given) (said.Delete (codes "c3") None true) ≡ record { reply = Fault E9; act = act.Failed E9 }
+fatal_delete_of_none : answering_command config two (datagram given) (said.Delete (codes "c3") None true 0) ≡ record { reply = Fault E9; act = act.Failed E9 }
 fatal_delete_of_none = refl
 
-delete_of_ended : answering_command config (deletes c1 ∷ two) (datagram given) (said.Delete (codes "c1") None false) ≡ record { reply = Warned E9; act = act.Told }
+delete_of_ended : answering_command config (deletes c1 ∷ two) (datagram given) (said.Delete (codes "c1") None false 0) ≡ record { reply = Warned E9; act = act.Told }
 delete_of_ended = refl
 
-delete_of_live : answering_command config two (datagram given) (said.Delete (codes "c2") None false) ≡ record { reply = Done; act = act.Deleted c2 }
+delete_of_live : answering_command config two (datagram given) (said.Delete (codes "c2") None false 0) ≡ record { reply = Done; act = act.Deleted c2 }
 delete_of_live = refl
 
 -- a delete with a tag ends the call where the tag is a side's
-delete_by_side : plan.is_side (rounds two 0) (codes "a") ≡ true → delete_of two (Some (codes "a")) true (Some c1) ≡ record { reply = Done; act = act.Deleted c1 }
+delete_by_side : plan.is_side (rounds two 0) (codes "a") ≡ true → delete_of two (Some (codes "a")) true 0 (Some c1) ≡ record { reply = Done; act = act.Deleted c1 }
 delete_by_side is = ap (λ b. cond b (record { reply = Done; act = act.Deleted c1 }) (failing E10)) is
 
-delete_by_stranger : plan.is_side (rounds two 0) (codes "z") ≡ false → delete_of two (Some (codes "z")) false (Some c1) ≡ record { reply = Warned E10; act = act.Told }
+delete_by_stranger : plan.is_side (rounds two 0) (codes "z") ≡ false → delete_of two (Some (codes "z")) false 0 (Some c1) ≡ record { reply = Warned E10; act = act.Told }
 delete_by_stranger is = ap (λ b. cond b (record { reply = Done; act = act.Deleted c1 }) (telling (Warned E10))) is
 
-fatal_delete_by_stranger : plan.is_side (rounds two 0) (codes "z") ≡ false → delete_of two (Some (codes "z")) true (Some c1) ≡ record { reply = Fault E10; act = act.Failed E10 }
+fatal_delete_by_stranger : plan.is_side (rounds two 0) (codes "z") ≡ false → delete_of two (Some (codes "z")) true 0 (Some c1) ≡ record { reply = Fault E10; act = act.Failed E10 }
 fatal_delete_by_stranger is = ap (λ b. cond b (record { reply = Done; act = act.Deleted c1 }) (failing E10)) is
+
+-- a delete with a delay has a live call end later, and one without ends also a call that is ending
+delete_later : answering_command config two (datagram given) (said.Delete (codes "c2") None false 5) ≡ record { reply = Done; act = act.Delayed c2 5 }
+delete_later = refl
+
+delete_again_later : answering_command config ending (datagram given) (said.Delete (codes "c1") None false 5) ≡ record { reply = Done; act = act.Delayed c1 5 }
+delete_again_later = refl
+
+delete_at_once : answering_command config ending (datagram given) (said.Delete (codes "c1") None false 0) ≡ record { reply = Done; act = act.Deleted c1 }
+delete_at_once = refl
+
+-- a call that is ending takes no offer or answer, whatever else is at fault, and is listed
+offer_of_ending : offer_to config ending given (codes "c1") asked (Some c1) ≡ record { reply = Fault E19; act = act.Failed E19 }
+offer_of_ending = refl
+
+answer_of_ending : answer_to config ending answered (Some c1) ≡ record { reply = Fault E19; act = act.Failed E19 }
+answer_of_ending = refl
+
+list_with_ending : answering_command config ending (datagram given) (said.Listing 32) ≡ record { reply = Listed (codes "c1" ∷ codes "c2" ∷ []); act = act.Told }
+list_with_ending = refl
 
 -- a query tells the moments of the first and of the last accepted offer or answer
 query_of_live : answering_command config (history_of (at 5 (offer c1 true [] [] []) ∷ at 9 (offer c1 false [] [] []) ∷ at 12 (act.Queried c1) ∷ [])) (datagram (record given { report = Some [] })) (said.Query (codes "c1"))
@@ -139,10 +159,20 @@ named_is_live = refl
 
 -- a tick ends live calls alone, and a stop all of them
 tick_of_none : FitsAt config [] 0 (Tick (c1 ∷ [])) → ⊥
-tick_of_none fits = let e : c1 ∷ [] ≡ [] = fits in cc
+tick_of_none fits = let e : c1 ∷ [] ≡ [] = fits.0 in cc
 
 tick_of_ended : FitsAt config (deletes c1 ∷ two) 0 (Tick (c1 ∷ [])) → ⊥
-tick_of_ended fits = let e : c1 ∷ [] ≡ [] = fits in cc
+tick_of_ended fits = let e : c1 ∷ [] ≡ [] = fits.0 in cc
+
+-- a tick names each call that is due, and may end others
+tick_passes_over_due : FitsAt config ending 5000 (Tick []) → ⊥
+tick_passes_over_due fits = let e : false ≡ true = fits.1.0 refl in cc
+
+tick_ends_due : FitsAt config ending 5000 (Tick (c1 ∷ []))
+tick_ends_due = (refl, ((λ due. refl), ((λ due. absurd (let e : false ≡ true = due in cc)), tt)))
+
+tick_before_due : FitsAt config ending 4999 (Tick [])
+tick_before_due = (refl, ((λ due. absurd (let e : false ≡ true = due in cc)), ((λ due. absurd (let e : false ≡ true = due in cc)), tt)))
 
 stop_of_some : FitsAt config two 0 (Stop (c1 ∷ [])) → ⊥
 stop_of_some fits = let e : c1 ∷ [] ≡ c1 ∷ c2 ∷ [] = fits in cc

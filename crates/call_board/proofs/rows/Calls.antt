@@ -7,8 +7,8 @@ use Rattle.port_pool.specs.declared.signal.SectionSignal.TheVariants.{Reject}
 use Rattle.offer_answer.specs.Rounds as round
 use Rattle.call_board.specs.Acts as act
 use Rattle.call_board.specs.Acts.{Call, BoardEntry}
-use Rattle.call_board.specs.Calls.{live, find_call, new_call, lowest_but, rounds, rounds_of_call, first_moment, latest_moment}
-use Rattle.call_board.proofs.rows.Histories.{asked, answered, at, did, tick, stop, history_of, call_of, c1, c2, c3, leg, offer, begins, offers, answers, deletes}
+use Rattle.call_board.specs.Calls.{live, find_call, new_call, lowest_but, rounds, rounds_of_call, first_moment, latest_moment, due_moment, due_after, is_ending, is_due_at}
+use Rattle.call_board.proofs.rows.Histories.{asked, answered, at, did, tick, stop, history_of, call_of, c1, c2, c3, leg, offer, begins, offers, answers, deletes, delays, ending}
 
 -- Live calls.
 
@@ -122,3 +122,27 @@ last_signal = refl
 
 last_signal_of_second : latest_moment talk 1 ≡ 6
 last_signal_of_second = refl
+
+-- Calls that are ending.
+
+due_at_the_earliest : due_moment ending 0 ≡ Some 5000
+due_at_the_earliest = refl
+
+not_due_before : is_due_at ending 0 4999 ≡ false
+not_due_before = refl
+
+due_from_then_on : (is_due_at ending 0 5000 ≡ true) × (is_due_at ending 0 5001 ≡ true)
+due_from_then_on = (refl, refl)
+
+others_go_on : is_ending ending 1 ≡ false
+others_go_on = refl
+
+still_live_when_ending : live ending ≡ c1 ∷ c2 ∷ []
+still_live_when_ending = refl
+
+-- a call that was begun anew under an old call-id isn't ending
+not_ending_anew : is_ending (history_of (begins c1 [] ∷ delays 0 c1 5 ∷ deletes c1 ∷ begins c2 [] ∷ [])) 1 ≡ false
+not_ending_anew = refl
+
+due_at_most : due_after 18446744073709551615 1 ≡ 18446744073709551615
+due_at_most = refl

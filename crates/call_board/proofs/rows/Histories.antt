@@ -115,5 +115,13 @@ answers c signal = did (act.Answered (record { of = c; ask = answered; signal = 
 abbrev pub deletes : Call → BoardEntry
 deletes c = did (act.Deleted c)
 
+-- a delete of the call at a moment, with a delay in seconds
+abbrev pub delays : ℕ → Call → ℕ → BoardEntry
+delays moment c seconds = at moment (act.Delayed c seconds)
+
+-- c1 is to end at 6,000, then at 5,000, and a later moment changes nothing; c2 goes on
+abbrev pub ending : List BoardEntry
+ending = history_of (begins c1 [] ∷ begins c2 [] ∷ delays 1000 c1 5 ∷ delays 2000 c1 3 ∷ delays 3000 c1 9 ∷ [])
+
 abbrev pub lease : (pair generation : ℕ) → Lease
 lease pair generation = record { pair = pair; generation = generation }

@@ -266,7 +266,7 @@ after_tick = record { moment = 60002; event = Tick [] } ∷ at 60001 anew ∷ be
 -- such a history can come about
 whole_fits : IsFitting config (record { moment = 60002; event = Stop (c1_anew ∷ []) } ∷ after_tick)
 unfolding turns
-whole_fits = (refl, (refl, (anew_fits, (repeated_fits, (deleted_fits, (again_fits, (offered_fits, (ping_fits, tt))))))))
+whole_fits = (refl, ((refl, ((λ due. due), tt)), (anew_fits, (repeated_fits, (deleted_fits, (again_fits, (offered_fits, (ping_fits, tt))))))))
 
 all_is_free : free config (record { moment = 60002; event = Stop (c1_anew ∷ []) } ∷ after_tick) ≡ 0 ∷ 1 ∷ 2 ∷ 3 ∷ []
 unfolding turns

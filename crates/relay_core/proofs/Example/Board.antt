@@ -13,7 +13,7 @@ use Rattle.call_board.specs.KeptReplies.{kept_reply}
 use Rattle.call_board.specs.Replies.{Done, Described, reply_datagram}
 use Rattle.call_board.specs.Answers.{answering_unless}
 use Rattle.call_board.specs.Fits.{answered_in, FitsControl}
-use Rattle.relay_core.proofs.Example.Datagrams.{config, id, offer, answer, legs, keys, first_draw, second_draw, offered, line, signal, offer_body, offer_pairs, offer_is_read, offer_is_asked, offer_is_faultless, offer_demands, offer_is_heard, answer_body, answer_pairs, answer_is_read, answer_is_asked, answer_is_faultless, answer_commits, answer_is_heard, delete_body, delete_pairs, delete_is_read, delete_is_asked, next_id, next_body, next_pairs, next_offer, next_legs, next_is_read, next_is_asked, next_is_faultless, next_demands, next_is_heard}
+use Rattle.relay_core.proofs.Example.Datagrams.{config, id, offer, answer, legs, keys, first_draw, second_draw, offered, line, signal, offer_body, offer_pairs, offer_is_read, offer_is_asked, offer_is_faultless, offer_demands, offer_is_heard, answer_body, answer_pairs, answer_is_read, answer_is_asked, answer_is_faultless, answer_commits, answer_is_heard, delete_body, delete_pairs, delete_is_read, delete_is_asked, next_id, next_body, next_pairs, next_offer, next_legs, next_is_read, next_is_asked, next_is_faultless, next_demands, next_is_heard, last_legs, delay_body, delay_pairs, delay_is_read, delay_is_asked}
 
 -- who sends the datagrams
 abbrev pub controller : Addr
@@ -151,7 +151,7 @@ delete_turn = record {
 abbrev pub after_answer : List BoardEntry
 after_answer = record { moment = 2000; event = Turn answer_turn } ∷ after_repeat
 
--- a tick finds no call due
+-- a tick finds that no call has timed out
 abbrev pub after_tick : List BoardEntry
 after_tick = record { moment = 3000; event = Tick [] } ∷ after_answer
 
@@ -224,3 +224,95 @@ next_fits = record {
   reports = λ runs_out. absurd (let e = runs_out in cc);
   answers = next_is_answered;
 }
+
+-- A tick ends the next call an hour after its offer, which comes again under another cookie and begins the last call.
+
+abbrev pub after_next : List BoardEntry
+after_next = record { moment = 6000; event = Turn next_turn } ∷ after_delete
+
+abbrev pub after_timeout : List BoardEntry
+after_timeout = record { moment = 3606000; event = Tick (next_call ∷ []) } ∷ after_next
+
+abbrev pub last_call : Call
+last_call = record { number = 2; cell = 1; id = next_id }
+
+abbrev pub accepted_last : act.Offer
+accepted_last = record { of = last_call; begins = true; ask = next_offer; legs = last_legs; keys = []; dropped = [] }
+
+abbrev pub last_turn : Control
+last_turn = record next_turn {
+  cookie = codes "5";
+  reply = reply_datagram config (codes "5") next_body (Described (plan.offer_text config [] next_offer (30000 ∷ 30002 ∷ []) []));
+  act = act.Offered accepted_last;
+}
+
+last_is_answered : answered_in last_turn ≡ answering_unless config after_timeout last_turn (kept_reply after_timeout controller (codes "5") 3607000)
+unfolding cache.kept pair_count
+last_is_answered = rw (next_is_asked, next_is_faultless, next_demands) refl
+
+last_is_framed : frame (codes "5" ++ 32 ∷ next_body) ≡ Some (codes "5", next_body)
+unfolding next_body
+last_is_framed = refl
+
+last_is_short : false ≡ nat_lt 16384 (length (codes "5" ++ 32 ∷ next_body))
+unfolding next_body
+last_is_short = refl
+
+pub last_fits : FitsControl config after_timeout 3607000 last_turn
+last_fits = record {
+  framed = last_is_framed;
+  length_is = last_is_short;
+  reads = λ read. next_is_read;
+  hears = λ heard. rw next_is_asked next_is_heard;
+  gives = rw (next_is_asked, next_demands) (record { all_opened = refl }, record { all_drawn = refl; none_failed = refl }, refl);
+  reports = λ runs_out. absurd (let e = runs_out in cc);
+  answers = last_is_answered;
+}
+
+-- The delete with a delay of half a minute.
+
+abbrev pub delay_turn : Control
+delay_turn = record {
+  source = controller;
+  cookie = codes "6";
+  body = delay_body;
+  too_long = false;
+  pairs = Some delay_pairs;
+  chosen = [];
+  given = nothing_given;
+  reply = reply_datagram config (codes "6") delay_body Done;
+  act = act.Delayed last_call 30;
+}
+
+abbrev pub after_last : List BoardEntry
+after_last = record { moment = 3607000; event = Turn last_turn } ∷ after_timeout
+
+delay_is_answered : answered_in delay_turn ≡ answering_unless config after_last delay_turn (kept_reply after_last controller (codes "6") 3608000)
+unfolding cache.kept
+delay_is_answered = rw delay_is_asked refl
+
+delay_is_framed : frame (codes "6" ++ 32 ∷ delay_body) ≡ Some (codes "6", delay_body)
+unfolding delay_body
+delay_is_framed = refl
+
+delay_is_short : false ≡ nat_lt 16384 (length (codes "6" ++ 32 ∷ delay_body))
+unfolding delay_body
+delay_is_short = refl
+
+pub delay_fits : FitsControl config after_last 3608000 delay_turn
+delay_fits = record {
+  framed = delay_is_framed;
+  length_is = delay_is_short;
+  reads = λ read. delay_is_read;
+  hears = λ heard. absurd (let e : false ≡ true = heard in cc);
+  gives = (record { no_opens = refl; no_draws = refl; none_failed = refl }, refl);
+  reports = λ runs_out. absurd (let e = runs_out in cc);
+  answers = delay_is_answered;
+}
+
+abbrev pub after_delay : List BoardEntry
+after_delay = record { moment = 3608000; event = Turn delay_turn } ∷ after_last
+
+-- a tick just before the due moment
+abbrev pub after_early : List BoardEntry
+after_early = record { moment = 3637999; event = Tick [] } ∷ after_delay

@@ -1,16 +1,18 @@
 -- What the list of the worked calls has.
-use Rattle.std.proofs.Common.{refl, [], arith}
+use Rattle.std.proofs.Common.{◌≡◌, ap, refl, Bool, true, false, [], ◌==◌, arith}
+use Rattle.std.specs.Prelude.{◌&&◌, not}
 use Rattle.rtp_packet.specs.declared.head.Half.TheVariants.{Rtp}
 use Rattle.histories.specs.Words.{here, there}
 use Rattle.port_pool.specs.declared.holder.Holder.{Holder}
 use Rattle.port_pool.specs.Boxes.{Close}
-use Rattle.relay_core.specs.Entries.{Box, box_of}
+use Rattle.call_cell.specs.Cells.{Expire}
+use Rattle.relay_core.specs.Entries.{Event, Cell, Box, Entry, box_of}
 use Rattle.relay_core.specs.WholeCalls.{OccursOf, CarriesPacket, CarriesCalls}
-use Rattle.relay_core.proofs.Example.Datagrams.{config, leg_a, leg_b, legs, key_80, line, next_leg_a}
-use Rattle.relay_core.proofs.Example.Board.{accepted_offer, accepted_answer, offer_turn, repeat_turn, answer_turn, delete_turn, accepted_next, next_turn}
+use Rattle.relay_core.proofs.Example.Datagrams.{config, leg_a, leg_b, legs, key_80, line, next_leg_a, last_legs}
+use Rattle.relay_core.proofs.Example.Board.{accepted_offer, accepted_answer, offer_turn, repeat_turn, answer_turn, delete_turn, accepted_next, next_turn, accepted_last, last_call, last_turn, delay_turn}
 use Rattle.relay_core.proofs.Example.Cell.{relayed, sending, relayed_back, sending_back, reply_note, is_wire, refused_late}
-use Rattle.relay_core.proofs.Example.Members.{Each, none_left, ◌&◌, of_each, at_place}
-use Rattle.relay_core.proofs.Example.Entries.{entries, offered, repeated, answered, taken, sent, taken_back, sent_back, asked, ticked, ended, closed_b, closed_a, deleted, offered_next, relayed_late, timed_out}
+use Rattle.relay_core.proofs.Example.Members.{Each, none_left, ◌&◌, of_each, at_place, of_all, together, equal_is}
+use Rattle.relay_core.proofs.Example.Entries.{entries, offered, repeated, answered, taken, sent, taken_back, sent_back, asked, ticked, ended, closed_b, closed_a, deleted, offered_next, relayed_late, timed_out, offered_last, delayed, asked_early, ticked_early, ended_last, closed_b_last, closed_a_last, over}
 
 -- the box of the leg closes
 abbrev Closes : Holder → Type 0
@@ -18,6 +20,30 @@ Closes leg = OccursOf entries deleted.number (box_of config leg.pair) (Box Close
 
 boxes_close : Each Closes legs
 boxes_close = (closed_b, at_place entries 15 refl, refl, refl, refl) & (closed_a, at_place entries 16 refl, refl, refl, refl) & none_left
+
+-- the same at the end of the last call
+abbrev ClosesLast : Holder → Type 0
+ClosesLast leg = OccursOf entries over.number (box_of config leg.pair) (Box Close)
+
+boxes_close_last : Each ClosesLast last_legs
+boxes_close_last = (closed_b_last, at_place entries 36 refl, refl, refl, refl) & (closed_a_last, at_place entries 37 refl, refl, refl, refl) & none_left
+
+-- no call is asked then whether it has timed out
+abbrev asks : Event → Bool
+asks (Cell (Expire _)) = true
+asks _ = false
+
+abbrev is_no_question : Entry → Bool
+is_no_question e = not (e.board == over.number && asks e.event)
+
+not_both : (b : Bool) → not b ≡ true → b ≡ true → ⊥
+not_both true h p = let k : false ≡ true = h in cc
+not_both false h p = let k : false ≡ true = p in cc
+
+unasked : (finds : Bool) → OccursOf entries over.number last_call.cell (Cell (Expire finds)) → ⊥
+unasked finds o =
+    not_both (o.0.board == over.number && asks o.0.event) (of_all is_no_question entries refl o.0 o.1)
+    (together (o.0.board == over.number) (asks o.0.event) (equal_is o.0.board over.number o.4) (ap asks o.3))
 
 to_b : CarriesPacket config entries leg_a leg_b
 to_b = record {
@@ -98,7 +124,25 @@ carries = record {
   for_former = refl;
   is_stale = refl;
   times_out = (timed_out, at_place entries 27 refl, refl, refl);
-  in_turn = (omega arith, (omega arith, (omega arith, (omega arith, (omega arith, (omega arith, tt))))));
-  in_cell = (omega arith, (omega arith, (omega arith, (omega arith, tt))));
-  same_cell = refl;
+  last_turn = last_turn;
+  is_offered_last = (offered_last, at_place entries 31 refl, refl, refl);
+  last = accepted_last;
+  accepts_last = refl;
+  begins_last = refl;
+  delay_turn = delay_turn;
+  is_delayed = (delayed, at_place entries 32 refl, refl, refl);
+  seconds = 30;
+  accepts_delay = refl;
+  some_delay = omega arith;
+  early = (ticked_early, at_place entries 34 refl, refl, refl);
+  asks_early = (asked_early, at_place entries 33 refl, refl, refl, refl);
+  is_over = (over, at_place entries 38 refl, refl, refl);
+  when_due = refl;
+  just_before = refl;
+  unasked = unasked;
+  ends_last = (ended_last, at_place entries 35 refl, refl, refl, refl);
+  closes_last = of_each ClosesLast last_legs boxes_close_last;
+  in_turn = (omega arith, (omega arith, (omega arith, (omega arith, (omega arith, (omega arith, (omega arith, (omega arith, (omega arith, (omega arith, tt))))))))));
+  in_cell = (omega arith, (omega arith, (omega arith, (omega arith, (omega arith, (omega arith, tt))))));
+  same_cell = (refl, refl);
 }

@@ -23,7 +23,7 @@ use Rattle.call_cell.specs.Cells.{CellEntry, Prepare, Commit, Relay, Receipt, Re
 use Rattle.call_cell.specs.Protection.{Stopped, Passed, opened_rtp, opened_under, wrapped_under}
 use Rattle.call_cell.specs.Demands.{is_due, FitsRelay}
 use Rattle.call_cell.specs.Deeds.{judged, deed_judged, deed}
-use Rattle.relay_core.proofs.Example.Datagrams.{config, leg_a, leg_b, legs, keys, first_draw, answerers_key, signal, signal_b, next_legs}
+use Rattle.relay_core.proofs.Example.Datagrams.{config, leg_a, leg_b, legs, keys, first_draw, answerers_key, signal, signal_b, next_legs, last_legs}
 use Rattle.relay_core.proofs.Example.Wire.{IsWire, protected_is_wire}
 
 -- From side A to side B.
@@ -172,7 +172,7 @@ pub late_fits : FitsRelay config next_offered refused_late
 unfolding deed
 late_fits = record { does = refl; answered = refl }
 
--- A tick doesn't find the first call due after its packets; it finds the next one due an hour after its offer.
+-- After its packets the first call hasn't timed out at a tick; the next one has, an hour after its offer.
 
 abbrev after_relays : List CellEntry
 after_relays = record { moment = 2040; event = Relay relayed_back } ∷ after_relay
@@ -187,3 +187,12 @@ after_late = record { moment = 6010; event = Relay refused_late } ∷ next_offer
 pub is_due_now : true ≡ is_due config after_late 3606000
 unfolding is_due
 is_due_now = refl
+
+-- The last one hasn't, half a minute after its offer.
+
+abbrev last_offered : List CellEntry
+last_offered = record { moment = 3607000; event = Prepare 2 last_legs [] [] } ∷ []
+
+pub is_not_due_yet : false ≡ is_due config last_offered 3637999
+unfolding is_due
+is_not_due_yet = refl

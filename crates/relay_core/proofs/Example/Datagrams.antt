@@ -1,7 +1,7 @@
--- Two worked calls: an offer of plain RTP towards SRTP, its answer, a delete and another offer, and what each of these
--- datagrams asks.
+-- Three worked calls: an offer of plain RTP towards SRTP, its answer, a delete, another offer and a delete with a delay, and what
+-- each of these datagrams asks.
 use Rattle.std.proofs.Common.{◌≡◌, refl, inl, ℕ, zero, suc, ◌<◌, List, [], ◌∷◌, false, Some, None, replicate, codes, arith}
-use Rattle.std.specs.Prelude.{Ok, slice_index}
+use Rattle.std.specs.Prelude.{Ok, pos, slice_index}
 use Rattle.std.specs.Fmt.{digits}
 use Rattle.base64.specs.Rfc4648.{encode_symbols}
 use Rattle.relay_outside.specs.declared.settings.Config.{Config}
@@ -10,7 +10,7 @@ use Rattle.sdes_lines.specs.declared.crypto_line.Suite.TheVariants.{Tag80, Tag32
 use Rattle.sdes_lines.specs.declared.crypto_line.CryptoLine.{CryptoLine}
 use Rattle.sdes_lines.specs.CryptoLine.{line_text, IsUsable}
 use Rattle.sdp_text.specs.declared.proto.Proto.TheVariants.{Savp}
-use Rattle.ng_bencode.specs.Tree.{Bytes, Entries, entry, no_entries}
+use Rattle.ng_bencode.specs.Tree.{Int, Bytes, Entries, entry, no_entries}
 use Rattle.ng_command.specs.declared.command.Options.{Options}
 use Rattle.ng_command.specs.Meanings as said
 use Rattle.ng_command.specs.Meanings.{Said}
@@ -221,7 +221,7 @@ pub delete_is_read : ReadsBody delete_body (Some delete_pairs)
 unfolding delete_body delete_pairs digits
 delete_is_read = record { ints = (tt, (tt, tt)); deep = omega arith; spelled = refl }
 
-pub delete_is_asked : asked config false (Some delete_pairs) ≡ Ok (said.Delete id None false)
+pub delete_is_asked : asked config false (Some delete_pairs) ≡ Ok (said.Delete id None false 0)
 unfolding asked delete_pairs
 delete_is_asked = refl
 
@@ -270,3 +270,30 @@ next_leg_a = record leg_a { call = 1; generation = 2 }
 
 abbrev pub next_legs : List Holder
 next_legs = next_leg_b ∷ next_leg_a ∷ []
+
+-- The same offer begins the last call, which gets the pairs too, and a delete is to end it after half a minute.
+
+abbrev pub last_leg_b : Holder
+last_leg_b = record leg_b { call = 2; generation = 3 }
+
+abbrev pub last_leg_a : Holder
+last_leg_a = record leg_a { call = 2; generation = 3 }
+
+abbrev pub last_legs : List Holder
+last_legs = last_leg_b ∷ last_leg_a ∷ []
+
+unfoldable pub delay_body : List ℕ
+delay_body = codes "d7:command6:delete7:call-id1:d12:delete delayi30ee"
+
+unfoldable pub delay_pairs : Entries
+delay_pairs =
+    entry (codes "command") (Bytes (codes "delete")) (entry (codes "call-id") (Bytes next_id)
+    (entry (codes "delete delay") (Int (pos 30)) no_entries))
+
+pub delay_is_read : ReadsBody delay_body (Some delay_pairs)
+unfolding delay_body delay_pairs digits
+delay_is_read = record { ints = (tt, (tt, (omega arith, tt))); deep = omega arith; spelled = refl }
+
+pub delay_is_asked : asked config false (Some delay_pairs) ≡ Ok (said.Delete next_id None false 30)
+unfolding asked delay_pairs
+delay_is_asked = refl

@@ -9,8 +9,8 @@ use Rattle.call_cell.specs.Cells.{Prepare, Commit, Relay, Expire, End}
 use Rattle.call_board.specs.Acts.{Turn, Tick}
 use Rattle.relay_core.specs.Entries.{Event, Board, Cell, Box, Entry, is_nested, is_at}
 use Rattle.relay_core.specs.Legal.{is_handed_own, is_handed_boards, last_moment, IsTimed}
-use Rattle.relay_core.proofs.Example.Datagrams.{leg_a, leg_b, legs, keys, signal, next_leg_a, next_leg_b, next_legs}
-use Rattle.relay_core.proofs.Example.Board.{offer_turn, repeat_turn, answer_turn, delete_turn, next_call, next_turn}
+use Rattle.relay_core.proofs.Example.Datagrams.{leg_a, leg_b, legs, keys, signal, next_leg_a, next_leg_b, next_legs, last_leg_a, last_leg_b, last_legs}
+use Rattle.relay_core.proofs.Example.Board.{offer_turn, repeat_turn, answer_turn, delete_turn, next_call, next_turn, last_call, last_turn, delay_turn}
 use Rattle.relay_core.proofs.Example.Cell.{receipt, relayed, receipt_back, relayed_back, late_receipt, refused_late}
 use Rattle.relay_core.proofs.Example.Members.{of_all, before_at, only_one, first_passes, second_passes, together, implied, otherwise, either, equal_by, equal_is, less_by, less_is, at_most_by}
 
@@ -26,8 +26,10 @@ in_box pair number board event = record { place = 2 + pair; number = number; mom
 
 -- The offer's turn opens two boxes and prepares the cell. Its datagram comes again. The answer's turn commits. Side A's box
 -- takes a packet, which the cell relays, and then side B's box takes one; then side A's box takes one more. A tick asks the
--- cell whether it is due, and the delete's turn ends the call and closes the boxes. The next offer's turn opens them again. The
--- packet that was left is relayed, and a tick ends that call.
+-- cell whether it has timed out, and the delete's turn ends the call and closes the boxes. The next offer's turn opens them again.
+-- The packet that was left is relayed, and a tick finds that this call has timed out, and ends it. The last offer's turn opens the
+-- boxes once more, and a delete marks its call as ending: a tick just before it is due asks the cell, and the next one ends the call
+-- and asks nothing.
 
 abbrev pub opened_b : Entry
 opened_b = in_box 0 0 0 (Box (Open leg_b))
@@ -113,11 +115,45 @@ closed_a_anew = in_box 1 5 6 (Box Close)
 abbrev pub timed_out : Entry
 timed_out = on_board 6 3606000 (Board (Tick (next_call ∷ [])))
 
+abbrev pub opened_b_last : Entry
+opened_b_last = in_box 0 5 7 (Box (Open last_leg_b))
+
+abbrev pub opened_a_last : Entry
+opened_a_last = in_box 1 6 7 (Box (Open last_leg_a))
+
+abbrev pub prepared_last : Entry
+prepared_last = in_cell 10 3607000 7 (Cell (Prepare 2 last_legs [] []))
+
+abbrev pub offered_last : Entry
+offered_last = on_board 7 3607000 (Board (Turn last_turn))
+
+abbrev pub delayed : Entry
+delayed = on_board 8 3608000 (Board (Turn delay_turn))
+
+abbrev pub asked_early : Entry
+asked_early = in_cell 11 3637999 9 (Cell (Expire false))
+
+abbrev pub ticked_early : Entry
+ticked_early = on_board 9 3637999 (Board (Tick []))
+
+abbrev pub ended_last : Entry
+ended_last = in_cell 12 3637999 10 (Cell End)
+
+abbrev pub closed_b_last : Entry
+closed_b_last = in_box 0 6 10 (Box Close)
+
+abbrev pub closed_a_last : Entry
+closed_a_last = in_box 1 7 10 (Box Close)
+
+abbrev pub over : Entry
+over = on_board 10 3638000 (Board (Tick (last_call ∷ [])))
+
 abbrev pub entries : List Entry
 entries =
     opened_b ∷ opened_a ∷ prepared ∷ offered ∷ repeated ∷ committed ∷ answered ∷ taken ∷ sent ∷ taken_back ∷ sent_back ∷ taken_late
     ∷ asked ∷ ticked ∷ ended ∷ closed_b ∷ closed_a ∷ deleted ∷ opened_b_anew ∷ opened_a_anew ∷ prepared_anew ∷ offered_next
-    ∷ relayed_late ∷ found_due ∷ ended_next ∷ closed_b_anew ∷ closed_a_anew ∷ timed_out ∷ []
+    ∷ relayed_late ∷ found_due ∷ ended_next ∷ closed_b_anew ∷ closed_a_anew ∷ timed_out ∷ opened_b_last ∷ opened_a_last
+    ∷ prepared_last ∷ offered_last ∷ delayed ∷ asked_early ∷ ticked_early ∷ ended_last ∷ closed_b_last ∷ closed_a_last ∷ over ∷ []
 
 -- Numbers.
 

@@ -1,213 +1,232 @@
-use Rattle.std.proofs.Common.{refl, sym, List, subst, ℕ, true, false, [], ◌∷◌, arith}
+use Rattle.std.proofs.Common.{◌∙◌, sym, subst, ℕ, Bool, true, false, List, [], ◌∷◌, arith}
 use Rattle.relay_outside.specs.declared.ports.PortCall.{PortCall}
 use Rattle.relay_outside.specs.declared.settings.Config.{Config}
-use Rattle.relay_outside.specs.DeviceLogs.{WhereLogged}
-use Rattle.turn_table.specs.Hands.{entries}
+use Rattle.relay_outside.specs.DeviceLogs.{Gained, WhereLogged}
 use Rattle.media_ports.specs.OpenPorts.{OpensHeld}
+use Rattle.media_ports.specs.Openings.{NoneOpened}
+use Rattle.port_pool.specs.declared.holder.Holder.{Holder}
 use Rattle.call_cell.specs.Cells.{Expire}
+use Rattle.call_board.specs.Acts.{Call}
+use Rattle.call_board.specs.declared.board.Board.{Board}
 use Rattle.call_board.specs.Boards.{BoardMatches}
-use Rattle.relay_core.specs.Turns.{GainsNested, made_by}
+use Rattle.relay_core.specs.Turns.{made_by}
+use Rattle.board_turns.specs.declared.board_turn.BoardTurn.{BoardTurn}
 use Rattle.board_turns.specs.InCells.{HasNewKeys, in_cell_of}
-use Rattle.board_turns.proofs.Staying.{may_again, same_config, nests_both, makes_both}
-use Rattle.board_turns.specs.BoardTurns.{MakesNested}
+use Rattle.board_turns.specs.BoardTurns.{MakesNested, MayEnd, MayExpire}
 use Rattle.board_turns.specs.Closings.{pairs_left}
-use Rattle.board_turns.specs.Ties.{PortsFollowRows}
-use Rattle.board_turns.specs.CallEnds.{CanEnd, ending_of, leg_pairs, with_call_ended}
-use Rattle.board_turns.specs.Ticks.{IsDueBy}
-use Rattle.board_turns.proofs.Expiring.{index_below, number_there, cell_there, asked_can, due_by_whole, nothing_parts}
-use Rattle.board_turns.proofs.Tying.{ties_both, ties_gained}
+use Rattle.board_turns.specs.CallEnds.{leg_pairs, with_call_ended}
+use Rattle.board_turns.specs.Ticks.{IsDueBy, asking_of}
+use Rattle.board_turns.proofs.Staying.{may_again, same_config, works_both}
+use Rattle.board_turns.proofs.Expiring.{index_below, number_there, cell_there, live_there, overdue_there, due_by_whole}
+use Rattle.board_turns.proofs.Overdue.{HasToEnd, works_asked, ends_overdue, ends_timed_out, then_can, then_gained}
 use Rattle.board_turns.proofs.Unopened.{theirs_open_none}
 use Rattle.board_turns.proofs.tick.expire_call.Goals as goal
+use Rattle.board_turns.proofs.tick.expire_call.Goals.{else-not-overdue-via-then-not-overdue+else-not-expire_cell, else-not-overdue-via-else-not-overdue}
 
 pub call_at-call-requires : goal.call_at-call-requires
 call_at-call-requires g c =
-    let asks = c.requires.can.2 in
-    index_below c.args.turn.now.main.config.now (made_by c.args.turn.now.main.hand.now) c.args.turn.now.board.now (g.P.PortMaker.log c.args.turn.now.ports.now) c.args.index c.requires.can.0 c.requires.can.1 asks
+    let old = c.args.turn.now in
+    let can = c.requires.can in
+    index_below old.main.config.now (made_by old.main.hand.now) old.board.now (g.P.PortMaker.log old.ports.now) old.main.entry_id.moment c.args.index can.0 can.1 can.2 can.3
 
 pub cell_at-cell-requires : goal.cell_at-cell-requires
 cell_at-cell-requires g c =
-    let asks = c.requires.can.2 in
-    index_below c.args.turn.now.main.config.now (made_by c.args.turn.now.main.hand.now) c.args.turn.now.board.now (g.P.PortMaker.log c.args.turn.now.ports.now) c.args.index c.requires.can.0 c.requires.can.1 asks
+    let old = c.args.turn.now in
+    let can = c.requires.can in
+    index_below old.main.config.now (made_by old.main.hand.now) old.board.now (g.P.PortMaker.log old.ports.now) old.main.entry_id.moment c.args.index can.0 can.1 can.2 can.3
 
-pub expire_cell-requires-clause-cell : goal.expire_cell-requires-clause-cell
-expire_cell-requires-clause-cell g c =
-    let asks = c.requires.can.2 in
-    let is = cell_there c.args.turn.now.main.config.now (made_by c.args.turn.now.main.hand.now) c.args.turn.now.board.now (g.P.PortMaker.log c.args.turn.now.ports.now) c.args.index c.requires.can.0 c.requires.can.1 asks
-    c.cell_at-cell.result c.cell_at-cell.ensures in
-    let low = asks.can.low in
-    let high = asks.can.high in
-    (omega (arith, is, low), omega (arith, is, high))
-
-pub expire_cell-requires-clause-keys : goal.expire_cell-requires-clause-keys
-expire_cell-requires-clause-keys g c =
-    let asks = c.requires.can.2 in
-    let is = cell_there c.args.turn.now.main.config.now (made_by c.args.turn.now.main.hand.now) c.args.turn.now.board.now (g.P.PortMaker.log c.args.turn.now.ports.now) c.args.index c.requires.can.0 c.requires.can.1 asks
-    c.cell_at-cell.result c.cell_at-cell.ensures in
-    subst (λ (k : ℕ). HasNewKeys (made_by c.args.turn.now.main.hand.now) k) (sym is) asks.can.keys
-
-pub returns-then-not-expire_cell-clause-gained : goal.returns-then-not-expire_cell-clause-gained
-returns-then-not-expire_cell-clause-gained g c of legs asks =
-    let is = cell_there c.args.turn.now.main.config.now (made_by c.args.turn.now.main.hand.now) c.args.turn.now.board.now (g.P.PortMaker.log c.args.turn.now.ports.now) c.args.index of legs asks
-    c.cell_at-cell.result c.cell_at-cell.ensures in
-    subst (λ (k : ℕ). GainsNested c.args.turn.now.main.entry_id.number c.args.turn.now.main.entry_id.moment (in_cell_of k (Expire false) ∷ []) c.args.turn.now.main.hand.now c.expire_cell.new.main.hand.now) is
-    c.if-not-expire_cell.ensures.gained
-
-pub returns-then-not-expire_cell-clause-due : goal.returns-then-not-expire_cell-clause-due
-returns-then-not-expire_cell-clause-due g c of legs asks all =
-    let config = c.args.turn.now.main.config.now in
-    let l = made_by c.args.turn.now.main.hand.now in
-    let is = cell_there config l c.args.turn.now.board.now (g.P.PortMaker.log c.args.turn.now.ports.now) c.args.index of legs asks c.cell_at-cell.result c.cell_at-cell.ensures in
-    let low = asks.can.low in
-    let high = asks.can.high in
-    let may = c.requires.may in
-    subst (λ (k : ℕ). IsDueBy config l k c.args.turn.now.main.entry_id.moment false) is
-    (due_by_whole g.P.In.InEnd.log g.P.In.InEnd.faults g.P.Out.OutEnd.log g.P.Out.OutEnd.faults config c.args.turn.now.main.hand.now c.cell_at-cell.result c.args.turn.now.main.entry_id.moment false may.parts
-    may.numbered (omega (arith, is, low)) (omega (arith, is, high)) (subst (λ (k : ℕ). HasNewKeys l k) (sym is) asks.can.keys) all c.if-not-expire_cell.ensures.asked)
-
-pub returns-clause-due : goal.returns-clause-due
-returns-clause-due g c of legs asks all =
-    let config = c.args.turn.now.main.config.now in
-    let l = made_by c.args.turn.now.main.hand.now in
-    let is = cell_there config l c.args.turn.now.board.now (g.P.PortMaker.log c.args.turn.now.ports.now) c.args.index of legs asks c.cell_at-cell.result c.cell_at-cell.ensures in
-    let low = asks.can.low in
-    let high = asks.can.high in
-    let may = c.requires.may in
-    subst (λ (k : ℕ). IsDueBy config l k c.args.turn.now.main.entry_id.moment true) is
-    (due_by_whole g.P.In.InEnd.log g.P.In.InEnd.faults g.P.Out.OutEnd.log g.P.Out.OutEnd.faults config c.args.turn.now.main.hand.now c.cell_at-cell.result c.args.turn.now.main.entry_id.moment true may.parts
-    may.numbered (omega (arith, is, low)) (omega (arith, is, high)) (subst (λ (k : ℕ). HasNewKeys l k) (sym is) asks.can.keys) all c.if-not-expire_cell.ensures.asked)
+pub is_due-overdue-requires : goal.is_due-overdue-requires
+is_due-overdue-requires g c =
+    let old = c.args.turn.now in
+    let can = c.requires.can in
+    live_there old.main.config.now (made_by old.main.hand.now) old.board.now (g.P.PortMaker.log old.ports.now) old.main.entry_id.moment c.args.index can.0 can.1 can.2 can.3
+    c.call_at-call.result c.call_at-call.ensures
 
 pub expire_cell-requires-clause-may : goal.expire_cell-requires-clause-may
 expire_cell-requires-clause-may g c =
     c.requires.may
 
-pub end_call-requires-clause-empty : goal.end_call-requires-clause-empty
-end_call-requires-clause-empty g c =
-    c.requires.empty
-
-pub end_call-requires-clause-may : goal.end_call-requires-clause-may
-end_call-requires-clause-may g c =
-    may_again c.args.turn.now.main c.expire_cell.new.main c.if-not-expire_cell.ensures.nests
-
-pub end_call-requires-clause-can : goal.end_call-requires-clause-can
-end_call-requires-clause-can g c =
-    let of = c.requires.can.0 in
-    let legs = c.requires.can.1 in
-    let asks = c.requires.can.2 in
+pub expire_cell-requires-clause-cell : goal.expire_cell-requires-clause-cell
+expire_cell-requires-clause-cell g c =
     let old = c.args.turn.now in
-    let config = old.main.config.now in
-    let log = g.P.PortMaker.log old.ports.now in
-    let l = made_by old.main.hand.now in
-    let mid = c.expire_cell.new.main in
-    let call_is = number_there config l old.board.now log c.args.index of legs asks c.call_at-call.result c.call_at-call.ensures in
-    let is = cell_there config l old.board.now log c.args.index of legs asks c.cell_at-cell.result c.cell_at-cell.ensures in
-    let same = same_config old.main mid c.if-not-expire_cell.ensures.nests in
-    let can = subst (λ (k : Config). CanEnd k (made_by mid.hand.now) old.board.now log c.call_at-call.result of legs) (sym same)
-    (asked_can config old.main.entry_id.number old.main.entry_id.moment c.cell_at-cell.result true old.main.hand.now mid.hand.now old.board.now log
-    c.call_at-call.result of legs asks.can call_is is c.if-not-expire_cell.ensures.gained) in
-    (of, legs, can)
+    let can = c.requires.can in
+    let is = cell_there old.main.config.now (made_by old.main.hand.now) old.board.now (g.P.PortMaker.log old.ports.now) old.main.entry_id.moment c.args.index can.0 can.1 can.2 can.3
+    c.cell_at-cell.result c.cell_at-cell.ensures in
+    let low = can.3.can.low in
+    let high = can.3.can.high in
+    (omega (arith, is, low), omega (arith, is, high))
 
-pub returns-clause-gained : goal.returns-clause-gained
-returns-clause-gained g c of legs asks =
+pub expire_cell-requires-clause-keys : goal.expire_cell-requires-clause-keys
+expire_cell-requires-clause-keys g c =
     let old = c.args.turn.now in
-    let config = old.main.config.now in
-    let log = g.P.PortMaker.log old.ports.now in
-    let l = made_by old.main.hand.now in
-    let mid = c.expire_cell.new.main in
-    let call_is = number_there config l old.board.now log c.args.index of legs asks c.call_at-call.result c.call_at-call.ensures in
-    let is = cell_there config l old.board.now log c.args.index of legs asks c.cell_at-cell.result c.cell_at-cell.ensures in
-    let same = same_config old.main mid c.if-not-expire_cell.ensures.nests in
-    let can = subst (λ (k : Config). CanEnd k (made_by mid.hand.now) old.board.now log c.call_at-call.result of legs) (sym same)
-    (asked_can config old.main.entry_id.number old.main.entry_id.moment c.cell_at-cell.result true old.main.hand.now mid.hand.now old.board.now log
-    c.call_at-call.result of legs asks.can call_is is c.if-not-expire_cell.ensures.gained) in
-    let new = c.end_call.new.turn in
-    makes_both (in_cell_of of.cell (Expire true) ∷ []) (ending_of config of legs) old.main mid new.main c.if-not-expire_cell.ensures.nests
-    (subst (λ (k : ℕ). MakesNested (in_cell_of k (Expire true) ∷ []) old.main mid) is c.if-not-expire_cell.ensures.gained)
-    (subst (λ (k : Config). MakesNested (ending_of k of legs) mid new.main) same (c.end_call.ensures.gained of legs can))
+    let can = c.requires.can in
+    let is = cell_there old.main.config.now (made_by old.main.hand.now) old.board.now (g.P.PortMaker.log old.ports.now) old.main.entry_id.moment c.args.index can.0 can.1 can.2 can.3
+    c.cell_at-cell.result c.cell_at-cell.ensures in
+    subst (λ (k : ℕ). HasNewKeys (made_by old.main.hand.now) k) (sym is) can.3.can.keys
 
-pub returns-clause-asked : goal.returns-clause-asked
-returns-clause-asked g c of legs asks other v shows apart =
-    let old = c.args.turn.now in
-    let config = old.main.config.now in
-    let log = g.P.PortMaker.log old.ports.now in
-    let l = made_by old.main.hand.now in
-    let mid = c.expire_cell.new.main in
-    let call_is = number_there config l old.board.now log c.args.index of legs asks c.call_at-call.result c.call_at-call.ensures in
-    let is = cell_there config l old.board.now log c.args.index of legs asks c.cell_at-cell.result c.cell_at-cell.ensures in
-    let same = same_config old.main mid c.if-not-expire_cell.ensures.nests in
-    let can = subst (λ (k : Config). CanEnd k (made_by mid.hand.now) old.board.now log c.call_at-call.result of legs) (sym same)
-    (asked_can config old.main.entry_id.number old.main.entry_id.moment c.cell_at-cell.result true old.main.hand.now mid.hand.now old.board.now log
-    c.call_at-call.result of legs asks.can call_is is c.if-not-expire_cell.ensures.gained) in
-    subst (λ (k : ℕ). BoardMatches other c.end_call.new.turn.board.now (with_call_ended v k legs)) call_is (c.end_call.ensures.ended of legs can other v shows apart)
-
-pub returns-clause-open : goal.returns-clause-open
-returns-clause-open g c of legs asks held opens =
-    let old = c.args.turn.now in
-    let config = old.main.config.now in
-    let log = g.P.PortMaker.log old.ports.now in
-    let l = made_by old.main.hand.now in
-    let mid = c.expire_cell.new.main in
-    let call_is = number_there config l old.board.now log c.args.index of legs asks c.call_at-call.result c.call_at-call.ensures in
-    let is = cell_there config l old.board.now log c.args.index of legs asks c.cell_at-cell.result c.cell_at-cell.ensures in
-    let same = same_config old.main mid c.if-not-expire_cell.ensures.nests in
-    let can = subst (λ (k : Config). CanEnd k (made_by mid.hand.now) old.board.now log c.call_at-call.result of legs) (sym same)
-    (asked_can config old.main.entry_id.number old.main.entry_id.moment c.cell_at-cell.result true old.main.hand.now mid.hand.now old.board.now log
-    c.call_at-call.result of legs asks.can call_is is c.if-not-expire_cell.ensures.gained) in
-    subst (λ (k : Config). WhereLogged log (λ (calls : List PortCall). OpensHeld k calls held)
-    → WhereLogged (g.P.PortMaker.log c.end_call.new.turn.ports.now) (λ (calls : List PortCall). OpensHeld k calls (pairs_left (leg_pairs legs) held))) same
-    (c.end_call.ensures.«open» of legs can held) opens
-
-pub returns-clause-closes : goal.returns-clause-closes
-returns-clause-closes g c =
-    let of = c.requires.can.0 in
-    let legs = c.requires.can.1 in
-    let asks = c.requires.can.2 in
-    let old = c.args.turn.now in
-    let config = old.main.config.now in
-    let log = g.P.PortMaker.log old.ports.now in
-    let l = made_by old.main.hand.now in
-    let mid = c.expire_cell.new.main in
-    let call_is = number_there config l old.board.now log c.args.index of legs asks c.call_at-call.result c.call_at-call.ensures in
-    let is = cell_there config l old.board.now log c.args.index of legs asks c.cell_at-cell.result c.cell_at-cell.ensures in
-    let same = same_config old.main mid c.if-not-expire_cell.ensures.nests in
-    let can = subst (λ (k : Config). CanEnd k (made_by mid.hand.now) old.board.now log c.call_at-call.result of legs) (sym same)
-    (asked_can config old.main.entry_id.number old.main.entry_id.moment c.cell_at-cell.result true old.main.hand.now mid.hand.now old.board.now log
-    c.call_at-call.result of legs asks.can call_is is c.if-not-expire_cell.ensures.gained) in
-    theirs_open_none g.P.Out.OutEnd.log mid.config.now legs log (g.P.PortMaker.log c.end_call.new.turn.ports.now) (c.end_call.ensures.closes of legs can)
+-- The call was asked, and has not timed out.
 
 pub returns-then-not-expire_cell-clause-works : goal.returns-then-not-expire_cell-clause-works
 returns-then-not-expire_cell-clause-works g c =
-    let main = c.args.turn.now.main in
+    works_asked g.P.PortMaker.log g.P.PortMaker.faults c.args.turn.now c.expire_cell.new.main c.cell_at-cell.result false c.if-not-expire_cell.ensures.nests
+    c.if-not-expire_cell.ensures.gained c.requires.empty
+
+pub returns-then-not-expire_cell-clause-gained : goal.returns-then-not-expire_cell-clause-gained
+returns-then-not-expire_cell-clause-gained g c of legs overdue asks =
+    let old = c.args.turn.now in
+    let config = old.main.config.now in
+    let log = g.P.PortMaker.log old.ports.now in
+    let l = made_by old.main.hand.now in
+    let new = c.expire_cell.new.main in
+    let is = cell_there config l old.board.now log old.main.entry_id.moment c.args.index of legs overdue asks c.cell_at-cell.result c.cell_at-cell.ensures in
+    let said = overdue_there config l old.board.now log old.main.entry_id.moment c.args.index of legs overdue asks c.call_at-call.result c.is_due-overdue.result c.call_at-call.ensures
+    c.is_due-overdue.ensures in
+    subst (λ (o : Bool). MakesNested (asking_of config of legs o false) old.main new) (sym c.if-not-overdue.true ∙ said)
+    (subst (λ (k : ℕ). MakesNested (in_cell_of k (Expire false) ∷ []) old.main new) is c.if-not-expire_cell.ensures.gained)
+
+pub returns-then-not-expire_cell-clause-overdue : goal.returns-then-not-expire_cell-clause-overdue
+returns-then-not-expire_cell-clause-overdue g c of legs overdue asks is_overdue =
+    let old = c.args.turn.now in
+    let said = overdue_there old.main.config.now (made_by old.main.hand.now) old.board.now (g.P.PortMaker.log old.ports.now) old.main.entry_id.moment c.args.index of legs overdue asks
+    c.call_at-call.result c.is_due-overdue.result c.call_at-call.ensures c.is_due-overdue.ensures in
+    sym c.if-not-overdue.true ∙ said ∙ is_overdue
+
+pub returns-then-not-expire_cell-clause-timed_out : goal.returns-then-not-expire_cell-clause-timed_out
+returns-then-not-expire_cell-clause-timed_out g c of legs overdue asks not_overdue all =
+    let old = c.args.turn.now in
+    let config = old.main.config.now in
+    let l = made_by old.main.hand.now in
+    let is = cell_there config l old.board.now (g.P.PortMaker.log old.ports.now) old.main.entry_id.moment c.args.index of legs overdue asks c.cell_at-cell.result c.cell_at-cell.ensures in
+    let low = asks.can.low in
+    let high = asks.can.high in
+    let may = c.requires.may in
+    subst (λ (k : ℕ). IsDueBy config l k old.main.entry_id.moment false) is
+    (due_by_whole g.P.In.InEnd.log g.P.In.InEnd.faults g.P.Out.OutEnd.log g.P.Out.OutEnd.faults config old.main.hand.now c.cell_at-cell.result old.main.entry_id.moment false may.parts
+    may.numbered (omega (arith, is, low)) (omega (arith, is, high)) (subst (λ (k : ℕ). HasNewKeys l k) (sym is) asks.can.keys) all c.if-not-expire_cell.ensures.asked)
+
+-- The call has to end.
+
+pub end_call-requires : goal.end_call-requires
+end_call-requires g c =
+    let old = c.args.turn.now in
+    let now = c.else-not-overdue.turn in
+    let log = g.P.PortMaker.log in
+    let faults = g.P.PortMaker.faults in
+    let it = g.P.In.InEnd.log in
+    let ic = g.P.In.InEnd.faults in
+    let ot = g.P.Out.OutEnd.log in
+    let oc = g.P.Out.OutEnd.faults in
+    let cell = c.cell_at-cell.result in
+    let can = c.requires.can in
+    let asks = can.3 in
+    let ends : HasToEnd log faults it ic ot oc old now cell c.is_due-overdue.result =
+    elim c.else-not-overdue.branch [
+      | else-not-overdue-via-then-not-overdue+else-not-expire_cell w ↦ subst (λ (said : Bool). HasToEnd log faults it ic ot oc old now cell said) (sym w.if-not-overdue.true)
+          (subst (λ (turn : BoardTurn _ _ _ _). HasToEnd log faults it ic ot oc old turn cell false) (sym w.turn-is)
+          (ends_timed_out log faults it ic ot oc old w.expire_cell.new.main cell w.if-not-expire_cell.ensures.nests w.if-not-expire_cell.ensures.gained c.requires.empty
+          w.if-not-expire_cell.ensures.asked))
+      | else-not-overdue-via-else-not-overdue w ↦ subst (λ (said : Bool). HasToEnd log faults it ic ot oc old now cell said) (sym w.if-not-overdue.false)
+          (subst (λ (turn : BoardTurn _ _ _ _). HasToEnd log faults it ic ot oc old turn cell true) (sym w.turn-is)
+          (ends_overdue log faults it ic ot oc old cell c.requires.may c.requires.empty))
+    ] in
+    let call_is = number_there old.main.config.now (made_by old.main.hand.now) old.board.now (log old.ports.now) old.main.entry_id.moment c.args.index can.0 can.1 can.2 asks
+    c.call_at-call.result c.call_at-call.ensures in
+    let is = cell_there old.main.config.now (made_by old.main.hand.now) old.board.now (log old.ports.now) old.main.entry_id.moment c.args.index can.0 can.1 can.2 asks
+    cell c.cell_at-cell.ensures in
     record {
-      stays = record {
-        nests = c.if-not-expire_cell.ensures.nests;
-        devices = record { board_is = refl; ports_are = refl; gone_is = refl };
-        replies = refl;
-        later = omega arith;
-      };
-      ties = ties_gained main.config.now (g.P.PortMaker.log c.args.turn.now.ports.now) main.entry_id.number main.entry_id.moment (in_cell_of c.cell_at-cell.result (Expire false) ∷ [])
-          main.hand.now c.expire_cell.new.main.hand.now c.if-not-expire_cell.ensures.gained (nothing_parts c.cell_at-cell.result false);
-      empty = c.requires.empty;
+      may = may_again old.main now.main ends.works.stays.nests;
+      can = (can.0, can.1, then_can log faults it ic ot oc old now cell c.is_due-overdue.result ends can.0 can.1 is c.call_at-call.result asks.can call_is);
+      empty = ends.works.empty;
     }
+
+reached : (g : _) (c : goal.After-end_call g) → HasToEnd g.P.PortMaker.log g.P.PortMaker.faults g.P.In.InEnd.log g.P.In.InEnd.faults g.P.Out.OutEnd.log g.P.Out.OutEnd.faults c.args.turn.now c.else-not-overdue.turn c.cell_at-cell.result c.is_due-overdue.result
+reached g c =
+    let old = c.args.turn.now in
+    let now = c.else-not-overdue.turn in
+    let log = g.P.PortMaker.log in
+    let faults = g.P.PortMaker.faults in
+    let it = g.P.In.InEnd.log in
+    let ic = g.P.In.InEnd.faults in
+    let ot = g.P.Out.OutEnd.log in
+    let oc = g.P.Out.OutEnd.faults in
+    let cell = c.cell_at-cell.result in
+    elim c.else-not-overdue.branch [
+      | else-not-overdue-via-then-not-overdue+else-not-expire_cell w ↦ subst (λ (said : Bool). HasToEnd log faults it ic ot oc old now cell said) (sym w.if-not-overdue.true)
+          (subst (λ (turn : BoardTurn _ _ _ _). HasToEnd log faults it ic ot oc old turn cell false) (sym w.turn-is)
+          (ends_timed_out log faults it ic ot oc old w.expire_cell.new.main cell w.if-not-expire_cell.ensures.nests w.if-not-expire_cell.ensures.gained c.requires.empty
+          w.if-not-expire_cell.ensures.asked))
+      | else-not-overdue-via-else-not-overdue w ↦ subst (λ (said : Bool). HasToEnd log faults it ic ot oc old now cell said) (sym w.if-not-overdue.false)
+          (subst (λ (turn : BoardTurn _ _ _ _). HasToEnd log faults it ic ot oc old turn cell true) (sym w.turn-is)
+          (ends_overdue log faults it ic ot oc old cell c.requires.may c.requires.empty))
+    ]
+
+ended_can : (g : _) (c : goal.After-end_call g) (of : Call) (legs : List Holder) (overdue : Bool) → MayExpire g.P.PortMaker.log c.args.turn.now c.args.index of legs overdue
+    → MayEnd g.P.PortMaker.log c.else-not-overdue.turn c.call_at-call.result of legs
+ended_can g c of legs overdue asks =
+    let old = c.args.turn.now in
+    let config = old.main.config.now in
+    let l = made_by old.main.hand.now in
+    let log = g.P.PortMaker.log in
+    let call_is = number_there config l old.board.now (log old.ports.now) old.main.entry_id.moment c.args.index of legs overdue asks c.call_at-call.result c.call_at-call.ensures in
+    let is = cell_there config l old.board.now (log old.ports.now) old.main.entry_id.moment c.args.index of legs overdue asks c.cell_at-cell.result c.cell_at-cell.ensures in
+    then_can log g.P.PortMaker.faults g.P.In.InEnd.log g.P.In.InEnd.faults g.P.Out.OutEnd.log g.P.Out.OutEnd.faults old c.else-not-overdue.turn c.cell_at-cell.result
+    c.is_due-overdue.result (reached g c) of legs is c.call_at-call.result asks.can call_is
 
 pub returns-clause-works : goal.returns-clause-works
 returns-clause-works g c =
+    works_both g.P.PortMaker.log g.P.PortMaker.faults c.args.turn.now c.else-not-overdue.turn c.end_call.new.turn (reached g c).works c.end_call.ensures.works
+
+pub returns-clause-gained : goal.returns-clause-gained
+returns-clause-gained g c of legs overdue asks =
     let old = c.args.turn.now in
     let config = old.main.config.now in
-    let mid = c.expire_cell.new.main in
-    let new = c.end_call.new.turn in
+    let l = made_by old.main.hand.now in
+    let log = g.P.PortMaker.log in
+    let is = cell_there config l old.board.now (log old.ports.now) old.main.entry_id.moment c.args.index of legs overdue asks c.cell_at-cell.result c.cell_at-cell.ensures in
+    let said = overdue_there config l old.board.now (log old.ports.now) old.main.entry_id.moment c.args.index of legs overdue asks c.call_at-call.result c.is_due-overdue.result
+    c.call_at-call.ensures c.is_due-overdue.ensures in
+    then_gained log g.P.PortMaker.faults g.P.In.InEnd.log g.P.In.InEnd.faults g.P.Out.OutEnd.log g.P.Out.OutEnd.faults old c.else-not-overdue.turn c.cell_at-cell.result
+    c.is_due-overdue.result (reached g c) of legs is c.end_call.new.turn.main overdue said (c.end_call.ensures.gained of legs (ended_can g c of legs overdue asks))
+
+pub returns-clause-asked : goal.returns-clause-asked
+returns-clause-asked g c of legs overdue asks other v shows apart =
+    let old = c.args.turn.now in
+    let call_is = number_there old.main.config.now (made_by old.main.hand.now) old.board.now (g.P.PortMaker.log old.ports.now) old.main.entry_id.moment c.args.index of legs overdue asks
+    c.call_at-call.result c.call_at-call.ensures in
+    subst (λ (k : ℕ). BoardMatches other c.end_call.new.turn.board.now (with_call_ended v k legs)) call_is
+    (c.end_call.ensures.ended of legs (ended_can g c of legs overdue asks) other v (subst (λ (board : Board). BoardMatches other board v) (sym (reached g c).board_is) shows) apart)
+
+pub returns-clause-open : goal.returns-clause-open
+returns-clause-open g c of legs overdue asks held opens =
+    let old = c.args.turn.now in
+    let now = c.else-not-overdue.turn in
+    let log = g.P.PortMaker.log in
+    subst (λ (k : Config). WhereLogged (log now.ports.now) (λ (calls : List PortCall). OpensHeld k calls held)
+    → WhereLogged (log c.end_call.new.turn.ports.now) (λ (calls : List PortCall). OpensHeld k calls (pairs_left (leg_pairs legs) held)))
+    (same_config old.main now.main (reached g c).works.stays.nests) (c.end_call.ensures.«open» of legs (ended_can g c of legs overdue asks) held)
+    (subst (λ (ports : _). WhereLogged (log ports) (λ (calls : List PortCall). OpensHeld old.main.config.now calls held)) (sym (reached g c).ports_are) opens)
+
+pub returns-clause-timed_out : goal.returns-clause-timed_out
+returns-clause-timed_out g c of legs overdue asks not_overdue all =
+    let old = c.args.turn.now in
+    let config = old.main.config.now in
+    let l = made_by old.main.hand.now in
     let log = g.P.PortMaker.log old.ports.now in
-    let after = g.P.PortMaker.log new.ports.now in
-    let ended = c.end_call.ensures.works in
-    record {
-      stays = record {
-        nests = nests_both old.main mid new.main c.if-not-expire_cell.ensures.nests ended.stays.nests;
-        devices = record { board_is = ended.stays.devices.board_is; ports_are = ended.stays.devices.ports_are; gone_is = ended.stays.devices.gone_is };
-        replies = ended.stays.replies;
-        later = ended.stays.later;
-      };
-      ties = ties_both config log log after (entries old.main.hand.now) (entries mid.hand.now) (entries new.main.hand.now)
-          (ties_gained config log old.main.entry_id.number old.main.entry_id.moment (in_cell_of c.cell_at-cell.result (Expire true) ∷ []) old.main.hand.now mid.hand.now
-          c.if-not-expire_cell.ensures.gained (nothing_parts c.cell_at-cell.result true))
-          (subst (λ (k : Config). PortsFollowRows k log after (entries mid.hand.now) (entries new.main.hand.now)) (same_config old.main mid c.if-not-expire_cell.ensures.nests) ended.ties);
-      empty = ended.empty;
-    }
+    let is = cell_there config l old.board.now log old.main.entry_id.moment c.args.index of legs overdue asks c.cell_at-cell.result c.cell_at-cell.ensures in
+    let said = overdue_there config l old.board.now log old.main.entry_id.moment c.args.index of legs overdue asks c.call_at-call.result c.is_due-overdue.result c.call_at-call.ensures
+    c.is_due-overdue.ensures in
+    let low = asks.can.low in
+    let high = asks.can.high in
+    let may = c.requires.may in
+    subst (λ (k : ℕ). IsDueBy config l k old.main.entry_id.moment true) is
+    (due_by_whole g.P.In.InEnd.log g.P.In.InEnd.faults g.P.Out.OutEnd.log g.P.Out.OutEnd.faults config old.main.hand.now c.cell_at-cell.result old.main.entry_id.moment true may.parts
+    may.numbered (omega (arith, is, low)) (omega (arith, is, high)) (subst (λ (k : ℕ). HasNewKeys l k) (sym is) asks.can.keys) all ((reached g c).timed_out (said ∙ not_overdue)))
+
+pub returns-clause-closes : goal.returns-clause-closes
+returns-clause-closes g c =
+    let can = c.requires.can in
+    let now = c.else-not-overdue.turn in
+    let log = g.P.PortMaker.log in
+    let new = log c.end_call.new.turn.ports.now in
+    subst (λ (ports : _). Gained (log ports) new NoneOpened) (reached g c).ports_are
+    (theirs_open_none g.P.Out.OutEnd.log now.main.config.now can.1 (log now.ports.now) new (c.end_call.ensures.closes can.0 can.1 (ended_can g c can.0 can.1 can.2 can.3)))

@@ -5,7 +5,7 @@ use Rattle.relay_outside.specs.declared.settings.Config.{Config}
 use Rattle.relay_outside.specs.DeviceLogs.{WhereLogged}
 use Rattle.turn_table.specs.Hands.{parts}
 use Rattle.call_board.specs.Acts.{Call}
-use Rattle.call_board.specs.Calls.{live}
+use Rattle.call_board.specs.Calls.{live, is_due_at}
 use Rattle.call_board.specs.Pairs.{closed_of}
 use Rattle.call_board.specs.Views.{call_view, view_of, view_at_moment}
 use Rattle.relay_core.specs.Entries.{board_history}
@@ -64,10 +64,14 @@ expire_call-requires-clause-can g c =
     let of : Call = next.0 in
     let legs = closed_of h (stop_entry h) of in
     let same = same_config c.args.turn.now.main turn.main was.works.stays.nests in
-    let asks = subst (λ (k : Config). CanExpire k (made_by turn.main.hand.now) turn.board.now told_now (i - c.loop-asked.ended) of legs) (sym same)
+    let overdue = is_due_at h of.number moment in
+    let entry_same = was.works.stays.nests.entry_is in
+    let asks = subst (λ (id : BoardEntryId). CanExpire turn.main.config.now (made_by turn.main.hand.now) turn.board.now told_now id.moment (i - c.loop-asked.ended) of legs overdue)
+    (sym entry_same)
+    (subst (λ (k : Config). CanExpire k (made_by turn.main.hand.now) turn.board.now told_now moment (i - c.loop-asked.ended) of legs overdue) (sym same)
     (next_asks config number moment c.args.turn.now.main.hand.now turn.main.hand.now turn.board.now told_now i c.loop-asked.ended (i - c.loop-asked.ended) of
-    c.requires.begins.in_turn.orderly c.requires.begins.in_turn.above next.1 was.asked (omega (arith, few))) in
-    (of, legs, asks)
+    c.requires.begins.in_turn.orderly c.requires.begins.in_turn.above next.1 was.asked (omega (arith, few)))) in
+    (of, legs, overdue, asks)
 
 pub loop-asked-preserved : goal.loop-asked-preserved
 loop-asked-preserved g c =
@@ -88,9 +92,13 @@ loop-asked-preserved g c =
     let of : Call = next.0 in
     let legs = closed_of h (stop_entry h) of in
     let same = same_config c.args.turn.now.main turn.main was.works.stays.nests in
-    let asks = subst (λ (k : Config). CanExpire k (made_by turn.main.hand.now) turn.board.now told_now (i - c.loop-asked.ended) of legs) (sym same)
+    let overdue = is_due_at h of.number moment in
+    let entry_same = was.works.stays.nests.entry_is in
+    let asks = subst (λ (id : BoardEntryId). CanExpire turn.main.config.now (made_by turn.main.hand.now) turn.board.now told_now id.moment (i - c.loop-asked.ended) of legs overdue)
+    (sym entry_same)
+    (subst (λ (k : Config). CanExpire k (made_by turn.main.hand.now) turn.board.now told_now moment (i - c.loop-asked.ended) of legs overdue) (sym same)
     (next_asks config number moment c.args.turn.now.main.hand.now turn.main.hand.now turn.board.now told_now i c.loop-asked.ended (i - c.loop-asked.ended) of
-    c.requires.begins.in_turn.orderly c.requires.begins.in_turn.above next.1 was.asked (omega (arith, few))) in
+    c.requires.begins.in_turn.orderly c.requires.begins.in_turn.above next.1 was.asked (omega (arith, few)))) in
     let old = c.args.turn.now in
     let new = c.expire_call.new.turn in
     let log = g.P.PortMaker.log old.ports.now in
@@ -103,17 +111,17 @@ loop-asked-preserved g c =
       | then-expire_call w ↦ w.ended-is ∙ ap (λ (b : Bool). cond b (c.loop-asked.ended + 1) c.loop-asked.ended) (sym w.if-expire_call.true)
       | else-expire_call w ↦ w.ended-is ∙ ap (λ (b : Bool). cond b (c.loop-asked.ended + 1) c.loop-asked.ended) (sym w.if-expire_call.false)
     ] in
-    let entry_same = was.works.stays.nests.entry_is in
-    let gained = subst (λ (id : BoardEntryId). GainsNested id.number id.moment (asking_of config of legs due) turn.main.hand.now new.main.hand.now) entry_same
-    (subst (λ (k : Config). MakesNested (asking_of k of legs due) turn.main new.main) same (now.gained of legs asks)) in
+    let gained = subst (λ (id : BoardEntryId). GainsNested id.number id.moment (asking_of config of legs overdue due) turn.main.hand.now new.main.hand.now) entry_same
+    (subst (λ (k : Config). MakesNested (asking_of k of legs overdue due) turn.main new.main) same (now.gained of legs overdue asks)) in
     let opened = subst (λ (k : Config). (held : List ℕ) → WhereLogged told_now (λ (calls : List PortCall). OpensHeld k calls held)
-    → WhereLogged told_new (λ (calls : List PortCall). OpensHeld k calls (cond due (pairs_left (leg_pairs legs) held) held))) same (now.«open» of legs asks) in
-    let is_due = subst (λ (id : BoardEntryId). parts turn.main.hand.now ≡ 1024 → IsDueBy config (made_by turn.main.hand.now) of.cell id.moment due) entry_same
-    (subst (λ (k : Config). parts turn.main.hand.now ≡ 1024 → IsDueBy k (made_by turn.main.hand.now) of.cell turn.main.entry_id.moment due) same (now.due of legs asks)) in
+    → WhereLogged told_new (λ (calls : List PortCall). OpensHeld k calls (cond due (pairs_left (leg_pairs legs) held) held))) same (now.«open» of legs overdue asks) in
+    let timed_out = subst (λ (id : BoardEntryId). overdue ≡ false → parts turn.main.hand.now ≡ 1024 → IsDueBy config (made_by turn.main.hand.now) of.cell id.moment due) entry_same
+    (subst (λ (k : Config). overdue ≡ false → parts turn.main.hand.now ≡ 1024 → IsDueBy k (made_by turn.main.hand.now) of.cell turn.main.entry_id.moment due) same
+    (now.timed_out of legs overdue asks)) in
     record {
       works = works_both g.P.PortMaker.log g.P.PortMaker.faults old turn new was.works now.works;
       asked = one_asked config number moment old.main.hand.now turn.main.hand.now new.main.hand.now turn.board.now new.board.now told_now told_new i c.loop-asked.ended then_ended of
-          due c.requires.begins.in_turn.orderly was.works.stays.nests.same next.1 was.asked counted gained (now.asked of legs asks) opened is_due;
+          due c.requires.begins.in_turn.orderly was.works.stays.nests.same next.1 was.asked counted gained (now.asked of legs overdue asks) opened (now.overdue of legs overdue asks) timed_out;
       few = at_most due i c.loop-asked.ended then_ended counted few;
       closes = gained_no_openings log told_now told_new was.closes now.closes;
     }

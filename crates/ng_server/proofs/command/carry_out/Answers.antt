@@ -149,7 +149,7 @@ delete-requires-clause-asked g c =
     let asked = c.requires.asked in
     let with = c.with-in-Delete in (
       asked.0,
-      is_asking_with (λ (i : DeleteIn). says.Delete i.call_id.list (says.strings_in_list i.from_tag) i.fatal) c.args.asked.now.request.now with.result.request.now _ with.result.input.now asked.0 (ap (λ request. request.now) with.ensures.request) with.ensures.input
+      is_asking_with (λ (i : DeleteIn). says.Delete i.call_id.list (says.strings_in_list i.from_tag) i.fatal i.delay_s) c.args.asked.now.request.now with.result.request.now _ with.result.input.now asked.0 (ap (λ request. request.now) with.ensures.request) with.ensures.input
           (is_asking c.args.asked.now.request.now asked.0 _ asked.1 (asked.2 ∙ ap said_by c.in-Ok.is ∙ ap (λ (x : Command). Ok (said x)) c.in-Delete.is)),
     )
 
@@ -161,7 +161,7 @@ returns-in-Delete-clause-carries g c pairs reads is =
     let same = ap (λ request. request.now) with.ensures.request in
     subst (λ (request : Request). ExecutesCommand main.config.now main.hand.now new.main.hand.now main.entry_id (record_by request pairs c.delete.result) c.delete.result.reply new.board.now (g.P.PortMaker.log new.ports.now)) same
     (c.delete.ensures.carries pairs
-    (is_asking_with (λ (i : DeleteIn). says.Delete i.call_id.list (says.strings_in_list i.from_tag) i.fatal) c.args.asked.now.request.now with.result.request.now _ with.result.input.now pairs same with.ensures.input
+    (is_asking_with (λ (i : DeleteIn). says.Delete i.call_id.list (says.strings_in_list i.from_tag) i.fatal i.delay_s) c.args.asked.now.request.now with.result.request.now _ with.result.input.now pairs same with.ensures.input
     (is_asking c.args.asked.now.request.now pairs _ reads (is ∙ ap said_by c.in-Ok.is ∙ ap (λ (x : Command). Ok (said x)) c.in-Delete.is))))
 
 pub returns-in-Offer-clause-given : goal.returns-in-Offer-clause-given

@@ -11,6 +11,7 @@ returns-clause-undone c = λ config h e control code leases draws is acts fits.
     record {
       same_live = u.same_live;
       same_rounds = u.same_rounds;
+      same_due = u.same_due;
       same_held = u.same_held;
       still_free = u.still_free;
       free_before = u.free_before;

@@ -1,4 +1,4 @@
-use Rattle.std.proofs.Common.{◌≡◌, ◌∙◌, ◌-◌, ◌+◌, ◌≤◌, ◌++◌, ◌∷◌, [], refl, ap, sym, subst, ℕ, List, Bool, true, false, set, arith}
+use Rattle.std.proofs.Common.{◌≡◌, ◌∙◌, ◌-◌, ◌+◌, ◌≤◌, ◌++◌, ◌∷◌, [], refl, ap, sym, subst, ℕ, List, Bool, true, false, None, set, arith}
 use Rattle.std.specs.List.{list_any}
 use Rattle.std.specs.Str.{bytes_eq}
 use Rattle.std.proofs.lemmas.List.{with_items_is}
@@ -18,7 +18,7 @@ invariant_of-self c = record {
 
 pub returns-clause-taken : goal.returns-clause-taken
 returns-clause-taken c = λ config v of round s next cell b p.
-    let view : CallView = record { of = of; rounds = round ∷ []; first = c.args.now; last = c.args.now } in
+    let view : CallView = record { of = of; rounds = round ∷ []; first = c.args.now; last = c.args.now; due = None } in
     let new = begins_by config of.id round c.args.new b in
     let fresh = subst (λ (id : List ℕ). list_any (λ (call : LiveCall). bytes_eq call.id.list id) c.args.self.now.calls.list ≡ false) (sym new.0)
     (none_has config (λ (call : LiveCall). bytes_eq call.id.list of.id) (is_of_id of.id) c.args.self.now.calls.list v.calls (asks_id config of.id) s.calls_for next.id_is_new) in
@@ -40,6 +40,7 @@ returns-clause-taken c = λ config v of round s next cell b p.
             (subst (λ (dialog : Dialog). AwaitsRound dialog round) (sym c.deref_mut.ensures.value) new.2) p;
         first_is = refl;
         last_is = refl;
+        due_is = refl;
       });
       cells_for = subst (λ (those : List Bool). CellsFor config those (v.calls ++ view ∷ [])) (sym (whole ∙ taken ∙ ap (λ (n : ℕ). set items (n - 1) true) cell))
           (cells_more config items v.calls view s.cells_for next.cell_is_one next.cell_is_there);

@@ -1,9 +1,9 @@
-use Rattle.std.proofs.Common.{sym, subst, List}
+use Rattle.std.proofs.Common.{refl, sym, subst, List}
 use Rattle.call_board.specs.declared.live_call.LiveCall.{LiveCall}
 use Rattle.call_board.specs.Views.{CallView, with_round, goes_on}
 use Rattle.call_board.specs.Boards.{CallFor, CallsFor, CallMatches}
 use Rattle.call_board.proofs.Shown.{shown_call, shown_is, same_one}
-use Rattle.call_board.proofs.Applies.{went_on, cells_stay}
+use Rattle.call_board.proofs.Applies.{changed, cells_stay}
 use Rattle.call_board.specs.CallNumbers.{AreBelow}
 use Rattle.call_board.proofs.Numbered.{with_changed}
 use Rattle.call_board.proofs.board.Board.go_on.Goals as goal
@@ -26,10 +26,10 @@ returns-clause-taken c = λ config v of round s e begun p.
       begun_is = s.begun_is;
       drawn_is = s.drawn_is;
       calls_for = subst (λ (calls : List LiveCall). CallsFor config calls (goes_on c.args.call round c.args.now v.calls)) (sym went.list_is)
-          (went_on config c.args.call round c.args.now c.args.self.now.calls.list v.calls c.place-place.result went.before went.after s.calls_for c.place-place.ensures.place
+          (changed config c.args.call (with_round round c.args.now) c.args.self.now.calls.list v.calls c.place-place.result went.before went.after s.calls_for c.place-place.ensures.place
           (λ x f. subst (λ (x : CallView). CallFor config went.after (with_round round c.args.now x)) (same_one e f)
           (went.taken config of round (shown_is config v c.args.call went.before of shown e) begun p)));
-      cells_for = cells_stay config c.args.self.now.taken.items c.args.call round c.args.now v.calls s.cells_for;
+      cells_for = cells_stay config c.args.self.now.taken.items c.args.call (with_round round c.args.now) (λ c. refl) v.calls s.cells_for;
       pool_for = s.pool_for;
       replies_for = s.replies_for;
     }

@@ -4,12 +4,12 @@ use Rattle.std.specs.Str.{bytes_eq}
 use Rattle.relay_outside.specs.declared.settings.Config.{Config}
 use Rattle.offer_answer.specs.Dialogs.{DialogFor}
 use Rattle.offer_answer.specs.Plans.{OfferPlan}
-use Rattle.call_board.specs.declared.fault.BoardFault.TheVariants.{NoPair}
+use Rattle.call_board.specs.declared.fault.BoardFault.TheVariants.{NoPair, Ending}
 use Rattle.call_board.specs.declared.live_call.LiveCall.{LiveCall}
 use Rattle.call_board.specs.Views.{CallView, is_of_id}
 use Rattle.call_board.specs.Plans.{PlansFor, target_by, board_fault}
 use Rattle.call_board.proofs.Shown.{IsFirst, call_at_place, asks_id, lent_for}
-use Rattle.call_board.proofs.Plans.{refused_by, answers_short, answers_none}
+use Rattle.call_board.proofs.Plans.{refused_by, answers_short, answers_none, marked_by, unless_ending, when_ending}
 use Rattle.call_board.proofs.board.Board.plan_later.Goals as goal
 
 pub returns-in_err-plan-clause-plans : goal.returns-in_err-plan-clause-plans
@@ -22,7 +22,8 @@ returns-in_err-plan-clause-plans c =
     (call_at_place config (λ (call : LiveCall). bytes_eq call.id.list id) (is_of_id id) c.args.self.now.calls.list v.calls c.args.place call (asks_id config id) s.calls_for c.requires.found) in
     let dialog = lent_for c.deref.ensures (subst (λ (k : Config). DialogFor k call.dialog.value f.of.rounds) (sym s.config_is) f.call_for.dialog_for) in
     subst (λ (o : Option CallView). PlansFor config v (target_by v id o) ask (Err (board_fault c.in_err-plan.field-0.0))) (sym f.found)
-    (refused_by config v false f.of.rounds ask c.in_err-plan.field-0.0 (c.in_err-plan.ensures.answered f.of.rounds ask dialog asks)))
+    (λ n. unless_ending config v id f.of ask _ (marked_by f.call_for.due_is c.is_some.ensures c.if-is_some.false)
+    (refused_by config v false f.of.rounds ask c.in_err-plan.field-0.0 (c.in_err-plan.ensures.answered f.of.rounds ask dialog asks) n)))
 
 pub returns-then-lacks_pairs-clause-plans : goal.returns-then-lacks_pairs-clause-plans
 returns-then-lacks_pairs-clause-plans c = λ config v ask s asks.
@@ -33,8 +34,9 @@ returns-then-lacks_pairs-clause-plans c = λ config v ask s asks.
     let dialog = lent_for c.deref.ensures (subst (λ (k : Config). DialogFor k call.dialog.value f.of.rounds) (sym s.config_is) f.call_for.dialog_for) in
     subst (λ (o : Option CallView). PlansFor config v (target_by v id o) ask (Err NoPair)) (sym f.found)
     (λ n. let made = c.in_ok-plan.ensures.answered f.of.rounds ask dialog asks in
-    answers_short config c.args.self.now v false f.of.rounds ask c.in_ok-plan.plan s (made.0, made.1.demands)
-    (inl refl) (sym c.lacks_pairs.ensures ∙ c.if-lacks_pairs.true))
+    unless_ending config v id f.of ask _ (marked_by f.call_for.due_is c.is_some.ensures c.if-is_some.false)
+    (answers_short config c.args.self.now v false f.of.rounds ask c.in_ok-plan.plan s (made.0, made.1.demands)
+    (inl refl) (sym c.lacks_pairs.ensures ∙ c.if-lacks_pairs.true)))
 
 pub returns-clause-plans : goal.returns-clause-plans
 returns-clause-plans c = λ config v ask s asks.
@@ -46,7 +48,8 @@ returns-clause-plans c = λ config v ask s asks.
     let made = c.in_ok-plan.ensures.answered f.of.rounds ask dialog asks in
     subst (λ (o : Option CallView). PlansFor config v (target_by v id o) ask
     (Ok (record { plan = c.in_ok-plan.plan; call = call.number; cell = call.cell; begun = None; leases = c.in_ok-leases.leases }))) (sym f.found) (
-      answers_none config c.args.self.now v false f.of.rounds ask c.in_ok-plan.plan s (made.0, made.1.demands) (inl refl) (sym c.lacks_pairs.ensures ∙ c.if-lacks_pairs.false),
+      unless_ending config v id f.of ask _ (marked_by f.call_for.due_is c.is_some.ensures c.if-is_some.false)
+          (answers_none config c.args.self.now v false f.of.rounds ask c.in_ok-plan.plan s (made.0, made.1.demands) (inl refl) (sym c.lacks_pairs.ensures ∙ c.if-lacks_pairs.false)),
       record {
         call_is = f.call_for.number_is;
         cell_is = f.call_for.cell_is;
@@ -54,3 +57,12 @@ returns-clause-plans c = λ config v ask s asks.
         begins = refl;
       },
     )
+
+pub returns-then-is_some-clause-plans : goal.returns-then-is_some-clause-plans
+returns-then-is_some-clause-plans c = λ config v ask s asks.
+    let id = c.args.input.now.call_id.list in
+    let call = c.at-call.result.now in
+    let f = subst (λ (call : LiveCall). IsFirst config (is_of_id id) v.calls call) (sym c.at-call.ensures)
+    (call_at_place config (λ (call : LiveCall). bytes_eq call.id.list id) (is_of_id id) c.args.self.now.calls.list v.calls c.args.place call (asks_id config id) s.calls_for c.requires.found) in
+    subst (λ (o : Option CallView). PlansFor config v (target_by v id o) ask (Err Ending)) (sym f.found)
+    (λ n. when_ending config v id f.of ask (marked_by f.call_for.due_is c.is_some.ensures c.if-is_some.true))

@@ -4,11 +4,12 @@ use Rattle.std.specs.Str.{bytes_eq}
 use Rattle.relay_outside.specs.declared.settings.Config.{Config}
 use Rattle.offer_answer.specs.Dialogs.{DialogFor}
 use Rattle.offer_answer.specs.Plans.{AnswerPlan}
+use Rattle.call_board.specs.declared.fault.BoardFault.TheVariants.{Ending}
 use Rattle.call_board.specs.declared.live_call.LiveCall.{LiveCall}
 use Rattle.call_board.specs.Views.{CallView, is_of_id}
 use Rattle.call_board.specs.Plans.{PlansAnswer, board_fault}
 use Rattle.call_board.proofs.Shown.{IsFirst, call_at_place, asks_id, lent_for}
-use Rattle.call_board.proofs.Plans.{answer_refused_by}
+use Rattle.call_board.proofs.Plans.{answer_refused_by, marked_by, answer_unless_ending, answer_when_ending}
 use Rattle.call_board.proofs.board.Board.plan_reply.Goals as goal
 
 pub returns-in_err-plan-clause-plans : goal.returns-in_err-plan-clause-plans
@@ -21,7 +22,8 @@ returns-in_err-plan-clause-plans c =
     (call_at_place config (λ (call : LiveCall). bytes_eq call.id.list id) (is_of_id id) c.args.self.now.calls.list v.calls c.args.place call (asks_id config id) s.calls_for c.requires.found) in
     let dialog = lent_for c.deref.ensures (subst (λ (k : Config). DialogFor k call.dialog.value f.of.rounds) (sym s.config_is) f.call_for.dialog_for) in
     subst (λ (o : Option CallView). PlansAnswer config c.args.input.now c.args.sdp.now o (Err (board_fault c.in_err-plan.field-0.0))) (sym f.found)
-    (λ ask asks. answer_refused_by f.of.rounds ask c.args.sdp.now c.args.self.now.config c.in_err-plan.field-0.0 (c.in_err-plan.ensures.answered f.of.rounds ask dialog asks)))
+    (λ ask asks n. answer_unless_ending f.of ask _ (marked_by f.call_for.due_is c.is_some.ensures c.if-is_some.false)
+    (answer_refused_by f.of.rounds ask c.args.sdp.now c.args.self.now.config c.in_err-plan.field-0.0 (c.in_err-plan.ensures.answered f.of.rounds ask dialog asks) n)))
 
 pub returns-clause-plans : goal.returns-clause-plans
 returns-clause-plans c = λ config v s.
@@ -34,7 +36,7 @@ returns-clause-plans c = λ config v s.
     (Ok (record { plan = c.in_ok-plan.plan; call = call.number; cell = call.cell; begun = None; leases = None }))) (sym f.found)
     (λ ask asks.
     let made = c.in_ok-plan.ensures.answered f.of.rounds ask dialog asks in (
-      made.0,
+      answer_unless_ending f.of ask None (marked_by f.call_for.due_is c.is_some.ensures c.if-is_some.false) made.0,
       record {
         call_is = f.call_for.number_is;
         cell_is = f.call_for.cell_is;
@@ -42,3 +44,12 @@ returns-clause-plans c = λ config v s.
         begins_none = refl;
       },
     ))
+
+pub returns-then-is_some-clause-plans : goal.returns-then-is_some-clause-plans
+returns-then-is_some-clause-plans c = λ config v s.
+    let id = c.args.input.now.call_id.list in
+    let call = c.at-call.result.now in
+    let f = subst (λ (call : LiveCall). IsFirst config (is_of_id id) v.calls call) (sym c.at-call.ensures)
+    (call_at_place config (λ (call : LiveCall). bytes_eq call.id.list id) (is_of_id id) c.args.self.now.calls.list v.calls c.args.place call (asks_id config id) s.calls_for c.requires.found) in
+    subst (λ (o : Option CallView). PlansAnswer config c.args.input.now c.args.sdp.now o (Err Ending)) (sym f.found)
+    (λ ask asks n. answer_when_ending f.of ask (marked_by f.call_for.due_is c.is_some.ensures c.if-is_some.true))

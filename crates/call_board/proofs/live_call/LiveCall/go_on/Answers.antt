@@ -13,4 +13,5 @@ returns-clause-taken c = λ config of round s begun p.
           (begun_awaits config c.deref_mut.result.now of.rounds round stands begun) p;
       first_is = s.first_is;
       last_is = refl;
+      due_is = s.due_is;
     }
