@@ -1,5 +1,5 @@
 -- The openings among several calls, and their results.
-use Rattle.std.proofs.Common.{◌≡◌, ◌∙◌, sym, ap, refl, ℕ, zero, suc, ◌+◌, ◌*◌, ◌≤◌, Bool, List, [], ◌∷◌, ◌++◌, Option, length, take, drop, append-nil, arith}
+use Rattle.std.proofs.Common.{◌≡◌, ◌∙◌, sym, ap, refl, ℕ, zero, suc, ◌*◌, ◌≤◌, Bool, List, [], ◌∷◌, ◌++◌, Option, length, take, drop, append-nil, arith}
 use Rattle.std.specs.List.{AllZip}
 use Rattle.std.proofs.lemmas.List.Elements.{filter-append, filter_map-append}
 use Rattle.relay_outside.specs.declared.address.Addr.{Addr}
@@ -9,8 +9,8 @@ use Rattle.relay_outside.specs.declared.ports.PortCall.TheVariants.{Open, Close}
 use Rattle.relay_outside.specs.DeviceLogs.{Gained}
 use Rattle.relay_outside.proofs.Telling.{gained_both, gained_none}
 use Rattle.port_pool.specs.declared.pairs.Lease.{Lease}
-use Rattle.media_ports.specs.Addresses.{port_at, addresses_of, pairs_of_leases, HavePorts}
-use Rattle.media_ports.specs.Openings.{opening_answer, opening_answers, is_opening, opening_calls, pair_addresses, OpensWith, NoneOpened, OpensThese, OpensAt}
+use Rattle.media_ports.specs.Addresses.{pair_addresses, addresses_of, pairs_of_leases}
+use Rattle.media_ports.specs.Openings.{opening_answer, opening_answers, is_opening, opening_calls, OpensWith, NoneOpened, OpensThese, OpensAt}
 use Rattle.media_ports.specs.Calls.{openings, ClosesUncalled}
 use Rattle.media_ports.proofs.Leased.{length-addresses_of}
 
@@ -94,21 +94,14 @@ pair_addresses_split config (suc count) [] = refl
 pair_addresses_split config (suc count) (pair ∷ pairs) =
     ap (λ (ats : List Addr). pair_addresses config (pair ∷ []) ++ ats) (pair_addresses_split config count pairs)
 
--- the ports of leases are those of their pairs
-leased_addresses : (config : Config) (leases : List Lease) → HavePorts config leases → addresses_of config.interface leases ≡ pair_addresses config (pairs_of_leases leases)
-leased_addresses config [] have = refl
-leased_addresses config (lease ∷ leases) have =
-    ap (λ (port : ℕ). port_at config.interface port ∷ port_at config.interface (port + 1) ∷ addresses_of config.interface leases) have.0
-    ∙ ap (λ (ats : List Addr). pair_addresses config (lease.pair ∷ []) ++ ats) (leased_addresses config leases have.1)
-
 -- openings of the ports of leases whose pairs are in front, and then calls that open none
-pub opens_front : (config : Config) (pairs : List ℕ) (count : ℕ) (leases : List Lease) (answers : List Bool) (closes calls : List PortCall) → HavePorts config leases →
-    pairs_of_leases leases ≡ take count pairs → length answers ≤ 2 * length leases → calls ≡ openings (addresses_of config.interface leases) answers ++ closes → NoneOpened closes →
+pub opens_front : (config : Config) (pairs : List ℕ) (count : ℕ) (leases : List Lease) (answers : List Bool) (closes calls : List PortCall) →
+    pairs_of_leases leases ≡ take count pairs → length answers ≤ 2 * length leases → calls ≡ openings (addresses_of config leases) answers ++ closes → NoneOpened closes →
     OpensAt config pairs answers calls
-opens_front config pairs count leases answers closes calls have front few opens none =
-    let ats = addresses_of config.interface leases in
-    let enough : length answers ≤ length ats = (let many = length-addresses_of config.interface leases in omega (arith, many, few)) in
-    let those : ats ≡ pair_addresses config (take count pairs) = leased_addresses config leases have ∙ ap (pair_addresses config) front in record {
+opens_front config pairs count leases answers closes calls front few opens none =
+    let ats = addresses_of config leases in
+    let enough : length answers ≤ length ats = (let many = length-addresses_of config leases in omega (arith, many, few)) in
+    let those : ats ≡ pair_addresses config (take count pairs) = ap (pair_addresses config) front in record {
       answered = ap opening_answers opens ∙ opens_with_closed answers (openings ats answers) closes (openings_answered ats answers enough) none;
       in_order = ap opening_calls opens ∙ opens_these_closed (openings ats answers) (openings ats answers) closes (openings_kept ats answers) none ∙ sym (openings_front ats (pair_addresses config (drop count pairs)) answers enough)
           ∙ ap (λ (front : List Addr). openings (front ++ pair_addresses config (drop count pairs)) answers) those

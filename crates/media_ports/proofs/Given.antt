@@ -86,9 +86,9 @@ abbrev pub AreOfPairs : Config → List Addr → Type 0
 AreOfPairs config ats = (at : Addr) → In at ats → IsPorts config at
 
 -- the addresses of leases of pairs of the configuration are
-pub leased_of_pairs : (config : Config) (leases : List Lease) → AreLeased config leases → AreOfPairs config (addresses_of config.interface leases)
+pub leased_of_pairs : (config : Config) (leases : List Lease) → AreLeased config leases → AreOfPairs config (addresses_of config leases)
 leased_of_pairs config leases leased at among =
-    let found = address_is config leases at leased.ports among in
+    let found = address_is config leases at among in
     (found.0, found.1, below (pair_count config) (pairs_of_leases leases) found.0 leased.differ found.3, found.2)
 
 one_opened : (config : Config) (at : Addr) (done : Bool) → IsPorts config at → GivesBackUncalled config (Open at done ∷ [])
@@ -126,9 +126,9 @@ closed_uncalled config (at ∷ ats) (Close other taken sent ∷ calls) are close
     (closed_uncalled config ats calls (λ next among. are next (there among)) closes.1)
 
 -- the openings of all ports of leases
-pub pairs_uncalled : (config : Config) (leases : List Lease) (calls : List PortCall) → AreLeased config leases → OpensPairs config.interface leases calls → GivesBackUncalled config calls
+pub pairs_uncalled : (config : Config) (leases : List Lease) (calls : List PortCall) → AreLeased config leases → OpensPairs config leases calls → GivesBackUncalled config calls
 pairs_uncalled config leases calls leased opens =
-    subst (GivesBackUncalled config) (sym opens) (opened_uncalled config (addresses_of config.interface leases) _ (leased_of_pairs config leases leased))
+    subst (GivesBackUncalled config) (sym opens) (opened_uncalled config (addresses_of config leases) _ (leased_of_pairs config leases leased))
 
 -- openings up to one that fails, and the closings after it
 pub upto_uncalled : (config : Config) (ats : List Addr) (opened : ℕ) (calls : List PortCall) → AreOfPairs config ats → OpensUpTo ats opened calls → GivesBackUncalled config calls

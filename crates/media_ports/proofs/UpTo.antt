@@ -3,10 +3,10 @@ use Rattle.std.proofs.Common.{◌≡◌, ◌∙◌, ap, sym, subst, refl, ℕ, z
 use Rattle.std.specs.Prelude.{slice_get}
 use Rattle.std.specs.List.{AllZip}
 use Rattle.std.proofs.Math.Seq.{append_snoc}
-use Rattle.std.proofs.lemmas.List.{replicate-append-replicate, length-map, length-append, length-take-le, length_push}
+use Rattle.std.proofs.lemmas.List.{replicate-append-replicate, length-append, length-take-le, length_push}
 use Rattle.std.proofs.lemmas.Option.{slice_get_within}
 use Rattle.relay_outside.specs.declared.address.Addr.{Addr}
-use Rattle.relay_outside.specs.declared.address.Ip.{Ip}
+use Rattle.relay_outside.specs.declared.settings.Config.{Config}
 use Rattle.relay_outside.specs.declared.ports.InCall.{InCall}
 use Rattle.relay_outside.specs.declared.ports.OutCall.{OutCall}
 use Rattle.relay_outside.specs.declared.ports.PortCall.{PortCall}
@@ -14,9 +14,10 @@ use Rattle.relay_outside.specs.declared.ports.PortCall.TheVariants.{Open}
 use Rattle.relay_outside.specs.Ports.{IsOpen}
 use Rattle.relay_outside.specs.DeviceLogs.{EndLog, Gained, WhereLogged}
 use Rattle.relay_outside.proofs.Telling.{gained_both}
+use Rattle.rtp_packet.specs.declared.head.Half.TheVariants.{Rtp, Rtcp}
 use Rattle.histories.specs.Words.{In, here, there}
 use Rattle.port_pool.specs.declared.pairs.Lease.{Lease}
-use Rattle.media_ports.specs.Addresses.{port_at, ports_of, addresses_of, ArePorts}
+use Rattle.media_ports.specs.Addresses.{port_address, addresses_of, AreDistinct}
 use Rattle.media_ports.specs.Calls.{openings, OpensPairs, OpensHalf, OpensUpTo, ClosesUncalled, NoneOpen, AllOpen, SameOpen}
 use Rattle.media_ports.specs.declared.opened_ports.HalfOpened.{HalfOpened}
 use Rattle.media_ports.specs.declared.ends.PairEnds.{PairEnds}
@@ -25,7 +26,7 @@ use Rattle.media_ports.proofs.Telling.{told_after}
 use Rattle.media_ports.proofs.Opened.{open_anew, open_before}
 use Rattle.media_ports.proofs.Closed.{zip-append, OpensAll, closes_uncalled, opens_each, still_open, open_since, open_beside, not_open}
 use Rattle.media_ports.proofs.Apart.{none_open_after}
-use Rattle.media_ports.proofs.Leased.{take_next, drop_next, later_ports, addresses_of-append, length-ports_of, all_from_pairs}
+use Rattle.media_ports.proofs.Leased.{take_next, drop_next, later_distinct, addresses_of-append, length-addresses_of, all_from_pairs}
 
 -- openings of first and then of more addresses
 pub openings-append : (front back : List Addr) (answers : List Bool) → openings (front ++ back) (replicate (length front) true ++ answers) ≡ openings front (replicate (length front) true) ++ openings back answers
@@ -44,34 +45,34 @@ all_from [] calls each = tt
 all_from (a ∷ ats) calls each = (each a (here refl), all_from ats calls (λ at more. each at (there more)))
 
 -- all ports of the leases are open then
-pub told_all_open : (interface : Ip) (leases : List Lease) (old new : Option (List PortCall)) (Q : List PortCall → Type 0) → WhereLogged old Q → Gained old new (OpensPairs interface leases) →
-    WhereLogged new (AllOpen (addresses_of interface leases))
-told_all_open interface leases old new Q held opens =
-    told_after old new (OpensPairs interface leases) Q (AllOpen (addresses_of interface leases))
+pub told_all_open : (config : Config) (leases : List Lease) (old new : Option (List PortCall)) (Q : List PortCall → Type 0) → WhereLogged old Q → Gained old new (OpensPairs config leases) →
+    WhereLogged new (AllOpen (addresses_of config leases))
+told_all_open config leases old new Q held opens =
+    told_after old new (OpensPairs config leases) Q (AllOpen (addresses_of config leases))
     (λ before more h these.
-    let all = all_from (addresses_of interface leases) (before ++ openings (addresses_of interface leases) (replicate (length (addresses_of interface leases)) true)) (opens_each (addresses_of interface leases) before) in
-    subst (λ (calls : List PortCall). AllOpen (addresses_of interface leases) (before ++ calls)) (sym (all_from_pairs interface leases more these)) all) held opens
+    let all = all_from (addresses_of config leases) (before ++ openings (addresses_of config leases) (replicate (length (addresses_of config leases)) true)) (opens_each (addresses_of config leases) before) in
+    subst (λ (calls : List PortCall). AllOpen (addresses_of config leases) (before ++ calls)) (sym (all_from_pairs config leases more these)) all) held opens
 
 -- one lease more
-pub opens_next : (interface : Ip) (leases : List Lease) (i : ℕ) (lease : Lease) (xs ys : List PortCall) → slice_get leases i ≡ Some lease →
-    OpensAll (addresses_of interface (take i leases)) xs → OpensAll (addresses_of interface (lease ∷ [])) ys → OpensAll (addresses_of interface (take (i + 1) leases)) (xs ++ ys)
-opens_next interface leases i lease xs ys is these those =
-    subst (λ (ats : List Addr). OpensAll ats (xs ++ ys)) (sym (ap (addresses_of interface) (take_next leases i lease is) ∙ addresses_of-append interface (take i leases) (lease ∷ [])))
-    (opens_more (addresses_of interface (take i leases)) (addresses_of interface (lease ∷ [])) xs ys these those)
+pub opens_next : (config : Config) (leases : List Lease) (i : ℕ) (lease : Lease) (xs ys : List PortCall) → slice_get leases i ≡ Some lease →
+    OpensAll (addresses_of config (take i leases)) xs → OpensAll (addresses_of config (lease ∷ [])) ys → OpensAll (addresses_of config (take (i + 1) leases)) (xs ++ ys)
+opens_next config leases i lease xs ys is these those =
+    subst (λ (ats : List Addr). OpensAll ats (xs ++ ys)) (sym (ap (addresses_of config) (take_next leases i lease is) ∙ addresses_of-append config (take i leases) (lease ∷ [])))
+    (opens_more (addresses_of config (take i leases)) (addresses_of config (lease ∷ [])) xs ys these those)
 
-pub none_open_here : (interface : Ip) (leases : List Lease) (i : ℕ) (lease : Lease) (calls : List PortCall) → slice_get leases i ≡ Some lease →
-    NoneOpen (addresses_of interface (drop i leases)) calls → NoneOpen (addresses_of interface (lease ∷ [])) calls
-none_open_here interface leases i lease calls is none =
-    let these = subst (λ (ls : List Lease). NoneOpen (addresses_of interface ls) calls) (drop_next leases i lease is) none in
+pub none_open_here : (config : Config) (leases : List Lease) (i : ℕ) (lease : Lease) (calls : List PortCall) → slice_get leases i ≡ Some lease →
+    NoneOpen (addresses_of config (drop i leases)) calls → NoneOpen (addresses_of config (lease ∷ [])) calls
+none_open_here config leases i lease calls is none =
+    let these = subst (λ (ls : List Lease). NoneOpen (addresses_of config ls) calls) (drop_next leases i lease is) none in
     (these.0, (these.1.0, tt))
 
-pub none_open_later : (interface : Ip) (leases : List Lease) (i : ℕ) (lease : Lease) (calls more : List PortCall) → slice_get leases i ≡ Some lease → ArePorts (ports_of leases) →
-    NoneOpen (addresses_of interface (drop i leases)) calls → OpensAll (addresses_of interface (lease ∷ [])) more → NoneOpen (addresses_of interface (drop (i + 1) leases)) (calls ++ more)
-none_open_later interface leases i lease calls more is are none opens =
-    let these = subst (λ (ls : List Lease). NoneOpen (addresses_of interface ls) calls) (drop_next leases i lease is) none in
-    let ports = subst (λ (ls : List Lease). ArePorts (ports_of ls)) (drop_next leases i lease is) (later_ports leases i are) in
-    subst (λ (those : List PortCall). NoneOpen (addresses_of interface (drop (i + 1) leases)) (calls ++ those)) (sym opens)
-    (none_open_after interface (ports_of (lease ∷ [])) (ports_of (drop (i + 1) leases)) (true ∷ true ∷ []) calls ports these.1.1)
+pub none_open_later : (config : Config) (leases : List Lease) (i : ℕ) (lease : Lease) (calls more : List PortCall) → slice_get leases i ≡ Some lease → AreDistinct (addresses_of config leases) →
+    NoneOpen (addresses_of config (drop i leases)) calls → OpensAll (addresses_of config (lease ∷ [])) more → NoneOpen (addresses_of config (drop (i + 1) leases)) (calls ++ more)
+none_open_later config leases i lease calls more is are none opens =
+    let these = subst (λ (ls : List Lease). NoneOpen (addresses_of config ls) calls) (drop_next leases i lease is) none in
+    let distinct = subst (λ (ls : List Lease). AreDistinct (addresses_of config ls)) (drop_next leases i lease is) (later_distinct config leases i are) in
+    subst (λ (those : List PortCall). NoneOpen (addresses_of config (drop (i + 1) leases)) (calls ++ those)) (sym opens)
+    (none_open_after (addresses_of config (lease ∷ [])) (addresses_of config (drop (i + 1) leases)) (true ∷ true ∷ []) calls distinct these.1.1)
 
 -- The opening that fails.
 
@@ -81,18 +82,18 @@ short a b [] (suc zero) within = refl
 short a b (at ∷ rest) (suc zero) within = refl
 short a b rest (suc (suc k)) within = absurd (omega (arith, within))
 
-pub fails_next : (interface : Ip) (leases : List Lease) (i k : ℕ) (lease : Lease) (xs ys : List PortCall) → slice_get leases i ≡ Some lease → k ≤ 1 →
-    OpensAll (addresses_of interface (take i leases)) xs → OpensHalf (addresses_of interface (lease ∷ [])) k ys → OpensHalf (addresses_of interface leases) (2 * i + k) (xs ++ ys)
-fails_next interface leases i k lease xs ys is few these those =
+pub fails_next : (config : Config) (leases : List Lease) (i k : ℕ) (lease : Lease) (xs ys : List PortCall) → slice_get leases i ≡ Some lease → k ≤ 1 →
+    OpensAll (addresses_of config (take i leases)) xs → OpensHalf (addresses_of config (lease ∷ [])) k ys → OpensHalf (addresses_of config leases) (2 * i + k) (xs ++ ys)
+fails_next config leases i k lease xs ys is few these those =
     let within = slice_get_within leases i lease is in
-    let front = addresses_of interface (take i leases) in
-    let rest = addresses_of interface (drop (i + 1) leases) in
-    let rtp = port_at interface lease.rtp_port in
-    let rtcp = port_at interface (lease.rtp_port + 1) in
+    let front = addresses_of config (take i leases) in
+    let rest = addresses_of config (drop (i + 1) leases) in
+    let rtp = port_address config lease.pair Rtp in
+    let rtcp = port_address config lease.pair Rtcp in
     let answers = replicate k true ++ false ∷ [] in
-    let many : length front ≡ 2 * i = length-map (ports_of (take i leases)) (port_at interface) ∙ length-ports_of (take i leases) ∙ ap (λ n. 2 * n) (length-take-le i leases (omega (arith, within))) in
-    let all : addresses_of interface leases ≡ front ++ rtp ∷ rtcp ∷ rest =
-    ap (addresses_of interface) (sym (take-append-drop i leases) ∙ ap (λ (ls : List Lease). take i leases ++ ls) (drop_next leases i lease is)) ∙ addresses_of-append interface (take i leases) (lease ∷ drop (i + 1) leases) in
+    let many : length front ≡ 2 * i = length-addresses_of config (take i leases) ∙ ap (λ n. 2 * n) (length-take-le i leases (omega (arith, within))) in
+    let all : addresses_of config leases ≡ front ++ rtp ∷ rtcp ∷ rest =
+    ap (addresses_of config) (sym (take-append-drop i leases) ∙ ap (λ (ls : List Lease). take i leases ++ ls) (drop_next leases i lease is)) ∙ addresses_of-append config (take i leases) (lease ∷ drop (i + 1) leases) in
     let shown : replicate (2 * i + k) true ++ false ∷ [] ≡ replicate (length front) true ++ answers =
     ap (λ (bs : List Bool). bs ++ false ∷ []) (sym (replicate-append-replicate (2 * i) k true)) ∙ append_assoc (replicate (2 * i) true) (replicate k true) (false ∷ []) ∙ ap (λ n. replicate n true ++ answers) (sym many) in
     ap (λ (calls : List PortCall). calls ++ ys) these
@@ -166,12 +167,12 @@ pub undone : (ats : List Addr) (n : ℕ) (xs ys : List PortCall) → OpensHalf a
 undone ats n xs ys opens closed = record { closes = ys; then_fails = ap (λ (calls : List PortCall). calls ++ ys) opens; closed = closed }
 
 -- the same of the lists that are told
-pub gained_failing : (interface : Ip) (leases : List Lease) (i k : ℕ) (lease : Lease) (old mid new : Option (List PortCall)) → slice_get leases i ≡ Some lease → k ≤ 1 →
-    Gained old mid (OpensAll (addresses_of interface (take i leases))) → Gained mid new (OpensHalf (addresses_of interface (lease ∷ [])) k) →
-    Gained old new (OpensHalf (addresses_of interface leases) (2 * i + k))
-gained_failing interface leases i k lease old mid new is few opens fails =
-    gained_both old mid new (OpensAll (addresses_of interface (take i leases))) (OpensHalf (addresses_of interface (lease ∷ [])) k) (OpensHalf (addresses_of interface leases) (2 * i + k))
-    (λ xs ys these those. fails_next interface leases i k lease xs ys is few these those) opens fails
+pub gained_failing : (config : Config) (leases : List Lease) (i k : ℕ) (lease : Lease) (old mid new : Option (List PortCall)) → slice_get leases i ≡ Some lease → k ≤ 1 →
+    Gained old mid (OpensAll (addresses_of config (take i leases))) → Gained mid new (OpensHalf (addresses_of config (lease ∷ [])) k) →
+    Gained old new (OpensHalf (addresses_of config leases) (2 * i + k))
+gained_failing config leases i k lease old mid new is few opens fails =
+    gained_both old mid new (OpensAll (addresses_of config (take i leases))) (OpensHalf (addresses_of config (lease ∷ [])) k) (OpensHalf (addresses_of config leases) (2 * i + k))
+    (λ xs ys these those. fails_next config leases i k lease xs ys is few these those) opens fails
 
 pub gained_undone : (ats : List Addr) (n m opened : ℕ) (old mid new : Option (List PortCall)) → m ≡ n → opened ≡ m →
     Gained old mid (OpensHalf ats n) → Gained mid new (AllZip ClosesUncalled (take m ats)) → Gained old new (OpensUpTo ats opened)
@@ -191,18 +192,18 @@ half_few (Some ends) = omega arith
 
 -- The ends of one pair more.
 
-pub opened_pushed : {I O : Type 0} (taken : I → EndLog InCall) (sent : O → EndLog OutCall) (interface : Ip) (leases : List Lease) (i : ℕ) (lease : Lease) (old new : EndsList I O)
-    (ends : PairEnds I O) → slice_get leases i ≡ Some lease → new ≡ with_ends old ends → ArePairsOpened taken sent interface (take i leases) old.list →
-    IsPairOpened taken sent interface lease ends → ArePairsOpened taken sent interface (take (i + 1) leases) new.list
-opened_pushed {I} {O} taken sent interface leases i lease old new ends at is those this =
-    subst (λ (opened : EndsList I O). ArePairsOpened taken sent interface (take (i + 1) leases) opened.list) (sym is)
-    (subst (λ (ls : List Lease). ArePairsOpened taken sent interface ls (old.list ++ ends ∷ [])) (sym (take_next leases i lease at))
-    (zip-append (IsPairOpened taken sent interface) (take i leases) (lease ∷ []) old.list (ends ∷ []) those (this, tt)))
+pub opened_pushed : {I O : Type 0} (taken : I → EndLog InCall) (sent : O → EndLog OutCall) (config : Config) (leases : List Lease) (i : ℕ) (lease : Lease) (old new : EndsList I O)
+    (ends : PairEnds I O) → slice_get leases i ≡ Some lease → new ≡ with_ends old ends → ArePairsOpened taken sent config (take i leases) old.list →
+    IsPairOpened taken sent config lease ends → ArePairsOpened taken sent config (take (i + 1) leases) new.list
+opened_pushed {I} {O} taken sent config leases i lease old new ends at is those this =
+    subst (λ (opened : EndsList I O). ArePairsOpened taken sent config (take (i + 1) leases) opened.list) (sym is)
+    (subst (λ (ls : List Lease). ArePairsOpened taken sent config ls (old.list ++ ends ∷ [])) (sym (take_next leases i lease at))
+    (zip-append (IsPairOpened taken sent config) (take i leases) (lease ∷ []) old.list (ends ∷ []) those (this, tt)))
 
 -- the ends that an opening made are those of the lease's ports
-pub opened_of : {I O : Type 0} (taken : I → EndLog InCall) (sent : O → EndLog OutCall) (interface : Ip) (lease : Lease) (ends : PairEnds I O) →
-    IsPairOpened taken sent interface lease ends → AreOfLease taken sent interface lease ends
-opened_of taken sent interface lease ends is = (
+pub opened_of : {I O : Type 0} (taken : I → EndLog InCall) (sent : O → EndLog OutCall) (config : Config) (lease : Lease) (ends : PairEnds I O) →
+    IsPairOpened taken sent config lease ends → AreOfLease taken sent config lease ends
+opened_of taken sent config lease ends is = (
   record { rtp_at = is.rtp_in.at_is; rtcp_at = is.rtcp_in.at_is },
   record { rtp_at = is.rtp_out.at_is; rtcp_at = is.rtcp_out.at_is },
 )

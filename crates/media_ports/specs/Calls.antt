@@ -1,15 +1,16 @@
 -- What the opening and the closing of pairs add to a port maker's list, and which addresses are open then.
-use Rattle.std.specs.Prelude.{◌≡◌, ◌↔◌, ℕ, ◌+◌, ◌*◌, Bool, true, false, Option, List, [], ◌∷◌, ◌++◌, length, take, replicate}
+use Rattle.std.specs.Prelude.{◌≡◌, ◌↔◌, ℕ, ◌*◌, Bool, true, false, Option, List, [], ◌∷◌, ◌++◌, length, take, replicate}
 use Rattle.std.specs.List.{AllZip}
 use Rattle.relay_outside.specs.declared.address.Addr.{Addr}
-use Rattle.relay_outside.specs.declared.address.Ip.{Ip}
+use Rattle.relay_outside.specs.declared.settings.Config.{Config}
 use Rattle.relay_outside.specs.declared.ports.PortCall.{PortCall}
 use Rattle.relay_outside.specs.declared.ports.PortCall.TheVariants.{Open, Close}
 use Rattle.relay_outside.specs.DeviceLogs.{StartsEmpty, WhereLogged}
 use Rattle.relay_outside.specs.Ports.{IsOpen}
+use Rattle.rtp_packet.specs.declared.head.Half.TheVariants.{Rtp, Rtcp}
 use Rattle.histories.specs.Words.{In}
 use Rattle.port_pool.specs.declared.pairs.Lease.{Lease}
-use Rattle.media_ports.specs.Addresses.{port_at, addresses_of}
+use Rattle.media_ports.specs.Addresses.{port_address, addresses_of}
 use Rattle.media_ports.specs.Ends.{EndLogs}
 
 -- openings of these addresses in order, with these results: as many as there are results
@@ -19,8 +20,8 @@ openings (at ∷ ats) [] = []
 openings (at ∷ ats) (done ∷ answers) = Open at done ∷ openings ats answers
 
 -- the ports of leased pairs are opened, in order: two for each lease
-abbrev pub OpensPairs : Ip → List Lease → List PortCall → Type 0
-OpensPairs interface leases calls = calls ≡ openings (addresses_of interface leases) (replicate (2 * length leases) true)
+abbrev pub OpensPairs : Config → List Lease → List PortCall → Type 0
+OpensPairs config leases calls = calls ≡ openings (addresses_of config leases) (replicate (2 * length leases) true)
 
 -- `opened` addresses are opened, in order, and the opening of the next one fails
 abbrev pub OpensHalf : List Addr → ℕ → List PortCall → Type 0
@@ -44,10 +45,10 @@ pub record OpensUpTo (ats : List Addr) (opened : ℕ) (calls : List PortCall) : 
   pub closed : AllZip ClosesUncalled (take opened ats) closes
 
 -- the ports of a leased pair are closed, that for RTP first, with what their ends tell
-abbrev pub ClosesPair : Ip → Lease → EndLogs → List PortCall → Type 0
-ClosesPair interface lease ends calls = calls
-    ≡ Close (port_at interface lease.rtp_port) ends.rtp_in ends.rtp_out
-    ∷ Close (port_at interface (lease.rtp_port + 1)) ends.rtcp_in ends.rtcp_out ∷ []
+abbrev pub ClosesPair : Config → Lease → EndLogs → List PortCall → Type 0
+ClosesPair config lease ends calls = calls
+    ≡ Close (port_address config lease.pair Rtp) ends.rtp_in ends.rtp_out
+    ∷ Close (port_address config lease.pair Rtcp) ends.rtcp_in ends.rtcp_out ∷ []
 
 -- none of these addresses is open
 abbrev pub NoneOpen : List Addr → List PortCall → Type 0

@@ -1,12 +1,13 @@
 -- The ends of opened pairs, in the order of leases.
-use Rattle.std.specs.Prelude.{ℕ, ◌+◌, Option, Some, None, List, [], ◌∷◌, ◌++◌}
+use Rattle.std.specs.Prelude.{ℕ, Option, Some, None, List, [], ◌∷◌, ◌++◌}
 use Rattle.std.specs.List.{AllZip}
-use Rattle.relay_outside.specs.declared.address.Ip.{Ip}
+use Rattle.relay_outside.specs.declared.settings.Config.{Config}
 use Rattle.relay_outside.specs.declared.ports.InCall.{InCall}
 use Rattle.relay_outside.specs.declared.ports.OutCall.{OutCall}
 use Rattle.relay_outside.specs.DeviceLogs.{EndLog, IsOpenedFor}
+use Rattle.rtp_packet.specs.declared.head.Half.TheVariants.{Rtp, Rtcp}
 use Rattle.port_pool.specs.declared.pairs.Lease.{Lease}
-use Rattle.port_pool.specs.Ports.{port_at, AreOfPair}
+use Rattle.port_pool.specs.Ports.{port_address, AreOfPair}
 use Rattle.media_ports.specs.declared.ends.PairEnds.{PairEnds}
 use Rattle.media_ports.specs.declared.opened_ports.HalfOpened.{HalfOpened}
 
@@ -36,26 +37,26 @@ module _ {I O : Type 0} (taken : I → EndLog InCall) (sent : O → EndLog OutCa
   }
 
   -- the ends of the pair were opened for the ports of the lease, each for its own, and not called since
-  pub record IsPairOpened (interface : Ip) (lease : Lease) (ends : PairEnds I O) : Type 0 where
-    pub rtp_in : IsOpenedFor (port_at interface lease.rtp_port) (taken ends.rtp_in)
-    pub rtp_out : IsOpenedFor (port_at interface lease.rtp_port) (sent ends.rtp_out)
-    pub rtcp_in : IsOpenedFor (port_at interface (lease.rtp_port + 1)) (taken ends.rtcp_in)
-    pub rtcp_out : IsOpenedFor (port_at interface (lease.rtp_port + 1)) (sent ends.rtcp_out)
+  pub record IsPairOpened (config : Config) (lease : Lease) (ends : PairEnds I O) : Type 0 where
+    pub rtp_in : IsOpenedFor (port_address config lease.pair Rtp) (taken ends.rtp_in)
+    pub rtp_out : IsOpenedFor (port_address config lease.pair Rtp) (sent ends.rtp_out)
+    pub rtcp_in : IsOpenedFor (port_address config lease.pair Rtcp) (taken ends.rtcp_in)
+    pub rtcp_out : IsOpenedFor (port_address config lease.pair Rtcp) (sent ends.rtcp_out)
 
   -- the same of the pairs of these leases, in order
-  abbrev pub ArePairsOpened : Ip → List Lease → List (PairEnds I O) → Type 0
-  ArePairsOpened interface leases pairs = AllZip (IsPairOpened interface) leases pairs
+  abbrev pub ArePairsOpened : Config → List Lease → List (PairEnds I O) → Type 0
+  ArePairsOpened config leases pairs = AllZip (IsPairOpened config) leases pairs
 
   -- the ends of the port for RTP of the lease, where there are any, were opened for it, and not called since
-  abbrev pub IsHalfOpened : Ip → Lease → Option (HalfOpened I O) → Type 0
-  IsHalfOpened interface lease None = Unit {0}
-  IsHalfOpened interface lease (Some ends) =
-      IsOpenedFor (port_at interface lease.rtp_port) (taken ends.receiving) × IsOpenedFor (port_at interface lease.rtp_port) (sent ends.sending)
+  abbrev pub IsHalfOpened : Config → Lease → Option (HalfOpened I O) → Type 0
+  IsHalfOpened config lease None = Unit {0}
+  IsHalfOpened config lease (Some ends) =
+      IsOpenedFor (port_address config lease.pair Rtp) (taken ends.receiving) × IsOpenedFor (port_address config lease.pair Rtp) (sent ends.sending)
 
   -- the ends are those of the ports of the lease, each of its own
-  abbrev pub AreOfLease : Ip → Lease → PairEnds I O → Type 0
-  AreOfLease interface lease ends =
-      AreOfPair taken (port_at interface lease.rtp_port) ends.rtp_in ends.rtcp_in × AreOfPair sent (port_at interface lease.rtp_port) ends.rtp_out ends.rtcp_out
+  abbrev pub AreOfLease : Config → Lease → PairEnds I O → Type 0
+  AreOfLease config lease ends =
+      AreOfPair taken (port_address config lease.pair Rtp) ends.rtp_in ends.rtcp_in × AreOfPair sent (port_address config lease.pair Rtp) ends.rtp_out ends.rtcp_out
 
 -- how many ports of the pair were opened
 abbrev pub half_count : {I O : Type 0} → Option (HalfOpened I O) → ℕ

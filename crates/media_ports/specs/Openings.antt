@@ -1,11 +1,9 @@
 -- What a port maker was asked to open, by the list of its calls.
-use Rattle.std.specs.Prelude.{◌≡◌, ℕ, Bool, true, false, Option, Some, None, List, [], ◌∷◌, filter, filter_map}
-use Rattle.relay_outside.specs.declared.address.Addr.{Addr}
+use Rattle.std.specs.Prelude.{◌≡◌, ℕ, Bool, true, false, Option, Some, None, List, [], filter, filter_map}
 use Rattle.relay_outside.specs.declared.settings.Config.{Config}
 use Rattle.relay_outside.specs.declared.ports.PortCall.{PortCall}
 use Rattle.relay_outside.specs.declared.ports.PortCall.TheVariants.{Open, Close}
-use Rattle.rtp_packet.specs.declared.head.Half.TheVariants.{Rtp, Rtcp}
-use Rattle.media_ports.specs.Addresses.{port_address}
+use Rattle.media_ports.specs.Addresses.{pair_addresses}
 use Rattle.media_ports.specs.Calls.{openings}
 
 -- the result of an opening
@@ -24,11 +22,6 @@ OpensWith answers calls = opening_answers calls ≡ answers
 -- none is opened
 abbrev pub NoneOpened : List PortCall → Type 0
 NoneOpened calls = opening_answers calls ≡ []
-
--- the addresses of the ports of these pairs of the configuration, pair by pair, that for RTP before that for RTCP
-abbrev pub pair_addresses : Config → (pairs : List ℕ) → List Addr
-pair_addresses config [] = []
-pair_addresses config (pair ∷ pairs) = port_address config pair Rtp ∷ port_address config pair Rtcp ∷ pair_addresses config pairs
 
 abbrev pub is_opening : PortCall → Bool
 is_opening (Open at done) = true

@@ -1,3 +1,4 @@
 pub mod Queue
 pub mod Addresses
 pub mod Standing
+pub mod Numbered

@@ -4,7 +4,7 @@ use Rattle.std.proofs.lemmas.Bool.{eqb-false}
 use Rattle.std.specs.List.{AllByRecursion, IsDistinct, list_any}
 use Rattle.std.proofs.lemmas.Map.Steps.{length-le_from_distinct_below}
 use Rattle.histories.specs.Words.{has, numbers}
-use Rattle.port_pool.specs.Pools.{AreFree}
+use Rattle.port_pool.specs.Pools.{AreFree, AreFrom}
 
 -- the two facts of a pair that stands neither at the front nor in the rest
 first_differs : (b rest : Bool) → cond b true rest ≡ false → (b ≡ false) × (rest ≡ false)
@@ -34,12 +34,41 @@ all_below count [] free q h = cc
 all_below count (p ∷ pairs) free q h =
     below_by count p q (eqb q p) (list_any (eqb q) pairs) refl free.0 (all_below count pairs free.2 q) h
 
+-- pairs below the count are at most as many
+pub few_free : (count : ℕ) (pairs : List ℕ) → AreFree count pairs → length pairs ≤ count
+few_free count pairs free = length-le_from_distinct_below pairs count (no_two count pairs free) (all_below count pairs free)
+
+earlier_out : (p : ℕ) (pairs : List ℕ) → AreFrom (suc p) pairs → has pairs p ≡ false
+earlier_out p [] later = refl
+earlier_out p (q ∷ pairs) later =
+    let differs : eqb q p ≡ false = ne_eqb q p (λ e. omega (arith, later.0, e)) in
+    let rest : has pairs p ≡ false = earlier_out p pairs later.1 in
+    rw differs rest
+
+sooner_from : (first : ℕ) (pairs : List ℕ) → AreFrom (suc first) pairs → AreFrom first pairs
+sooner_from first [] later = tt
+sooner_from first (p ∷ pairs) later = (omega (arith, later.0), sooner_from first pairs later.1)
+
+-- pairs from one on and below the count are at most as many as these numbers
+pub few_between : (first count : ℕ) (pairs : List ℕ) → first ≤ count → AreFree count pairs → AreFrom first pairs → length pairs + first ≤ count
+few_between zero count pairs h free later = let few = few_free count pairs free in omega (arith, few)
+few_between (suc first) count pairs h free later =
+    let more = few_between first count (first ∷ pairs) (omega (arith, h)) (omega (arith, h), earlier_out first pairs later, free)
+    (omega arith, sooner_from first pairs later) in
+    omega (arith, more)
+
+pub fewer_between : (first count : ℕ) (pairs : List ℕ) (p : ℕ) → AreFree count pairs → AreFrom first pairs → p < count → first ≤ p → has pairs p ≡ false → length pairs + first < count
+fewer_between first count pairs p free later within from out =
+    let more = few_between first count (p ∷ pairs) (omega (arith, within, from)) (within, out, free) (from, later) in omega (arith, more)
+
+-- a pair from there on stands at the end
+pub later_behind : (first : ℕ) (pairs : List ℕ) (p : ℕ) → AreFrom first pairs → first ≤ p → AreFrom first (pairs ++ p ∷ [])
+later_behind first [] p later from = (from, tt)
+later_behind first (q ∷ pairs) p later from = (later.0, later_behind first pairs p later.1 from)
+
 -- where a pair is not free, fewer are free than there are pairs
 pub fewer_free : (count : ℕ) (pairs : List ℕ) (p : ℕ) → AreFree count pairs → p < count → has pairs p ≡ false → length pairs < count
-fewer_free count pairs p free within out =
-    let with_it : AreFree count (p ∷ pairs) = (within, out, free) in
-    let few : length (p ∷ pairs) ≤ count = length-le_from_distinct_below (p ∷ pairs) count (no_two count (p ∷ pairs) with_it) (all_below count (p ∷ pairs) with_it) in
-    omega (arith, few)
+fewer_free count pairs p free within out = let few = few_free count (p ∷ pairs) (within, out, free) in omega (arith, few)
 
 still_out_by : (b rest more : Bool) → (b ≡ false) → (rest ≡ false → more ≡ false) → cond b true rest ≡ false → cond b true more ≡ false
 still_out_by true rest more e later h = cc
@@ -69,9 +98,13 @@ numbers_within all n zero h = tt
 numbers_within all n (suc count) h =
     (omega (arith, h), smaller_out n (suc n) count (omega arith), numbers_within all (suc n) count (omega (arith, h)))
 
--- all pairs are pairs, each once
-pub all_numbers : (count : ℕ) → AreFree count (numbers 0 count)
-all_numbers count = numbers_within count 0 count (omega arith)
+-- all pairs from one on are pairs, each once
+pub all_numbers : (first count : ℕ) → AreFree (first + count) (numbers first count)
+all_numbers first count = numbers_within (first + count) first count (omega arith)
+
+pub all_later : (first n count : ℕ) → first ≤ n → AreFrom first (numbers n count)
+all_later first n zero h = tt
+all_later first n (suc count) h = (h, all_later first (suc n) count (omega (arith, h)))
 
 numbers_from : (n count : ℕ) → numbers n (suc count) ≡ numbers n count ++ (n + count) ∷ []
 numbers_from n zero = ap (λ m. m ∷ []) (let e : n ≡ n + 0 = omega arith in e)
@@ -79,10 +112,15 @@ numbers_from n (suc count) =
     ap (λ ps. n ∷ ps) (numbers_from (suc n) count ∙ ap (λ m. numbers (suc n) count ++ m ∷ []) (let e : suc n + count ≡ n + suc count = omega arith in e))
 
 -- one number more, at the end
-pub numbers_more : (count : ℕ) → numbers 0 (count + 1) ≡ numbers 0 count ++ count ∷ []
-numbers_more count =
-    ap (numbers 0) (let e : count + 1 ≡ suc count = omega arith in e) ∙ numbers_from 0 count ∙ ap (λ m. numbers 0 count ++ m ∷ []) (let e : 0 + count ≡ count = omega arith in e)
+pub numbers_more : (first count : ℕ) → numbers first (count + 1) ≡ numbers first count ++ (first + count) ∷ []
+numbers_more first count = ap (numbers first) (let e : count + 1 ≡ suc count = omega arith in e) ∙ numbers_from first count
 
 pub length_numbers : (n count : ℕ) → length (numbers n count) ≡ count
 length_numbers n zero = refl
 length_numbers n (suc count) = ap suc (length_numbers (suc n) count)
+
+pub numbers_split : (n count more : ℕ) → numbers n (count + more) ≡ numbers n count ++ numbers (n + count) more
+numbers_split n zero more = ap (λ m. numbers n m) (let e : 0 + more ≡ more = omega arith in e) ∙ ap (λ m. numbers m more) (let e : n ≡ n + 0 = omega arith in e)
+numbers_split n (suc count) more =
+    ap (numbers n) (let e : suc count + more ≡ suc (count + more) = omega arith in e)
+    ∙ ap (λ ps. n ∷ ps) (numbers_split (suc n) count more ∙ ap (λ m. numbers (suc n) count ++ numbers m more) (let e : suc n + count ≡ n + suc count = omega arith in e))

@@ -1,7 +1,7 @@
 //! Port pairs: who holds one, which are free, what arrives at one, and what an answer commits for the legs that hold them.
 //!
 //! Module `pairs` has the pool of port pairs and its leases, `lease_list` leases in order, `boxes` the box of a pair with
-//! its in ends, `address` the address of a pair, `holder` the leg that holds a pair, `signal` what an answer commits for a section and
+//! its in ends, `address` the addresses of a pair, `holder` the leg that holds a pair, `signal` what an answer commits for a section and
 //! `sections` for all, and `reports` what is told of legs.
 //!
 //! `specs/Pools.antt` says what a pool holds, `specs/Ports.antt` has the ports of a pair, `specs/Boxes.antt` the history of
@@ -18,7 +18,7 @@ mod reports;
 mod sections;
 mod signal;
 
-pub use address::rtp_address;
+pub use address::port_address;
 pub use boxes::{BoxTake, MOST_PACKET, PairBox, TakeBuffer};
 pub use holder::{Holder, Side};
 pub use lease_list::Leases;

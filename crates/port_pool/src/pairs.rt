@@ -1,8 +1,9 @@
-ghost use Rattle.std.specs.Prelude.{◌≡◌, ◌<◌, ◌≤◌, ◌^◌, ◌+◌, ℕ, false, length, IfOk, IfSome};
+ghost use Rattle.std.specs.Prelude.{◌≡◌, ◌<◌, ◌≤◌, ◌^◌, ◌+◌, ◌*◌, ℕ, false, length, IfOk, IfSome, is_some};
 ghost use Rattle.std.specs.VecDeque.{deque_capacity};
 ghost use Rattle.histories.specs.Words.{has, numbers};
 
-use relay_outside::OutOfMemory;
+use crate::address::place_in_family;
+use relay_outside::{Family, OutOfMemory};
 use std::alloc::{AllocError, Global};
 use std::collections::VecDeque;
 use std::marker::Model;
@@ -13,6 +14,8 @@ use std::marker::Model;
 pub struct Lease {
     /// The pair's number, from 0.
     pair: u32,
+    /// The family of the interface at which the pair has its ports.
+    family: Family,
     /// The pair's even port.
     rtp_port: u16,
     /// Which lease of the pair it is, from 1.
@@ -25,6 +28,13 @@ impl Lease {
         ensures { result ≡ self.now.pair }
     {
         self.pair
+    }
+
+    /// The family of the interface at which the pair has its ports.
+    pub fn family(&self) -> Family
+        ensures { result ≡ self.now.family }
+    {
+        self.family
     }
 
     /// The even port of the pair, which takes RTP. RTCP has the next one (RFC 3550 section 11).
@@ -42,94 +52,134 @@ impl Lease {
     }
 }
 
-/// The port pairs of a range: those that are free wait in a queue, with room for all.
+/// The port pairs of a range at one interface or at two: those that are free wait in the queue of their family, with room for all of it.
+/// The pairs of version 4 are numbered first, and those of version 6 have the same ports.
 #[derive(Drop)]
 pub struct Pool {
-    /// The even port of pair 0.
+    /// The first even port of the range.
     first_port: u32,
-    /// The free pairs, the next to be leased in front.
-    free: VecDeque<u32>,
+    /// How many pairs the range has, which is how many of each family there are.
+    per_family: u32,
+    /// The free pairs of version 4, the next to be leased in front.
+    free4: VecDeque<u32>,
+    /// The same of version 6.
+    free6: VecDeque<u32>,
     /// For each pair the generation of its last lease, 0 before the first.
     generations: Vec<u64>,
 }
 
 impl Model for Pool {
-    ghost use Rattle.std.specs.Prelude.{◌≤◌, ◌+◌, ◌*◌, length};
     ghost use Rattle.std.specs.VecDeque.{deque_capacity};
-    ghost use Rattle.port_pool.specs.Pools.{Pairs, AreFree};
+    ghost use Rattle.port_pool.specs.Pools.{Pairs, HoldsPairs};
 
     ghost Value = { Pairs };
 
-    ghost view = { λ pool. record { first_port = pool.first_port; free = pool.free.items; generations = pool.generations.items } };
+    ghost view = { λ pool. record { first_port = pool.first_port; per_family = pool.per_family; free4 = pool.free4.items; free6 = pool.free6.items; generations = pool.generations.items } };
 
-    ghost invariant = { λ pool. (pool.first_port + 2 * length pool.generations.items ≤ 65536) × (length pool.generations.items ≤ deque_capacity pool.free) × AreFree (length pool.generations.items) pool.free.items };
+    ghost invariant = { λ pool. HoldsPairs pool.first_port pool.per_family (deque_capacity pool.free4) (deque_capacity pool.free6) pool.free4.items pool.free6.items pool.generations.items };
 }
 
-/// All pairs upwards, in a queue with room for them.
+/// So many pairs from one on, upwards, in a queue with room for them.
 #[tactic(auto, using(crate::proofs::Queue::numbers_more))]
-fn all_pairs(alloc: Global, count: u32) -> Result<VecDeque<u32>, AllocError>
-    ensures pairs { IfOk result (λ pairs. pairs.items ≡ numbers 0 count) }
+fn pairs_from(alloc: Global, first: u32, count: u32) -> Result<VecDeque<u32>, AllocError>
+    requires { first + count ≤ 65536 }
+    ensures pairs { IfOk result (λ pairs. pairs.items ≡ numbers first count) }
     ensures room { IfOk result (λ pairs. count ≤ deque_capacity pairs) }
 {
     let mut pairs = VecDeque::with_capacity(alloc, count as usize)?;
-    for pair in 0..count {
-        pairs.push_back_reserved(pair);
+    for place in 0..count {
+        pairs.push_back_reserved(first + place);
     }
     Ok(pairs)
 }
 
 impl Pool {
     ghost use Rattle.relay_outside.specs.declared.settings.Config.{Config};
-    ghost use Rattle.port_pool.specs.Pools.{IsFresh, generation, after_return};
-    ghost use Rattle.port_pool.specs.Leases.{LeasesFront};
+    ghost use Rattle.port_pool.specs.Ports.{place_in_family};
+    ghost use Rattle.port_pool.specs.Pools.{IsFresh, generation, free_pairs, family_in, after_return};
+    ghost use Rattle.port_pool.specs.Leases.{LeasesFront, TakesFront};
 
     /// A pool of all pairs of the ports from `port_min` to `port_max`: each even port in the range whose next port is in
-    /// it too. It takes the memory for all of them; no later call takes any.
-    pub fn new(alloc: Global, port_min: u16, port_max: u16) -> Result<Pool, OutOfMemory>
-        ensures { (config : Config) → config.port_min ≡ port_min → config.port_max ≡ port_max → IfOk result (IsFresh config) }
+    /// it too, of version 4 and, where there are `both` families, of version 6. It takes the memory for all of them; no later call takes any.
+    pub fn new(alloc: Global, port_min: u16, port_max: u16, both: bool) -> Result<Pool, OutOfMemory>
+        ensures { (config : Config) → config.port_min ≡ port_min → config.port_max ≡ port_max → is_some config.interface6 ≡ both →
+            IfOk result (IsFresh config) }
     {
         let first_port = u32::from(port_min) + u32::from(port_min) % 2;
-        let count = (u32::from(port_max) + 1).saturating_sub(first_port) / 2;
-        let free = all_pairs(alloc, count)?;
-        let generations = Vec::from_elem(alloc, 0, count as usize)?;
+        let per_family = (u32::from(port_max) + 1).saturating_sub(first_port) / 2;
+        let others = if both { per_family } else { 0 };
+        let free4 = pairs_from(alloc, 0, per_family)?;
+        let free6 = pairs_from(alloc, per_family, others)?;
+        let generations = Vec::from_elem(alloc, 0, (per_family + others) as usize)?;
         Ok(Pool {
             first_port,
-            free,
+            per_family,
+            free4,
+            free6,
             generations,
         })
     }
 
-    /// How many pairs are free.
-    pub fn free_count(&self) -> usize
-        ensures { result ≡ length self.now.free }
+    /// How many pairs of a family are free.
+    pub fn free_count(&self, family: Family) -> usize
+        ensures { result ≡ length (free_pairs self.now family) }
     {
-        self.free.len()
+        match family {
+            Family::V4 => self.free4.len(),
+            Family::V6 => self.free6.len(),
+        }
     }
 
-    /// Leases the pair that has been free for longest, in its next generation. `None`: no pair is free. A pair has fewer
-    /// than 2^63 leases before.
-    pub fn lease(&mut self) -> Option<Lease>
-        requires { (pair : ℕ) → generation self.old pair < 2 ^ 63 }
-        ensures front { LeasesFront self.old self.old.free result self.new }
-        ensures within { IfSome result (λ lease. lease.pair < length self.old.generations) }
+    /// The even port of a pair.
+    fn port_of(&self, pair: u32) -> u16
+        requires { pair < length self.now.generations }
+        ensures { result ≡ self.now.first_port + 2 * place_in_family self.now.per_family pair }
     {
-        let pair = self.free.pop_front()?;
+        (self.first_port + 2 * place_in_family(self.per_family, pair)) as u16
+    }
+
+    /// Takes the pair of a family that has been free for longest out of its queue.
+    fn pop(&mut self, family: Family) -> Option<u32>
+        ensures front { TakesFront self.old family (free_pairs self.old family) result self.new }
+        ensures within { IfSome result (λ pair. pair < length self.old.generations) }
+        ensures family { IfSome result (λ pair. family_in self.old pair ≡ family) }
+    {
+        match family {
+            Family::V4 => self.free4.pop_front(),
+            Family::V6 => self.free6.pop_front(),
+        }
+    }
+
+    /// Leases the pair of a family that has been free for longest, in its next generation. `None`: no pair of it is free. A pair has
+    /// fewer than 2^63 leases before.
+    pub fn lease(&mut self, family: Family) -> Option<Lease>
+        requires { (pair : ℕ) → generation self.old pair < 2 ^ 63 }
+        ensures front { LeasesFront self.old family (free_pairs self.old family) result self.new }
+        ensures within { IfSome result (λ lease. lease.pair < length self.old.generations) }
+        ensures family { IfSome result (λ lease. family_in self.old lease.pair ≡ family) }
+    {
+        let pair = self.pop(family)?;
         self.generations[pair as usize] += 1;
         Some(Lease {
             pair,
-            rtp_port: (self.first_port + 2 * pair) as u16,
+            family,
+            rtp_port: self.port_of(pair),
             generation: self.generations[pair as usize],
         })
     }
 
-    /// Takes a lease back: its pair waits after all others that are free. It takes no memory. The lease is the last one
+    /// Takes a lease back: its pair waits after all others of its family that are free. It takes no memory. The lease is the last one
     /// of a pair of this pool that isn't free.
     pub fn give_back(&mut self, lease: Lease)
         requires of_pool { lease.pair < length self.old.generations }
-        requires not_free { has self.old.free lease.pair ≡ false }
+        requires not_free { has (free_pairs self.old (family_in self.old lease.pair)) lease.pair ≡ false }
         requires last { generation self.old lease.pair ≡ lease.generation }
         ensures { self.new ≡ after_return self.old lease.pair }
     {
-        self.free.push_back_reserved(lease.pair);
+        if lease.pair < self.per_family {
+            self.free4.push_back_reserved(lease.pair);
+        } else {
+            self.free6.push_back_reserved(lease.pair);
+        }
     }
 }

@@ -16,6 +16,21 @@ pub enum Family {
     V6,
 }
 
+impl Ip {
+    ghost use Rattle.std.specs.Prelude.{◌≡◌};
+    ghost use Rattle.relay_outside.specs.Settings.{ip_family};
+
+    /// The family of the address.
+    pub fn family(&self) -> Family
+        ensures { result ≡ ip_family self.now }
+    {
+        match self {
+            Ip::V4(_) => Family::V4,
+            Ip::V6(_) => Family::V6,
+        }
+    }
+}
+
 /// A transport address: where a datagram comes from or goes to (RFC 768).
 #[derive(Clone, Copy, PartialEq, Eq, Debug)]
 pub struct Addr {

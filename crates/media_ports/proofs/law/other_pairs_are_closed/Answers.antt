@@ -7,4 +7,4 @@ use Rattle.media_ports.proofs.law.other_pairs_are_closed.Goals as goal
 
 pub returns : goal.returns
 returns c config log pairs leases held leased others =
-    told_less log (λ calls. OpensHeld config calls pairs) (NoneOpen (addresses_of config.interface leases)) (λ calls h. others_closed config calls pairs leases h leased others) held
+    told_less log (λ calls. OpensHeld config calls pairs) (NoneOpen (addresses_of config leases)) (λ calls h. others_closed config calls pairs leases h leased others) held

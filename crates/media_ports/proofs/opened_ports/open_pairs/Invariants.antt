@@ -8,10 +8,10 @@ use Rattle.media_ports.proofs.opened_ports.open_pairs.Given as goal
 
 abbrev pub invariant-loop-index : goal.invariant-loop-index
 invariant-loop-index g l = record {
-  opens : Gained (g.P.PortMaker.log l.initial.ports) (g.P.PortMaker.log l.ports) (OpensAll (addresses_of l.interface (take l.index l.leases.list)));
-  closed : WhereLogged (g.P.PortMaker.log l.ports) (NoneOpen (addresses_of l.interface (drop l.index l.leases.list)));
+  opens : Gained (g.P.PortMaker.log l.initial.ports) (g.P.PortMaker.log l.ports) (OpensAll (addresses_of l.config (take l.index l.leases.list)));
+  closed : WhereLogged (g.P.PortMaker.log l.ports) (NoneOpen (addresses_of l.config (drop l.index l.leases.list)));
   count : length l.opened.list ≡ l.index;
-  opened : ArePairsOpened g.P.In.InEnd.log g.P.Out.OutEnd.log l.interface (take l.index l.leases.list) l.opened.list;
+  opened : ArePairsOpened g.P.In.InEnd.log g.P.Out.OutEnd.log l.config (take l.index l.leases.list) l.opened.list;
   room : l.opened.room ≡ l.initial.opened.room;
   later : g.P.PortMaker.faults l.initial.ports ≤ g.P.PortMaker.faults l.ports;
 }
