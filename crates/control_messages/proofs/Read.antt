@@ -1,6 +1,6 @@
 -- What is read of a body, by its dictionary.
-use Rattle.std.proofs.Common.{◌≡◌, ◌≤◌, ℕ, Bool, false, List, length, Option, Some, None, Result, Ok, Err, refl, sym, subst}
-use Rattle.std.specs.Prelude.{◌≢◌, IfOk, MatchOption}
+use Rattle.std.proofs.Common.{◌≡◌, ◌≤◌, ℕ, Bool, false, List, length, Option, Some, None, Result, Ok, Err, sym, subst}
+use Rattle.std.specs.Prelude.{IfOk, MatchOption}
 use Rattle.ng_bencode.specs.Room.{Room}
 use Rattle.ng_bencode.specs.Row.{list_in}
 use Rattle.ng_bencode.specs.Tree.{Tree, Dict, Entries, tree_of, pairs_of}

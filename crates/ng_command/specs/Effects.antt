@@ -6,12 +6,14 @@ use Rattle.std.specs.Prelude.{nat_eq}
 use Rattle.std.specs.Str.{bytes_eq}
 use Rattle.ng_bencode.specs.Tree.{Tree, Int, Bytes, Items, Dict, no_items, item, Entries}
 use Rattle.ng_bencode.specs.Lookup.{value_at}
+use Rattle.relay_outside.specs.declared.address.Family.{Family}
+use Rattle.relay_outside.specs.declared.address.Family.TheVariants as family
 use Rattle.relay_outside.specs.declared.address.Ip.{Ip}
 use Rattle.relay_outside.specs.declared.address.Ip.TheVariants as ips
 use Rattle.relay_outside.specs.declared.settings.Flags.{Flags}
 use Rattle.sdp_text.specs.declared.proto.Proto.{Proto}
 use Rattle.sdp_text.specs.declared.proto.Proto.TheVariants.{Avp, Avpf, Savp, Savpf}
-use Rattle.sdp_text.specs.Hosts.{ipv4_bytes}
+use Rattle.sdp_text.specs.Hosts.{ipv4_bytes, eight_groups, bytes_of_groups}
 use Rattle.ng_command.specs.Values.{words_of, has_word}
 use Rattle.ng_command.specs.declared.kind.Kind.{Kind}
 use Rattle.ng_command.specs.declared.kind.Kind.TheVariants as kinds
@@ -44,12 +46,26 @@ replaces pairs word = has_word word (words_of (value_at pairs (codes "replace"))
 abbrev pub signals_source : Entries → Bool
 signals_source pairs = has_flag pairs (codes "SIP source address") && not (has_flag pairs (codes "trust address"))
 
--- the address of `received from`: a list of the two byte strings `IP4` and an IPv4 address
-abbrev pub address_in : List ℕ → List ℕ → Option Ip
-address_in family address = if bytes_eq family (codes "IP4") then option_map ips.V4 (ipv4_bytes address) else None
+-- the families of addresses by their names (RFC 8866 section 5.7)
+abbrev pub families : List (List ℕ × Family)
+families = (codes "IP4", family.V4) ∷ (codes "IP6", family.V6) ∷ []
 
+abbrev pub family_named : List ℕ → Option Family
+family_named name = option_map (λ family. family.1) (find (λ family. bytes_eq name family.0) families)
+
+abbrev pub family_spelled : Option (List ℕ) → Option Family
+family_spelled None = None
+family_spelled (Some name) = family_named name
+
+-- the address of a family that a text spells
+abbrev pub address_in : Option Family → List ℕ → Option Ip
+address_in None text = None
+address_in (Some family.V4) text = option_map ips.V4 (ipv4_bytes text)
+address_in (Some family.V6) text = option_map (λ groups. ips.V6 (bytes_of_groups groups)) (eight_groups text)
+
+-- the address of `received from`: a list of two byte strings, `IP4` and an IPv4 address, or `IP6` and an IPv6 address
 abbrev pub ip_of_tree : Option Tree → Option Ip
-ip_of_tree (Some (Items (item (Bytes family) (item (Bytes address) no_items)))) = address_in family address
+ip_of_tree (Some (Items (item (Bytes name) (item (Bytes address) no_items)))) = address_in (family_named name) address
 ip_of_tree other = None
 
 abbrev pub source_of : Entries → Option Ip

@@ -3,11 +3,11 @@ use Rattle.std.specs.Prelude.{List, [], ◌∷◌, Bool, true, false, not, ◌&&
 use Rattle.ng_bencode.specs.Tree.{Entries}
 use Rattle.ng_bencode.specs.Lookup.{value_at}
 use Rattle.ng_command.specs.Values.{text_at, is_name, is_wordless, is_other_than, has_key}
-use Rattle.ng_command.specs.Effects.{signals_source, ip_of_tree, protocol_in, asks_dtls, limit_of, delay_of}
+use Rattle.ng_command.specs.Effects.{signals_source, ip_of_tree, protocol_in, asks_dtls, limit_of, delay_of, family_spelled}
 use Rattle.ng_command.specs.declared.kind.Kind.{Kind}
 use Rattle.ng_command.specs.declared.kind.Kind.TheVariants as kinds
 use Rattle.ng_command.specs.declared.fault.KeyName.{KeyName}
-use Rattle.ng_command.specs.declared.fault.KeyName.TheVariants.{CallId, FromTag, ToTag, Sdp, Flags, Replace, TransportProtocol, ReceivedFrom, Limit, DeleteDelay, Ice, Dtls, RecordCall, Codec, Tls}
+use Rattle.ng_command.specs.declared.fault.KeyName.TheVariants.{CallId, FromTag, ToTag, Sdp, Flags, Replace, TransportProtocol, ReceivedFrom, Limit, DeleteDelay, AddressFamily, Ice, Dtls, RecordCall, Codec, Tls}
 use Rattle.ng_command.specs.declared.fault.CommandFault.{CommandFault}
 use Rattle.ng_command.specs.declared.fault.CommandFault.TheVariants as faults
 
@@ -70,13 +70,16 @@ is_wrong kind pairs TransportProtocol =
 is_wrong kind pairs ReceivedFrom = has_description kind && signals_source pairs && is_none (ip_of_tree (value_at pairs (codes "received from")))
 is_wrong kind pairs Limit = is_list kind && is_none (limit_of (value_at pairs (codes "limit")))
 is_wrong kind pairs DeleteDelay = is_delete kind && is_none (delay_of (value_at pairs (codes "delete delay")))
+is_wrong kind pairs AddressFamily =
+    is_offer kind && is_some (value_at pairs (codes "address family")) && is_none (family_spelled (text_at pairs (codes "address family")))
 is_wrong kind pairs Ice = false
 is_wrong kind pairs Dtls = false
 is_wrong kind pairs RecordCall = false
 is_wrong kind pairs Codec = false
 is_wrong kind pairs Tls = false
 
--- the command uses the key, and what stands there asks for what this proxy does not do
+-- The command uses the key, and what stands there asks for what this proxy does not do. Whether it does the `address family` of an offer is
+-- for its configuration to say.
 abbrev pub is_unsupported : Kind → Entries → KeyName → Bool
 is_unsupported kind pairs Ice = has_description kind && is_other_than (codes "remove" ∷ []) (value_at pairs (codes "ICE"))
 is_unsupported kind pairs Dtls = has_description kind && is_other_than (codes "off" ∷ codes "no" ∷ codes "disable" ∷ []) (value_at pairs (codes "DTLS"))
@@ -92,11 +95,12 @@ is_unsupported kind pairs Replace = false
 is_unsupported kind pairs ReceivedFrom = false
 is_unsupported kind pairs Limit = false
 is_unsupported kind pairs DeleteDelay = false
+is_unsupported kind pairs AddressFamily = false
 is_unsupported kind pairs Tls = false
 
 -- the order in which a wrong key is named
 abbrev pub wrong_keys : List KeyName
-wrong_keys = CallId ∷ FromTag ∷ ToTag ∷ Sdp ∷ Flags ∷ Replace ∷ TransportProtocol ∷ ReceivedFrom ∷ Limit ∷ DeleteDelay ∷ []
+wrong_keys = CallId ∷ FromTag ∷ ToTag ∷ Sdp ∷ Flags ∷ Replace ∷ TransportProtocol ∷ ReceivedFrom ∷ Limit ∷ DeleteDelay ∷ AddressFamily ∷ []
 
 -- the order in which an unsupported option is named
 abbrev pub unsupported_keys : List KeyName

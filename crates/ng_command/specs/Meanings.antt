@@ -4,7 +4,7 @@ use Rattle.ng_bencode.specs.Room.{Room}
 use Rattle.ng_bencode.specs.Tree.{Entries}
 use Rattle.ng_bencode.specs.Lookup.{value_at}
 use Rattle.ng_command.specs.Values.{text_at}
-use Rattle.ng_command.specs.Effects.{flags_of, replaces, protocol_in, source_of, has_flag, limit_of, delay_of}
+use Rattle.ng_command.specs.Effects.{flags_of, replaces, protocol_in, source_of, has_flag, limit_of, delay_of, family_spelled}
 use Rattle.ng_command.specs.declared.kind.Kind.{Kind}
 use Rattle.ng_command.specs.declared.kind.Kind.TheVariants as kinds
 use Rattle.ng_command.specs.declared.command.Options.{Options}
@@ -36,24 +36,25 @@ said (command.List limit) = Listing limit
 abbrev pub text_in : Entries → List ℕ → List ℕ
 text_in pairs key = unwrap_or (text_at pairs key) []
 
-abbrev pub options_of : Entries → Option (List ℕ) → Options
-options_of pairs protocol = record {
+abbrev pub options_of : Entries → (protocol family : Option (List ℕ)) → Options
+options_of pairs protocol family = record {
   flags = flags_of pairs;
   replace_origin = replaces pairs (codes "origin");
   replace_session = replaces pairs (codes "session connection");
   transport = protocol_in protocol;
   source = source_of pairs;
+  family = family_spelled family;
 }
 
--- what the keys of a command without a fault say; an answer's `transport protocol` is ignored
+-- what the keys of a command without a fault say; an answer's `transport protocol` and `address family` are ignored
 abbrev pub meaning : Kind → Entries → Said
 meaning kinds.Ping pairs = Ping
 meaning kinds.Offer pairs =
     Offer (text_in pairs (codes "call-id")) (text_in pairs (codes "from-tag")) (text_in pairs (codes "sdp"))
-    (options_of pairs (text_at pairs (codes "transport protocol")))
+    (options_of pairs (text_at pairs (codes "transport protocol")) (text_at pairs (codes "address family")))
 meaning kinds.Answer pairs =
     Answer (text_in pairs (codes "call-id")) (text_in pairs (codes "from-tag")) (text_in pairs (codes "to-tag")) (text_in pairs (codes "sdp"))
-    (options_of pairs None)
+    (options_of pairs None None)
 meaning kinds.Delete pairs =
     Delete (text_in pairs (codes "call-id")) (text_at pairs (codes "from-tag")) (has_flag pairs (codes "fatal"))
     (unwrap_or (delay_of (value_at pairs (codes "delete delay"))) 0)

@@ -1,5 +1,5 @@
 use ng_bencode::Text;
-use relay_outside::{Flags, Ip};
+use relay_outside::{Family, Flags, Ip};
 use sdp_text::Proto;
 
 /// A command of the ng protocol.
@@ -43,7 +43,7 @@ pub struct AnswerIn {
     pub to_tag: Text,
     /// The answerer's description.
     pub sdp: Text,
-    /// How it is to be served. An answer asks for no protocol.
+    /// How it is to be served. An answer asks for no protocol and for no family.
     pub options: Options,
 }
 
@@ -80,4 +80,6 @@ pub struct Options {
     pub transport: Option<Proto>,
     /// The address that is signalled in place of the description's.
     pub source: Option<Ip>,
+    /// The family that the offer asks for on the leg of the other side (`address family`), in an offer alone.
+    pub family: Option<Family>,
 }

@@ -28,6 +28,8 @@ pub enum KeyName {
     Limit,
     /// `delete delay`
     DeleteDelay,
+    /// `address family`
+    AddressFamily,
     /// `ICE`
     Ice,
     /// `DTLS`

@@ -4,14 +4,14 @@ ghost use Rattle.std.specs.Option.{option_copied};
 ghost use Rattle.ng_bencode.specs.Row.{list_in};
 ghost use Rattle.ng_bencode.specs.Tree.{tree_of, trees_of, pairs_of, Items, Int};
 ghost use Rattle.ng_bencode.specs.Lookup.{value_at};
-ghost use Rattle.ng_command.specs.Effects.{has_flag, flags_of, replaces, signals_source, address_in, ip_of_tree, source_of, protocol_of, protocol_in, asks_dtls, limit_of, delay_of};
+ghost use Rattle.ng_command.specs.Effects.{has_flag, flags_of, replaces, signals_source, family_named, family_spelled, address_in, ip_of_tree, source_of, protocol_of, protocol_in, asks_dtls, limit_of, delay_of};
 ghost use Rattle.ng_command.specs.Meanings.{options_of};
 
 use crate::command::Options;
 use crate::values::{has_word, text_of};
 use ng_bencode::{Pairs, Values, lookup};
-use relay_outside::{Flags, Ip};
-use sdp_text::{Host, Proto, read_ipv4};
+use relay_outside::{Family, Flags, Ip};
+use sdp_text::{Host, Proto, read_ipv4, read_ipv6};
 
 /// How many calls `list` names where nothing says so, and at most.
 pub(crate) const DEFAULT_LIMIT: u32 = 32;
@@ -45,7 +45,7 @@ pub(crate) fn signals_source(pairs: &Pairs) -> bool
     has_flag(pairs, b"SIP source address") && !has_flag(pairs, b"trust address")
 }
 
-/// The address of `received from`: a list of `IP4` and an IPv4 address.
+/// The address of `received from`: a list of `IP4` and an IPv4 address, or of `IP6` and an IPv6 address.
 pub(crate) fn received_from(pairs: &Pairs) -> Option<Ip>
     ensures { result ≡ ip_of_tree (value_at (pairs_of (list_in pairs.now)) (codes "received from")) }
 {
@@ -58,7 +58,7 @@ pub(crate) fn received_from(pairs: &Pairs) -> Option<Ip>
     }
 }
 
-/// The address of a list of two byte strings, `IP4` and an IPv4 address.
+/// The address of a list of two byte strings, the name of a family and an address of it.
 fn address_in_list(values: &Values) -> Option<Ip>
     ensures { result ≡ ip_of_tree (Some (Items (trees_of (list_in values.now)))) }
 {
@@ -66,25 +66,52 @@ fn address_in_list(values: &Values) -> Option<Ip>
     if items.len() != 2 {
         return None;
     }
-    let Some(family) = text_of(&items[0]) else {
+    let Some(name) = text_of(&items[0]) else {
         return None;
     };
     let Some(address) = text_of(&items[1]) else {
         return None;
     };
-    address_in(family, address)
+    address_in(family_named(name), address)
 }
 
-/// The address of a family and a text.
-fn address_in(family: &[u8], address: &[u8]) -> Option<Ip>
-    ensures { result ≡ address_in family.now address.now }
+/// The family of this name (RFC 8866 section 5.7).
+fn family_named(name: &[u8]) -> Option<Family>
+    ensures { result ≡ family_named name.now }
 {
-    if family != b"IP4".as_slice() {
-        return None;
+    if name == b"IP4".as_slice() {
+        Some(Family::V4)
+    } else if name == b"IP6".as_slice() {
+        Some(Family::V6)
+    } else {
+        None
     }
-    match read_ipv4(address) {
-        Some(Host::V4(bytes)) => Some(Ip::V4(bytes)),
-        _ => None,
+}
+
+/// The family of this name, where there is a name.
+pub(crate) fn family_spelled(name: Option<&[u8]>) -> Option<Family>
+    ensures { result ≡ family_spelled (option_copied name.entry) }
+{
+    match name {
+        Some(name) => family_named(name),
+        None => None,
+    }
+}
+
+/// The address of a family that a text spells.
+fn address_in(family: Option<Family>, text: &[u8]) -> Option<Ip>
+    ensures { result ≡ address_in family text.now }
+{
+    match family {
+        Some(Family::V4) => match read_ipv4(text) {
+            Some(Host::V4(bytes)) => Some(Ip::V4(bytes)),
+            _ => None,
+        },
+        Some(Family::V6) => match read_ipv6(text) {
+            Some(Host::V6(bytes)) => Some(Ip::V6(bytes)),
+            _ => None,
+        },
+        None => None,
     }
 }
 
@@ -135,9 +162,9 @@ pub(crate) fn is_dtls(name: Option<&[u8]>) -> bool
     }
 }
 
-/// How an offer or an answer is to be served, with the protocol that it asks for.
-pub(crate) fn options_of(pairs: &Pairs, protocol: Option<&[u8]>) -> Options
-    ensures { result ≡ options_of (pairs_of (list_in pairs.now)) (option_copied protocol.entry) }
+/// How an offer or an answer is to be served, with the protocol and the family that it asks for.
+pub(crate) fn options_of(pairs: &Pairs, protocol: Option<&[u8]>, family: Option<&[u8]>) -> Options
+    ensures { result ≡ options_of (pairs_of (list_in pairs.now)) (option_copied protocol.entry) (option_copied family.entry) }
 {
     Options {
         flags: flags_of(pairs),
@@ -145,6 +172,7 @@ pub(crate) fn options_of(pairs: &Pairs, protocol: Option<&[u8]>) -> Options
         replace_session: has_word(pairs, b"replace", b"session connection"),
         transport: protocol_in(protocol),
         source: source_of(pairs),
+        family: family_spelled(family),
     }
 }
 

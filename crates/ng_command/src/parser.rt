@@ -21,8 +21,9 @@ use std::alloc::Global;
 ///
 /// The first fault, by the order of the variants of `CommandFault`; of keys the first in the order
 /// `call-id`, `from-tag`, `to-tag`, `sdp`, `flags`, `replace`, `transport protocol`, `received from`,
-/// `limit`, `delete delay`, and of options the first in the order `ICE`, `DTLS`, `transport protocol`,
-/// `record call`, `codec`. Keys that the command does not use are ignored, whatever they hold.
+/// `limit`, `delete delay`, `address family`, and of options the first in the order `ICE`, `DTLS`,
+/// `transport protocol`, `record call`, `codec`. Keys that the command does not use are ignored, whatever
+/// they hold.
 pub fn read(alloc: Global, body: &[u8]) -> Result<Command, CommandFault>
     ensures { IsCommandRead body.now result }
 {
@@ -83,7 +84,11 @@ fn offer_of(alloc: Global, pairs: &Pairs) -> Result<Command, OutOfMemory>
     let call_id = copy_at(alloc, pairs, b"call-id")?;
     let from_tag = copy_at(alloc, pairs, b"from-tag")?;
     let sdp = copy_at(alloc, pairs, b"sdp")?;
-    let options = options_of(pairs, text_at(pairs, b"transport protocol"));
+    let options = options_of(
+        pairs,
+        text_at(pairs, b"transport protocol"),
+        text_at(pairs, b"address family"),
+    );
     Ok(Command::Offer(OfferIn {
         call_id,
         from_tag,
@@ -99,7 +104,7 @@ fn answer_of(alloc: Global, pairs: &Pairs) -> Result<Command, OutOfMemory>
     let from_tag = copy_at(alloc, pairs, b"from-tag")?;
     let to_tag = copy_at(alloc, pairs, b"to-tag")?;
     let sdp = copy_at(alloc, pairs, b"sdp")?;
-    let options = options_of(pairs, None);
+    let options = options_of(pairs, None, None);
     Ok(Command::Answer(AnswerIn {
         call_id,
         from_tag,

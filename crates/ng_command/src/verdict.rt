@@ -8,12 +8,14 @@ ghost use Rattle.ng_command.specs.Faults.{is_wrong, is_unsupported, first_wrong,
 
 use crate::fault::{CommandFault, KeyName};
 use crate::kind::Kind;
-use crate::options::{delay_of, is_dtls, limit_of, protocol_in, received_from, signals_source};
+use crate::options::{
+    delay_of, family_spelled, is_dtls, limit_of, protocol_in, received_from, signals_source,
+};
 use crate::values::{has_key, is_name, is_there, is_wordless, text_at, text_of};
 use ng_bencode::{Pairs, lookup};
 
 /// The keys in the order in which a wrong one is named.
-const WRONG_KEYS: [KeyName; 10] = [
+const WRONG_KEYS: [KeyName; 11] = [
     KeyName::CallId,
     KeyName::FromTag,
     KeyName::ToTag,
@@ -24,6 +26,7 @@ const WRONG_KEYS: [KeyName; 10] = [
     KeyName::ReceivedFrom,
     KeyName::Limit,
     KeyName::DeleteDelay,
+    KeyName::AddressFamily,
 ];
 
 /// The keys in the order in which an unsupported option is named.
@@ -100,6 +103,9 @@ fn is_wrong(kind: Kind, pairs: &Pairs, key: KeyName) -> bool
             && received_from(pairs).is_none(),
         KeyName::Limit => kind.is_list() && limit_of(pairs).is_none(),
         KeyName::DeleteDelay => kind.is_delete() && delay_of(pairs).is_none(),
+        KeyName::AddressFamily => kind.is_offer()
+            && is_there(pairs, b"address family")
+            && family_spelled(text_at(pairs, b"address family")).is_none(),
         _ => false,
     }
 }

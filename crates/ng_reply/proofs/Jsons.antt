@@ -15,7 +15,7 @@ use Rattle.ng_reply.specs.Texts.{key_text, part_text, head_text, tail_text, code
 use Rattle.ng_reply.specs.declared.code.SdpPart.{SdpPart}
 use Rattle.ng_reply.specs.declared.code.SdpPart.TheVariants.{Line, Media}
 use Rattle.ng_reply.specs.declared.code.ErrorCode.{ErrorCode}
-use Rattle.ng_reply.specs.declared.code.ErrorCode.TheVariants.{E1, E2, E3, E4, E5, E6, E7, E8, E9, E10, E11, E12, E13, E14, E15, E16, E17, E18, E19}
+use Rattle.ng_reply.specs.declared.code.ErrorCode.TheVariants.{E1, E2, E3, E4, E5, E6, E7, E8, E9, E10, E11, E12, E13, E14, E15, E16, E17, E18, E19, E20}
 
 -- a simple text stands as it is in its quotes
 plainly : (text : List ℕ) → are_simple text ≡ true → is_marked text ≡ false → quoted (string_of_bytes text) ≡ 34 ∷ (text ++ 34 ∷ [])
@@ -52,6 +52,7 @@ key_simple key.TransportProtocol = refl
 key_simple key.ReceivedFrom = refl
 key_simple key.Limit = refl
 key_simple key.DeleteDelay = refl
+key_simple key.AddressFamily = refl
 key_simple key.Ice = refl
 key_simple key.Dtls = refl
 key_simple key.RecordCall = refl
@@ -82,6 +83,7 @@ tail_simple E16 = refl
 tail_simple E17 = refl
 tail_simple E18 = refl
 tail_simple E19 = refl
+tail_simple E20 = refl
 
 head_simple : (code : ErrorCode) → are_simple (head_text code) ≡ true
 head_simple E1 = refl
@@ -103,6 +105,7 @@ head_simple E16 = refl
 head_simple E17 = refl
 head_simple E18 = refl
 head_simple E19 = refl
+head_simple E20 = refl
 
 code_unmarked : (code : ErrorCode) → is_marked (code_text code) ≡ false
 code_unmarked E1 = refl
@@ -124,6 +127,7 @@ code_unmarked E16 = refl
 code_unmarked E17 = refl
 code_unmarked E18 = refl
 code_unmarked E19 = refl
+code_unmarked E20 = refl
 
 error_shape : (text : List ℕ) → 123 ∷ (codes "\"error-reason\"" ++ 58 ∷ ((34 ∷ (text ++ 34 ∷ [])) ++ 44 ∷ (codes "\"result\"" ++ 58 ∷ (codes "\"error\"" ++ 125 ∷ []))))
     ≡ codes "{\"error-reason\":\"" ++ (text ++ codes "\",\"result\":\"error\"}")

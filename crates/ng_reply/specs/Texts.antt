@@ -5,7 +5,7 @@ use Rattle.ng_command.specs.declared.fault.KeyName.TheVariants as key
 use Rattle.ng_reply.specs.declared.code.SdpPart.{SdpPart}
 use Rattle.ng_reply.specs.declared.code.SdpPart.TheVariants.{Line, Media}
 use Rattle.ng_reply.specs.declared.code.ErrorCode.{ErrorCode}
-use Rattle.ng_reply.specs.declared.code.ErrorCode.TheVariants.{E1, E2, E3, E4, E5, E6, E7, E8, E9, E10, E11, E12, E13, E14, E15, E16, E17, E18, E19}
+use Rattle.ng_reply.specs.declared.code.ErrorCode.TheVariants.{E1, E2, E3, E4, E5, E6, E7, E8, E9, E10, E11, E12, E13, E14, E15, E16, E17, E18, E19, E20}
 
 -- a key as it is written
 abbrev pub key_text : KeyName → List ℕ
@@ -19,6 +19,7 @@ key_text key.TransportProtocol = codes "transport protocol"
 key_text key.ReceivedFrom = codes "received from"
 key_text key.Limit = codes "limit"
 key_text key.DeleteDelay = codes "delete delay"
+key_text key.AddressFamily = codes "address family"
 key_text key.Ice = codes "ICE"
 key_text key.Dtls = codes "DTLS"
 key_text key.RecordCall = codes "record call"
@@ -51,6 +52,7 @@ head_text E16 = codes "key source fault"
 head_text E17 = codes "out of memory"
 head_text E18 = codes "datagram too long"
 head_text E19 = codes "call is ending"
+head_text E20 = codes "address family differs"
 
 -- the key or the place that the text names
 abbrev pub tail_text : ErrorCode → List ℕ

@@ -50,4 +50,6 @@ pub enum ErrorCode {
     E18,
     /// The call is ending: a delete gave it a delay.
     E19,
+    /// An address of an active section is of another family than its side's leg, or its addresses are of two.
+    E20,
 }

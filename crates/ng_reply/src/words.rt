@@ -114,6 +114,7 @@ fn head_of(code: ErrorCode) -> &'static [u8]
         ErrorCode::E17 => b"out of memory",
         ErrorCode::E18 => b"datagram too long",
         ErrorCode::E19 => b"call is ending",
+        ErrorCode::E20 => b"address family differs",
     }
 }
 
@@ -133,6 +134,7 @@ fn key_text(key: KeyName) -> &'static [u8]
         KeyName::ReceivedFrom => b"received from",
         KeyName::Limit => b"limit",
         KeyName::DeleteDelay => b"delete delay",
+        KeyName::AddressFamily => b"address family",
         KeyName::Ice => b"ICE",
         KeyName::Dtls => b"DTLS",
         KeyName::RecordCall => b"record call",
