@@ -9,6 +9,7 @@ use Rattle.offer_answer.specs.Sides.{MadeOffer, is_begun, has_answer, is_settled
 use Rattle.offer_answer.specs.Sections.{most_sections, no_section, section_count, section_in, sections_of, is_active, is_active_in, has_pairs, is_committed, committed_count}
 use Rattle.offer_answer.specs.Profiles.{profile_offered, profile_in_force, written_profile}
 use Rattle.offer_answer.specs.Keys.{chosen_in, leg_key, key_in_force, offered_lines}
+use Rattle.offer_answer.specs.Families.{leg_family}
 use Rattle.offer_answer.specs.Texts.{standing_port}
 use Rattle.offer_answer.specs.Plan.{OfferRead}
 use Rattle.offer_answer.specs.LastOffers.{MadeFor, LastFor, OfferKept}
@@ -23,6 +24,7 @@ use Rattle.offer_answer.proofs.Offering.{past-end}
 -- the same is kept of a leg
 pub record AlikeLegs (config : Config) (rounds others : List Round) (section : ℕ) (side : Side) : Type 0 where
   pub port_is : unwrap_or (standing_port config rounds section side) 0 ≡ unwrap_or (standing_port config others section side) 0
+  pub family_is : leg_family rounds section side ≡ leg_family others section side
   pub offered_is : profile_offered rounds section side ≡ profile_offered others section side
   pub in_force_is : profile_in_force rounds section side ≡ profile_in_force others section side
   pub keys_are : (suite : Suite) → leg_key rounds section side suite ≡ leg_key others section side suite
@@ -82,7 +84,7 @@ alike_none config = record {
   sections_are = λ section below. record {
     pairs_are = refl;
     committed_is = refl;
-    legs_are = λ side. record { port_is = refl; offered_is = refl; in_force_is = refl; keys_are = λ suite. refl; key_in_force_is = refl };
+    legs_are = λ side. record { port_is = refl; family_is = refl; offered_is = refl; in_force_is = refl; keys_are = λ suite. refl; key_in_force_is = refl };
   };
   no_more = λ section side past. refl;
   none_more = λ section side past. refl;
@@ -94,6 +96,7 @@ legs_of_one : (config : Config) (rounds others : List Round) (section : ℕ) (si
     AlikeLegs config rounds others section side
 legs_of_one config rounds others section side leg a b = record {
   port_is = sym a.port_is ∙ b.port_is;
+  family_is = sym a.family_is ∙ b.family_is;
   offered_is = sym a.offered_is ∙ b.offered_is;
   in_force_is = sym a.in_force_is ∙ b.in_force_is;
   keys_are = λ suite. sym (a.keys_are suite) ∙ b.keys_are suite;
@@ -156,6 +159,7 @@ leg_moves : (config : Config) (rounds others : List Round) (section : ℕ) (side
     LegFor config others section side leg
 leg_moves config rounds others section side leg s a = record {
   port_is = a.port_is ∙ s.port_is;
+  family_is = a.family_is ∙ s.family_is;
   offered_is = a.offered_is ∙ s.offered_is;
   in_force_is = a.in_force_is ∙ s.in_force_is;
   keys_are = λ suite. a.keys_are suite ∙ s.keys_are suite;

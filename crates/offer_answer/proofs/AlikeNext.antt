@@ -3,6 +3,7 @@ use Rattle.std.proofs.Common.{◌≡◌, ◌∙◌, refl, sym, ap, inl, inr, ℕ
 use Rattle.std.proofs.lemmas.Bool.{cases_lt}
 use Rattle.std.specs.Str.{bytes_eq}
 use Rattle.histories.specs.Words.{or_else}
+use Rattle.relay_outside.specs.declared.address.Family.{Family}
 use Rattle.relay_outside.specs.declared.settings.Config.{Config}
 use Rattle.sdes_lines.specs.declared.crypto_line.Suite.{Suite}
 use Rattle.sdes_lines.specs.declared.crypto_line.Suite.TheVariants.{Tag80, Tag32}
@@ -19,13 +20,14 @@ use Rattle.offer_answer.specs.Sections.{most_sections, section_count, section_in
 use Rattle.offer_answer.specs.Profiles.{is_srtp, is_srtp_leg, profile_offered, profile_in_force, profile_over, written_profile}
 use Rattle.offer_answer.specs.Keys.{chosen_in, chosen_by, is_for, leg_keys, key_among, leg_key, committed_line, committed_key, key_in_force, line_with, lines_of_keys, no_lines, offered_lines}
 use Rattle.offer_answer.specs.Signals.{is_rejected_by}
+use Rattle.offer_answer.specs.Families.{family_by, new_family, leg_family}
 use Rattle.offer_answer.specs.Texts.{standing_port}
 use Rattle.offer_answer.specs.Plan.{OfferRead}
 use Rattle.offer_answer.specs.LastOffers.{OfferKept}
 use Rattle.offer_answer.specs.Dialogs.{DialogFor}
 use Rattle.offer_answer.specs.declared.last_offer.LastOffer.{LastOffer}
 use Rattle.offer_answer.specs.declared.dialog.Dialog.{Dialog}
-use Rattle.offer_answer.proofs.Steps.{pairs-offered, committed-offered, leg-offered, key-offered, in_force-offered, profile-offered, pairs-answered, committed-answered, leg-answered, key-answered, in_force-answered, profile-answered, find-append}
+use Rattle.offer_answer.proofs.Steps.{pairs-offered, committed-offered, leg-offered, key-offered, in_force-offered, profile-offered, pairs-answered, committed-answered, leg-answered, key-answered, in_force-answered, profile-answered, family-offered, family-answered, find-append}
 use Rattle.offer_answer.proofs.Alike.{AlikeLegs, AlikeSections, AlikeMade, AlikeOffers, AlikeLast, Alike, active_alike, inactive_beyond, count_alike}
 
 -- the offer of the round has no more sections than are kept, and its crypto lines are the chosen ones
@@ -158,10 +160,22 @@ module _ (config : Config) (rounds others : List Round) (ask : OfferAsk) (legs :
       ap (λ (by : Side). Some (if side_eq side by then (section_in ask.sdp section).proto else profile_over (profile_in_force rounds section side) ask section)) same
       ∙ ap (λ (p : Option Proto). Some (if side_eq side (offerer others ask) then (section_in ask.sdp section).proto else profile_over p ask section)) (s.legs_are side).in_force_is
 
+  family_after_offer : (side : Side) → offerer rounds ask ≡ offerer others ask → AlikeSections config rounds others section →
+      leg_family (Offered ask legs keys ∷ rounds) section side ≡ leg_family (Offered ask legs keys ∷ others) section side
+  family_after_offer side same s =
+      family-offered ask legs keys rounds section side
+      ∙ ap (λ (by : Side). if leases (Offered ask legs keys) section then Some (family_by ask.options (section_in ask.sdp section) by side)
+      else if has_pairs (Offered ask legs keys ∷ rounds) section then leg_family rounds section side else None) same
+      ∙ ap (λ (b : Bool). if leases (Offered ask legs keys) section then Some (new_family others ask section side) else if b then leg_family rounds section side else None) (pairs_after_offer s)
+      ∙ ap (λ (o : Option Family). if leases (Offered ask legs keys) section then Some (new_family others ask section side)
+      else if has_pairs (Offered ask legs keys ∷ others) section then o else None) (s.legs_are side).family_is
+      ∙ sym (family-offered ask legs keys others section side)
+
   leg_after_offer : (side : Side) → offerer rounds ask ≡ offerer others ask → AlikeSections config rounds others section →
       AlikeLegs config (Offered ask legs keys ∷ rounds) (Offered ask legs keys ∷ others) section side
   leg_after_offer side same s = record {
     port_is = port_after_offer side s;
+    family_is = family_after_offer side same s;
     offered_is = offered_after_offer side same s;
     in_force_is = profile_after_offer side s;
     keys_are = λ suite. key_after_offer side suite s;
@@ -285,6 +299,11 @@ module _ (config : Config) (rounds others : List Round) (ask : AnswerAsk) (secti
   leg_after_answer : (side : Side) → AlikeLegs config (Answered ask ∷ rounds) (Answered ask ∷ others) section side
   leg_after_answer side = record {
     port_is = port_after_answer side;
+    family_is =
+        family-answered ask rounds section side
+        ∙ if_alike (has_pairs (Answered ask ∷ rounds) section) (has_pairs (Answered ask ∷ others) section) (leg_family rounds section side) (leg_family others section side)
+        pairs_after_answer (s.legs_are side).family_is
+        ∙ sym (family-answered ask others section side);
     offered_is = (s.legs_are side).offered_is;
     in_force_is =
         profile-answered ask rounds section side

@@ -4,6 +4,7 @@ use Rattle.std.specs.List.{list_any}
 use Rattle.std.proofs.lemmas.Bool.{cases_lt}
 use Rattle.std.specs.Str.{bytes_eq}
 use Rattle.histories.specs.Words.{In, here, there, or_else, numbers}
+use Rattle.relay_outside.specs.declared.address.Family.{Family}
 use Rattle.relay_outside.specs.declared.settings.Config.{Config}
 use Rattle.sdes_lines.specs.declared.crypto_line.Suite.{Suite}
 use Rattle.sdes_lines.specs.declared.crypto_line.Suite.TheVariants.{Tag80, Tag32}
@@ -16,7 +17,7 @@ use Rattle.sdp_edit.specs.ChosenLines.{IsOffered, IsFirstOf, section_lines}
 use Rattle.sdp_edit.specs.EditedText.{edited}
 use Rattle.ng_command.specs.declared.command.Options.{Options}
 use Rattle.ng_reply.specs.declared.code.ErrorCode.{ErrorCode}
-use Rattle.ng_reply.specs.declared.code.ErrorCode.TheVariants.{E8, E10, E11, E12}
+use Rattle.ng_reply.specs.declared.code.ErrorCode.TheVariants.{E8, E10, E11, E12, E20}
 use Rattle.port_pool.specs.declared.holder.Side.{Side}
 use Rattle.port_pool.specs.declared.holder.Side.TheVariants.{A, B}
 use Rattle.port_pool.specs.declared.signal.LegSignal.{LegSignal}
@@ -28,10 +29,11 @@ use Rattle.offer_answer.specs.Sides.{MadeOffer, is_begun, is_settled, is_tag_of,
 use Rattle.offer_answer.specs.Sections.{most_sections, section_count, section_in, all_sections, active_sections, is_active_in, has_pairs, is_committed, committed_count}
 use Rattle.offer_answer.specs.Profiles.{is_srtp, written_profile}
 use Rattle.offer_answer.specs.Keys.{chosen_in, leg_key, key_in_force, key_place_of, missing_keys, offerers_suites, others_suites, section_keys, line_with, no_lines, offered_lines, committed_line, committed_key}
-use Rattle.offer_answer.specs.Demands.{legs_for, new_leg, new_active_sections, new_legs, new_keys, is_dropped, dropped_sections}
-use Rattle.offer_answer.specs.Faults.{lacks_line, may_answer, takes_no_line, fault_of_answer_to}
+use Rattle.offer_answer.specs.Demands.{legs_for, new_active_sections, new_legs, new_keys, is_dropped, dropped_sections}
+use Rattle.offer_answer.specs.Faults.{lacks_line, misfits_offerer, may_answer, misfits_answerer, takes_no_line, fault_of_answer_to}
+use Rattle.offer_answer.specs.Families.{family_by, new_family, leg_family, family_after, misfits}
 use Rattle.offer_answer.specs.Signals.{is_rejected_by, leg_signal, side_signal, section_signal, answer_signal}
-use Rattle.offer_answer.specs.Texts.{edit_with, interface_host, standing_port, new_port, offered_port, offer_section, answered_port, answering_line, answered_lines, answer_section}
+use Rattle.offer_answer.specs.Texts.{edit_with, written_host, standing_port, new_port, offered_port, offer_section, answered_port, answering_line, answered_lines, answer_section}
 use Rattle.offer_answer.specs.Plan.{offer_fault, demand, answer_fault, signal, offer_text, answer_text, tag, is_side, protocol, AnswerRead}
 use Rattle.offer_answer.proofs.Numbers.{in-numbers, in-filter}
 use Rattle.offer_answer.proofs.Written.{map-alike, section-is}
@@ -54,6 +56,10 @@ flat_alike f g (x ∷ xs) same = ap (λ ys. ys ++ flat_map f xs) (same x (here r
 any_alike : {X : Type 0} (p q : X → Bool) (xs : List X) → ((x : X) → p x ≡ q x) → list_any p xs ≡ list_any q xs
 any_alike p q [] same = refl
 any_alike p q (x ∷ xs) same = ap (λ b. b || list_any p xs) (same x) ∙ ap (λ b. q x || b) (any_alike p q xs same)
+
+any_in : {X : Type 0} (p q : X → Bool) (xs : List X) → ((x : X) → In x xs → p x ≡ q x) → list_any p xs ≡ list_any q xs
+any_in p q [] same = refl
+any_in p q (x ∷ xs) same = ap (λ b. b || list_any p xs) (same x (here refl)) ∙ ap (λ b. q x || b) (any_in p q xs (λ y i. same y (there i)))
 
 active_below : (sdp : List ℕ) (section : ℕ) → In section (active_sections sdp) → section_count sdp ≤ most_sections → section < most_sections
 active_below sdp section i few =
@@ -81,17 +87,27 @@ protocol_alike config rounds others section side s = in_force_alike config round
 
 -- Offers.
 
-pub offer_fault_alike : (config : Config) (rounds others : List Round) (ask : OfferAsk) → Alike config rounds others → offer_fault rounds ask ≡ offer_fault others ask
+misfits_alike : (config : Config) (rounds others : List Round) (ask : OfferAsk) (section : ℕ) → Alike config rounds others → section < most_sections →
+    misfits_offerer rounds ask section ≡ misfits_offerer others ask section
+misfits_alike config rounds others ask section s below =
+    ap (λ (side : Side). misfits (leg_family rounds section side) ask.options (section_in ask.sdp section)) (offerer_alike rounds others ask s.answering_tag_is)
+    ∙ ap (λ (family : Option Family). misfits family ask.options (section_in ask.sdp section)) ((s.sections_are section below).legs_are (offerer others ask)).family_is
+
+pub offer_fault_alike : (config : Config) (rounds others : List Round) (ask : OfferAsk) → Alike config rounds others → section_count ask.sdp ≤ most_sections →
+    offer_fault rounds ask ≡ offer_fault others ask
 unfolding offer_fault
-offer_fault_alike config rounds others ask s =
-    ap (λ (b : Bool). fault (b && not (is_some_sides rounds ask.from_tag)) (committed_count rounds)) s.begun_is
-    ∙ ap (λ (b : Bool). fault (is_begun others && not b) (committed_count rounds)) (sides_alike config rounds others ask.from_tag s)
-    ∙ ap (λ (n : ℕ). fault (is_begun others && not (is_some_sides others ask.from_tag)) n) s.committed_count_is
+offer_fault_alike config rounds others ask s few =
+    ap (λ (b : Bool). fault (b && not (is_some_sides rounds ask.from_tag)) (committed_count rounds) (list_any (misfits_offerer rounds ask) (active_sections ask.sdp))) s.begun_is
+    ∙ ap (λ (b : Bool). fault (is_begun others && not b) (committed_count rounds) (list_any (misfits_offerer rounds ask) (active_sections ask.sdp))) (sides_alike config rounds others ask.from_tag s)
+    ∙ ap (λ (n : ℕ). fault (is_begun others && not (is_some_sides others ask.from_tag)) n (list_any (misfits_offerer rounds ask) (active_sections ask.sdp))) s.committed_count_is
+    ∙ ap (fault (is_begun others && not (is_some_sides others ask.from_tag)) (committed_count others))
+    (any_in (misfits_offerer rounds ask) (misfits_offerer others ask) (active_sections ask.sdp) (λ section i. misfits_alike config rounds others ask section s (active_below ask.sdp section i few)))
   where
-    fault : Bool → ℕ → Option ErrorCode
-    fault strangers committed =
+    fault : Bool → ℕ → Bool → Option ErrorCode
+    fault strangers committed misfit =
         if strangers then Some E10
         else if nat_lt (section_count ask.sdp) committed then Some E12
+        else if misfit then Some E20
         else if list_any (lacks_line ask) (active_sections ask.sdp) then Some E8
         else None
 
@@ -104,10 +120,13 @@ module _ (config : Config) (rounds others : List Round) (ask : OfferAsk) (s : Al
 
   legs_alike : new_legs rounds ask ≡ new_legs others ask
   legs_alike =
-      ap (λ (side : Side). flat_map (λ section. new_leg section (other_side side) ∷ new_leg section side ∷ []) (new_active_sections rounds ask)) side_is
+      ap (λ (side : Side). flat_map (λ section. leg_by side section (other_side side) ∷ leg_by side section side ∷ []) (new_active_sections rounds ask)) side_is
       ∙ ap (flat_map (legs_for others ask))
       (filter_alike (λ section. not (has_pairs rounds section)) (λ section. not (has_pairs others section)) (active_sections ask.sdp)
       (λ section i. ap not (section_is section i).pairs_are))
+    where
+      leg_by : Side → ℕ → Side → NewLeg
+      leg_by maker section side = record { section = section; side = side; family = family_by ask.options (section_in ask.sdp section) maker side }
 
   missing_alike : (section : ℕ) (side : Side) (suites : List Suite) → AlikeSections config rounds others section →
       missing_keys rounds section side suites ≡ missing_keys others section side suites
@@ -162,12 +181,24 @@ module _ (config : Config) (rounds others : List Round) (ask : OfferAsk) (s : Al
       first_or None k l same = same
       first_or (Some x) k l same = refl
 
+  host_alike : (ports : List ℕ) (section : ℕ) → AlikeSections config rounds others section →
+      written_host config (offered_port config rounds ask ports section) (Some (family_after rounds ask section (other_side (offerer rounds ask))))
+      ≡ written_host config (offered_port config others ask ports section) (Some (family_after others ask section (other_side (offerer others ask))))
+  host_alike ports section a =
+      ap (λ (port : ℕ). written_host config port (Some (family_after rounds ask section (other_side (offerer rounds ask))))) (port_alike ports section a)
+      ∙ ap (λ (side : Side). written_host config (offered_port config others ask ports section)
+      (Some (unwrap_or (leg_family rounds section (other_side side)) (family_by ask.options (section_in ask.sdp section) side (other_side side))))) side_is
+      ∙ ap (λ (family : Option Family). written_host config (offered_port config others ask ports section)
+      (Some (unwrap_or family (new_family others ask section (other_side (offerer others ask)))))) (a.legs_are (other_side (offerer others ask))).family_is
+
   section_text : (ports : List ℕ) (keys : List NewKey) (section : ℕ) → section < most_sections →
       offer_section config rounds ask ports keys section ≡ offer_section config others ask ports keys section
   section_text ports keys section below =
       section-is (offered_port config rounds ask ports section) (offered_port config others ask ports section) (written_profile rounds ask section) (written_profile others ask section)
-      (interface_host config) (interface_host config) (offered_lines rounds ask keys section) (offered_lines others ask keys section)
-      (port_alike ports section (s.sections_are section below)) (written_next config rounds others ask section s) refl (lines_next config rounds others ask keys section s below)
+      (written_host config (offered_port config rounds ask ports section) (Some (family_after rounds ask section (other_side (offerer rounds ask)))))
+      (written_host config (offered_port config others ask ports section) (Some (family_after others ask section (other_side (offerer others ask)))))
+      (offered_lines rounds ask keys section) (offered_lines others ask keys section)
+      (port_alike ports section (s.sections_are section below)) (written_next config rounds others ask section s) (host_alike ports section (s.sections_are section below)) (lines_next config rounds others ask keys section s below)
 
   pub offer_text_alike : (ports : List ℕ) (keys : List NewKey) → offer_text config rounds ask ports keys ≡ offer_text config others ask ports keys
   unfolding offer_text
@@ -195,32 +226,56 @@ takes_alike offer other ask section s =
           ∙ sym (ap (λ (b : Bool). b && is_active_in ask.sdp section && is_srtp (written_profile other.before other.ask section) && is_none (chosen_in ask.chosen section)) out)
     ]
 
-fault_to_alike : (offer other : MadeOffer) (ask : AnswerAsk) → AlikeOffers offer other → fault_of_answer_to offer ask ≡ fault_of_answer_to other ask
-fault_to_alike offer other ask s =
-    ap (λ (tag : List ℕ). fault (bytes_eq ask.from_tag tag) (section_count ask.sdp == section_count offer.ask.sdp) (list_any (takes_no_line offer ask) (all_sections ask.sdp))) s.from_tag_is
-    ∙ ap (λ (n : ℕ). fault (bytes_eq ask.from_tag other.ask.from_tag) (section_count ask.sdp == n) (list_any (takes_no_line offer ask) (all_sections ask.sdp))) s.count_is
-    ∙ ap (fault (bytes_eq ask.from_tag other.ask.from_tag) (section_count ask.sdp == section_count other.ask.sdp))
-    (any_alike (takes_no_line offer ask) (takes_no_line other ask) (all_sections ask.sdp) (λ section. takes_alike offer other ask section s))
-  where
-    fault : Bool → Bool → Bool → Option ErrorCode
-    fault own many lacks = if not own then Some E11 else if not many then Some E12 else if lacks then Some E8 else None
+unfit_alike : (config : Config) (rounds others : List Round) (offer other : MadeOffer) (ask : AnswerAsk) (section : ℕ) → Alike config rounds others → AlikeOffers offer other →
+    section < most_sections → misfits_answerer rounds offer ask section ≡ misfits_answerer others other ask section
+unfit_alike config rounds others offer other ask section a s below =
+    ap (λ (by : Side). misfits (leg_family rounds section (other_side by)) ask.options (section_in ask.sdp section)) s.maker_is
+    ∙ ap (λ (family : Option Family). misfits family ask.options (section_in ask.sdp section)) ((a.sections_are section below).legs_are (other_side (maker other))).family_is
 
-last_fault_alike : (offer other : Option MadeOffer) (ask : AnswerAsk) → AlikeLast offer other →
-    elim offer as (λ _. Option ErrorCode) [ None ↦ Some E10 | Some made ↦ fault_of_answer_to made ask ] ≡ elim other as (λ _. Option ErrorCode) [ None ↦ Some E10 | Some made ↦ fault_of_answer_to made ask ]
-last_fault_alike None None ask s = refl
-last_fault_alike None (Some other) ask s = elim s [ ]
-last_fault_alike (Some offer) None ask s = elim s [ ]
-last_fault_alike (Some offer) (Some other) ask s = fault_to_alike offer other ask s
+fault_to_alike : (config : Config) (rounds others : List Round) (offer other : MadeOffer) (ask : AnswerAsk) → Alike config rounds others → AlikeOffers offer other →
+    fault_of_answer_to rounds offer ask ≡ fault_of_answer_to others other ask
+fault_to_alike config rounds others offer other ask a s =
+    ap (λ (tag : List ℕ). fault (bytes_eq ask.from_tag tag) (section_count ask.sdp == section_count offer.ask.sdp) unfit (list_any (takes_no_line offer ask) (all_sections ask.sdp))) s.from_tag_is
+    ∙ ap (λ (n : ℕ). fault (bytes_eq ask.from_tag other.ask.from_tag) (section_count ask.sdp == n) unfit (list_any (takes_no_line offer ask) (all_sections ask.sdp))) s.count_is
+    ∙ ap (fault (bytes_eq ask.from_tag other.ask.from_tag) (section_count ask.sdp == section_count other.ask.sdp) unfit)
+    (any_alike (takes_no_line offer ask) (takes_no_line other ask) (all_sections ask.sdp) (λ section. takes_alike offer other ask section s))
+    ∙ go (bytes_eq ask.from_tag other.ask.from_tag) (section_count ask.sdp == section_count other.ask.sdp) refl
+  where
+    fault : Bool → Bool → Bool → Bool → Option ErrorCode
+    fault own many misfit lacks = if not own then Some E11 else if not many then Some E12 else if misfit then Some E20 else if lacks then Some E8 else None
+
+    unfit : Bool
+    unfit = list_any (misfits_answerer rounds offer ask) (active_sections ask.sdp)
+
+    same : section_count ask.sdp ≤ most_sections → list_any (misfits_answerer rounds offer ask) (active_sections ask.sdp) ≡ list_any (misfits_answerer others other ask) (active_sections ask.sdp)
+    same few =
+        any_in (misfits_answerer rounds offer ask) (misfits_answerer others other ask) (active_sections ask.sdp)
+        (λ section i. unfit_alike config rounds others offer other ask section a s (active_below ask.sdp section i few))
+
+    go : (own many : Bool) → (section_count ask.sdp == section_count other.ask.sdp) ≡ many →
+        fault own many (list_any (misfits_answerer rounds offer ask) (active_sections ask.sdp)) (list_any (takes_no_line other ask) (all_sections ask.sdp))
+        ≡ fault own many (list_any (misfits_answerer others other ask) (active_sections ask.sdp)) (list_any (takes_no_line other ask) (all_sections ask.sdp))
+    go own false e = refl
+    go own true e =
+        let equal : section_count ask.sdp ≡ section_count other.ask.sdp = grind (arith, e) in
+        ap (λ (misfit : Bool). fault own true misfit (list_any (takes_no_line other ask) (all_sections ask.sdp))) (same (omega (arith, equal, s.few)))
+
+last_fault_alike : (config : Config) (rounds others : List Round) (offer other : Option MadeOffer) (ask : AnswerAsk) → Alike config rounds others → AlikeLast offer other →
+    elim offer as (λ _. Option ErrorCode) [ None ↦ Some E10 | Some made ↦ fault_of_answer_to rounds made ask ] ≡ elim other as (λ _. Option ErrorCode) [ None ↦ Some E10 | Some made ↦ fault_of_answer_to others made ask ]
+last_fault_alike config rounds others None None ask a s = refl
+last_fault_alike config rounds others None (Some other) ask a s = elim s [ ]
+last_fault_alike config rounds others (Some offer) None ask a s = elim s [ ]
+last_fault_alike config rounds others (Some offer) (Some other) ask a s = fault_to_alike config rounds others offer other ask a s
 
 pub answer_fault_alike : (config : Config) (rounds others : List Round) (ask : AnswerAsk) → Alike config rounds others → answer_fault rounds ask ≡ answer_fault others ask
 unfolding answer_fault
 answer_fault_alike config rounds others ask s =
     ap (λ (b : Bool). fault (b && may_answer rounds ask) (last_fault (last_offer rounds))) (sides_alike config rounds others ask.from_tag s)
     ∙ ap (λ (b : Bool). fault (is_some_sides others ask.from_tag && b) (last_fault (last_offer rounds))) (may_alike config rounds others ask s)
-    ∙ ap (fault (is_some_sides others ask.from_tag && may_answer others ask)) (last_fault_alike (last_offer rounds) (last_offer others) ask s.offer_is)
+    ∙ ap (fault (is_some_sides others ask.from_tag && may_answer others ask)) (last_fault_alike config rounds others (last_offer rounds) (last_offer others) ask s s.offer_is)
   where
     last_fault : Option MadeOffer → Option ErrorCode
-    last_fault offer = elim offer [ None ↦ Some E10 | Some made ↦ fault_of_answer_to made ask ]
+    last_fault offer = elim offer [ None ↦ Some E10 | Some made ↦ fault_of_answer_to rounds made ask ]
 
     fault : Bool → Option ErrorCode → Option ErrorCode
     fault sides last = if not sides then Some E10 else last
@@ -316,11 +371,28 @@ module _ (config : Config) (rounds others : List Round) (ask : AnswerAsk) (s : A
       lines : Bool → Proto → Option CryptoLine → List (Option CryptoLine)
       lines rejected profile line = if not rejected && is_srtp profile then line ∷ None ∷ [] else no_lines
 
+  answered_host_alike : (offer other : MadeOffer) (section : ℕ) → AlikeOffers offer other →
+      written_host config (answered_port config rounds offer ask section) (leg_family rounds section (maker offer))
+      ≡ written_host config (answered_port config others other ask section) (leg_family others section (maker other))
+  answered_host_alike offer other section o =
+      ap (λ (port : ℕ). written_host config port (leg_family rounds section (maker offer))) (answered_port_alike offer other section o)
+      ∙ elim (cases_lt section most_sections) [
+        | inl below ↦
+            ap (λ (by : Side). written_host config (answered_port config others other ask section) (leg_family rounds section by)) o.maker_is
+            ∙ ap (written_host config (answered_port config others other ask section)) ((s.sections_are section below).legs_are (maker other)).family_is
+        | inr past ↦
+            let at = unwrap_or (standing_port config others section (maker other)) 0 in
+            ap (λ (b : Bool). written_host config (if b then 0 else at) (leg_family rounds section (maker offer))) (rejected_out section past)
+            ∙ sym (ap (λ (b : Bool). written_host config (if b then 0 else at) (leg_family others section (maker other))) (rejected_out section past))
+      ]
+
   answer_section_alike : (offer other : MadeOffer) (section : ℕ) → AlikeOffers offer other → answer_section config rounds offer ask section ≡ answer_section config others other ask section
   answer_section_alike offer other section o =
       section-is (answered_port config rounds offer ask section) (answered_port config others other ask section) (section_in offer.ask.sdp section).proto (section_in other.ask.sdp section).proto
-      (interface_host config) (interface_host config) (answered_lines rounds offer ask section) (answered_lines others other ask section)
-      (answered_port_alike offer other section o) (ap (λ (at : Section). at.proto) (section_alike offer other section o)) refl (answered_lines_alike offer other section o)
+      (written_host config (answered_port config rounds offer ask section) (leg_family rounds section (maker offer)))
+      (written_host config (answered_port config others other ask section) (leg_family others section (maker other)))
+      (answered_lines rounds offer ask section) (answered_lines others other ask section)
+      (answered_port_alike offer other section o) (ap (λ (at : Section). at.proto) (section_alike offer other section o)) (answered_host_alike offer other section o) (answered_lines_alike offer other section o)
 
   answers_alike : (offer other : Option MadeOffer) → AlikeLast offer other →
       elim offer as (λ _. List ℕ) [ None ↦ [] | Some made ↦ edited (lines_of ask.sdp) (edit_with config ask.options (map (answer_section config rounds made ask) (all_sections ask.sdp))) ]

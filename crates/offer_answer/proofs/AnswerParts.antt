@@ -4,25 +4,29 @@ use Rattle.std.proofs.lemmas.List.{append_assoc}
 use Rattle.std.specs.List.{list_any}
 use Rattle.std.specs.Str.{bytes_eq}
 use Rattle.histories.specs.Words.{numbers}
+use Rattle.relay_outside.specs.declared.address.Family.{Family}
 use Rattle.relay_outside.specs.declared.settings.Config.{Config}
 use Rattle.sdes_lines.specs.declared.crypto_line.CryptoLine.{CryptoLine}
 use Rattle.sdp_text.specs.Lines.{lines_of}
 use Rattle.sdp_text.specs.Descriptions.{sections_in}
+use Rattle.sdp_text.specs.declared.section.Section.{Section}
 use Rattle.sdp_edit.specs.ChosenLines.{section_lines, IsFirstOf, IsOffered}
 use Rattle.ng_command.specs.declared.command.Options.{Options}
-use Rattle.ng_reply.specs.declared.code.ErrorCode.TheVariants.{E8, E10, E11, E12}
+use Rattle.ng_reply.specs.declared.code.ErrorCode.{ErrorCode}
+use Rattle.ng_reply.specs.declared.code.ErrorCode.TheVariants.{E8, E10, E11, E12, E20}
 use Rattle.port_pool.specs.declared.holder.Side.{Side}
 use Rattle.port_pool.specs.declared.holder.Side.TheVariants.{A, B}
 use Rattle.port_pool.specs.declared.signal.SectionSignal.{SectionSignal}
 use Rattle.port_pool.specs.declared.signal.SectionSignal.TheVariants.{Commit, Reject}
-use Rattle.port_pool.specs.Signals.{side_eq}
+use Rattle.port_pool.specs.Signals.{side_eq, other_side}
 use Rattle.offer_answer.specs.Rounds.{Round, AnswerAsk}
 use Rattle.offer_answer.specs.Sides.{MadeOffer, is_settled, is_some_sides, last_offer, maker, offered_sdp}
-use Rattle.offer_answer.specs.Sections.{section_count, section_in, no_section, all_sections, is_active, is_active_in}
+use Rattle.offer_answer.specs.Sections.{section_count, section_in, no_section, all_sections, active_sections, is_active, is_active_in}
 use Rattle.offer_answer.specs.Profiles.{is_srtp, is_srtp_leg, profile_offered, written_profile}
 use Rattle.offer_answer.specs.Keys.{chosen_in, leg_key, committed_line, committed_key, no_lines, offered_lines, last_lines}
 use Rattle.offer_answer.specs.Signals.{is_rejected_by, leg_signal, side_signal, section_signal, answer_signal}
-use Rattle.offer_answer.specs.Faults.{may_answer, takes_no_line, fault_of_answer_to}
+use Rattle.offer_answer.specs.Faults.{may_answer, misfits_answerer, takes_no_line, fault_of_answer_to}
+use Rattle.offer_answer.specs.Families.{leg_family, misfits}
 use Rattle.offer_answer.specs.Plan.{AnswerRead, answer_fault, signal}
 use Rattle.offer_answer.specs.Dialogs.{drawn_for_leg, leg_at}
 use Rattle.offer_answer.specs.Answers.{IsLast, ReadsAnswer, AnsweredAt, line_committed, key_for_line}
@@ -165,12 +169,12 @@ any-end p i n l = ap (list_any p) (numbers-end i n l)
 pub fault-tags : (rounds : List Round) (ask : AnswerAsk) → (is_some_sides rounds ask.from_tag && may_answer rounds ask) ≡ false → answer_fault rounds ask ≡ Some E10
 unfolding answer_fault
 fault-tags rounds ask e =
-    ap (λ (b : Bool). if not b then Some E10 else elim (last_offer rounds) [ None ↦ Some E10 | Some offer ↦ fault_of_answer_to offer ask ]) e
+    ap (λ (b : Bool). if not b then Some E10 else elim (last_offer rounds) [ None ↦ Some E10 | Some offer ↦ fault_of_answer_to rounds offer ask ]) e
 
 pub fault-none : (rounds : List Round) (ask : AnswerAsk) → last_offer rounds ≡ None → answer_fault rounds ask ≡ Some E10
 unfolding answer_fault
 fault-none rounds ask l =
-    ap (λ (o : Option MadeOffer). if not (is_some_sides rounds ask.from_tag && may_answer rounds ask) then Some E10 else elim o [ None ↦ Some E10 | Some offer ↦ fault_of_answer_to offer ask ]) l
+    ap (λ (o : Option MadeOffer). if not (is_some_sides rounds ask.from_tag && may_answer rounds ask) then Some E10 else elim o [ None ↦ Some E10 | Some offer ↦ fault_of_answer_to rounds offer ask ]) l
     ∙ go (is_some_sides rounds ask.from_tag && may_answer rounds ask)
   where
     go : (b : Bool) → (if not b then Some E10 else Some E10) ≡ Some E10
@@ -178,11 +182,11 @@ fault-none rounds ask l =
     go false = refl
 
 pub fault-to : (rounds : List Round) (offer : MadeOffer) (ask : AnswerAsk) → (is_some_sides rounds ask.from_tag && may_answer rounds ask) ≡ true → last_offer rounds ≡ Some offer →
-    answer_fault rounds ask ≡ fault_of_answer_to offer ask
+    answer_fault rounds ask ≡ fault_of_answer_to rounds offer ask
 unfolding answer_fault
 fault-to rounds offer ask e l =
-    ap (λ (b : Bool). if not b then Some E10 else elim (last_offer rounds) [ None ↦ Some E10 | Some made ↦ fault_of_answer_to made ask ]) e
-    ∙ ap (λ (o : Option MadeOffer). elim o [ None ↦ Some E10 | Some made ↦ fault_of_answer_to made ask ]) l
+    ap (λ (b : Bool). if not b then Some E10 else elim (last_offer rounds) [ None ↦ Some E10 | Some made ↦ fault_of_answer_to rounds made ask ]) e
+    ∙ ap (λ (o : Option MadeOffer). elim o [ None ↦ Some E10 | Some made ↦ fault_of_answer_to rounds made ask ]) l
 
 pub may-cases : (rounds : List Round) (ask : AnswerAsk) (same settled : Bool) → bytes_eq ask.to_tag ask.from_tag ≡ same → is_settled rounds ≡ settled →
     may_answer rounds ask ≡ (if same then false else if settled then is_some_sides rounds ask.to_tag else true)
@@ -190,11 +194,25 @@ may-cases rounds ask same settled e f =
     ap (λ (b : Bool). if b then false else if is_settled rounds then is_some_sides rounds ask.to_tag else true) e
     ∙ ap (λ (b : Bool). if same then false else if b then is_some_sides rounds ask.to_tag else true) f
 
-pub fault-cases : (offer : MadeOffer) (ask : AnswerAsk) (own many lacks : Bool) → bytes_eq ask.from_tag offer.ask.from_tag ≡ own →
-    (section_count ask.sdp == section_count offer.ask.sdp) ≡ many → list_any (takes_no_line offer ask) (all_sections ask.sdp) ≡ lacks →
-    fault_of_answer_to offer ask ≡ (if not own then Some E11 else if not many then Some E12 else if lacks then Some E8 else None)
-fault-cases offer ask own many lacks o m k =
-    ap (λ (b : Bool). if not b then Some E11 else if not (section_count ask.sdp == section_count offer.ask.sdp) then Some E12
-    else if list_any (takes_no_line offer ask) (all_sections ask.sdp) then Some E8 else None) o
-    ∙ ap (λ (b : Bool). if not own then Some E11 else if not b then Some E12 else if list_any (takes_no_line offer ask) (all_sections ask.sdp) then Some E8 else None) m
-    ∙ ap (λ (b : Bool). if not own then Some E11 else if not many then Some E12 else if b then Some E8 else None) k
+abbrev faulty : Bool → Bool → Bool → Bool → Option ErrorCode
+faulty own many misfit lacks = if not own then Some E11 else if not many then Some E12 else if misfit then Some E20 else if lacks then Some E8 else None
+
+pub fault-cases : (rounds : List Round) (offer : MadeOffer) (ask : AnswerAsk) (own many misfit lacks : Bool) → bytes_eq ask.from_tag offer.ask.from_tag ≡ own →
+    (section_count ask.sdp == section_count offer.ask.sdp) ≡ many → list_any (misfits_answerer rounds offer ask) (active_sections ask.sdp) ≡ misfit →
+    list_any (takes_no_line offer ask) (all_sections ask.sdp) ≡ lacks →
+    fault_of_answer_to rounds offer ask ≡ (if not own then Some E11 else if not many then Some E12 else if misfit then Some E20 else if lacks then Some E8 else None)
+fault-cases rounds offer ask own many misfit lacks o m f k =
+    ap (λ (b : Bool). faulty b (section_count ask.sdp == section_count offer.ask.sdp) (list_any (misfits_answerer rounds offer ask) (active_sections ask.sdp))
+    (list_any (takes_no_line offer ask) (all_sections ask.sdp))) o
+    ∙ ap (λ (b : Bool). faulty own b (list_any (misfits_answerer rounds offer ask) (active_sections ask.sdp)) (list_any (takes_no_line offer ask) (all_sections ask.sdp))) m
+    ∙ ap (λ (b : Bool). faulty own many b (list_any (takes_no_line offer ask) (all_sections ask.sdp))) f
+    ∙ ap (λ (b : Bool). faulty own many misfit b) k
+
+pub unfit-is : (config : Config) (rounds : List Round) (offer : MadeOffer) (ask : AnswerAsk) (section : ℕ) (o : AnsweredSection) (options : Options) (side : Side) →
+    AnsweredAt config rounds offer ask section o → options ≡ ask.options → side ≡ other_side (maker offer) →
+    (is_active o.section && misfits (leg_at o.kept side).family options o.section) ≡ (is_active_in ask.sdp section && misfits_answerer rounds offer ask section)
+unfit-is config rounds offer ask section o options side a e s =
+    ap (λ (x : Option Family). is_active o.section && misfits x options o.section) (a.kept_is.legs_are side).family_is
+    ∙ ap (λ (x : Side). is_active o.section && misfits (leg_family rounds section x) options o.section) s
+    ∙ ap (λ (x : Options). is_active o.section && misfits (leg_family rounds section (other_side (maker offer))) x o.section) e
+    ∙ ap (λ (x : Section). is_active x && misfits (leg_family rounds section (other_side (maker offer))) ask.options x) a.section_is

@@ -15,6 +15,7 @@ use Rattle.offer_answer.specs.Sections.{most_sections, section_count, sections_o
 use Rattle.offer_answer.specs.Profiles.{profile_offered, profile_in_force}
 use Rattle.offer_answer.specs.Keys.{leg_key, committed_key}
 use Rattle.offer_answer.specs.Signals.{is_rejected_by}
+use Rattle.offer_answer.specs.Families.{leg_family}
 use Rattle.offer_answer.specs.Dialogs.{LegFor, SectionFor, DialogFor, key_for, leg_at, no_leg, drawn_for_leg}
 use Rattle.offer_answer.specs.LastOffers.{OfferKept}
 use Rattle.offer_answer.specs.Answers.{AnsweredFor}
@@ -24,7 +25,7 @@ use Rattle.offer_answer.specs.declared.last_offer.LastOffer.{LastOffer}
 use Rattle.offer_answer.specs.declared.dialog.Dialog.{Dialog}
 use Rattle.offer_answer.specs.declared.next_answer.AnsweredNext.{AnsweredNext}
 use Rattle.offer_answer.proofs.Offering.{past-end}
-use Rattle.offer_answer.proofs.Steps.{pairs-answered, committed-answered, leg-answered, key-answered, in_force-answered, profile-answered}
+use Rattle.offer_answer.proofs.Steps.{pairs-answered, committed-answered, leg-answered, key-answered, in_force-answered, profile-answered, family-answered}
 
 -- a section has pairs after the answer, and is committed, where it wasn't rejected
 pairs-after : (rounds : List Round) (ask : AnswerAsk) (section : ℕ) (rejected : Bool) → is_rejected_by rounds ask section ≡ rejected →
@@ -40,6 +41,7 @@ pub leg-rejected : (config : Config) (rounds : List Round) (ask : AnswerAsk) (se
     is_rejected_by rounds ask section ≡ true → LegFor config (Answered ask ∷ rounds) section side (record no_leg { offered = leg.offered })
 leg-rejected config rounds ask section side leg f r = record {
   port_is = sym (ap (port_of config) (leg-answered ask rounds section side ∙ ap (λ (b : Bool). if b then leg_of rounds section side else None) gone));
+  family_is = sym (family-answered ask rounds section side ∙ ap (λ (b : Bool). if b then leg_family rounds section side else None) gone);
   offered_is = f.offered_is;
   in_force_is = sym (profile-answered ask rounds section side ∙ ap (λ (b : Bool). if b then profile_offered rounds section side else None) gone);
   keys_are = keys;
@@ -58,6 +60,7 @@ pub leg-committed : (config : Config) (rounds : List Round) (ask : AnswerAsk) (s
     LegFor config (Answered ask ∷ rounds) section side (record leg { in_force = leg.offered; key_in_force = key })
 leg-committed config rounds ask section side leg key f r k = record {
   port_is = f.port_is ∙ sym (ap (port_of config) (leg-answered ask rounds section side ∙ ap (λ (b : Bool). if b then leg_of rounds section side else None) stays));
+  family_is = f.family_is ∙ sym (family-answered ask rounds section side ∙ ap (λ (b : Bool). if b then leg_family rounds section side else None) stays);
   offered_is = f.offered_is;
   in_force_is = f.offered_is ∙ sym (profile-answered ask rounds section side ∙ ap (λ (b : Bool). if b then profile_offered rounds section side else None) stays);
   keys_are = keys;

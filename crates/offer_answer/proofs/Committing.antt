@@ -5,18 +5,18 @@ use Rattle.std.specs.Str.{bytes_eq}
 use Rattle.sdes_lines.specs.declared.crypto_line.CryptoLine.{CryptoLine}
 use Rattle.sdp_text.specs.Lines.{lines_of}
 use Rattle.sdp_edit.specs.ChosenLines.{IsOffered, IsFirstOf, section_lines}
-use Rattle.ng_reply.specs.declared.code.ErrorCode.TheVariants.{E8, E10, E11, E12}
+use Rattle.ng_reply.specs.declared.code.ErrorCode.TheVariants.{E8, E10, E11, E12, E20}
 use Rattle.port_pool.specs.declared.holder.Side.{Side}
 use Rattle.port_pool.specs.declared.holder.Side.TheVariants.{A, B}
 use Rattle.port_pool.specs.declared.signal.LegSignal.{LegSignal}
 use Rattle.port_pool.specs.Signals.{NewKey, side_eq, other_side, signal_at}
 use Rattle.offer_answer.specs.Rounds.{Round, Offered, Answered, AnswerAsk}
 use Rattle.offer_answer.specs.Sides.{MadeOffer, is_some_sides, last_offer, maker, offered_sdp}
-use Rattle.offer_answer.specs.Sections.{section_in, section_count, all_sections, is_active_in, has_pairs}
+use Rattle.offer_answer.specs.Sections.{section_in, section_count, all_sections, active_sections, is_active_in, has_pairs}
 use Rattle.offer_answer.specs.Profiles.{is_srtp, is_srtp_leg, profile_over, profile_offered, profile_in_force, written_profile}
 use Rattle.offer_answer.specs.Keys.{chosen_in, leg_key, chosen_by, committed_line, committed_key, no_lines, offered_lines, last_lines}
 use Rattle.offer_answer.specs.Signals.{is_rejected_by, line_key, side_signal, answer_signal}
-use Rattle.offer_answer.specs.Faults.{may_answer, takes_no_line, fault_of_answer_to}
+use Rattle.offer_answer.specs.Faults.{may_answer, misfits_answerer, takes_no_line, fault_of_answer_to}
 use Rattle.offer_answer.specs.Plan.{AnswerRead, answer_fault, signal}
 use Rattle.offer_answer.specs.Laws.{IsAnswerRound, AreRounds, IsSecured, SecuresLegs}
 use Rattle.offer_answer.proofs.Drawn.{signal-inbound, signal-outbound, answer-signal, same_side}
@@ -85,15 +85,17 @@ takes-lines : (rounds : List Round) (offer : MadeOffer) (ask : AnswerAsk) → la
 unfolding answer_fault
 takes-lines rounds offer ask l e =
     go (not (is_some_sides rounds ask.from_tag && may_answer rounds ask)) (not (bytes_eq ask.from_tag offer.ask.from_tag))
-    (not (section_count ask.sdp == section_count offer.ask.sdp)) (list_any (takes_no_line offer ask) (all_sections ask.sdp))
-    (sym (ap (λ (o : Option MadeOffer). if not (is_some_sides rounds ask.from_tag && may_answer rounds ask) then Some E10 else elim o [ None ↦ Some E10 | Some made ↦ fault_of_answer_to made ask ]) l) ∙ e)
+    (not (section_count ask.sdp == section_count offer.ask.sdp)) (list_any (misfits_answerer rounds offer ask) (active_sections ask.sdp))
+    (list_any (takes_no_line offer ask) (all_sections ask.sdp))
+    (sym (ap (λ (o : Option MadeOffer). if not (is_some_sides rounds ask.from_tag && may_answer rounds ask) then Some E10 else elim o [ None ↦ Some E10 | Some made ↦ fault_of_answer_to rounds made ask ]) l) ∙ e)
   where
-    go : (x y z w : Bool) → (if x then Some E10 else if y then Some E11 else if z then Some E12 else if w then Some E8 else None) ≡ None → w ≡ false
-    go true y z w e = cc
-    go false true z w e = cc
-    go false false true w e = cc
-    go false false false true e = cc
-    go false false false false e = refl
+    go : (x y z m w : Bool) → (if x then Some E10 else if y then Some E11 else if z then Some E12 else if m then Some E20 else if w then Some E8 else None) ≡ None → w ≡ false
+    go true y z m w e = cc
+    go false true z m w e = cc
+    go false false true m w e = cc
+    go false false false true w e = cc
+    go false false false false true e = cc
+    go false false false false false e = refl
 
 all-true : (x y z : Bool) → not (x && y && z) ≡ false → (x ≡ true) × (y ≡ true) × (z ≡ true)
 all-true true true true e = (refl, refl, refl)

@@ -44,7 +44,7 @@ in-legs_for rounds ask section l (there (there i)) = elim i [ ]
 legs_for-apart : (rounds : List Round) (ask : OfferAsk) (section : ℕ) → Ordered AreLegsApart (legs_for rounds ask section)
 legs_for-apart rounds ask section = (apart, ((λ m i. elim i [ ]), tt))
   where
-    apart : (m : NewLeg) → In m (new_leg section (offerer rounds ask) ∷ []) → AreLegsApart (new_leg section (other_side (offerer rounds ask))) m
+    apart : (m : NewLeg) → In m (new_leg rounds ask section (offerer rounds ask) ∷ []) → AreLegsApart (new_leg rounds ask section (other_side (offerer rounds ask))) m
     apart m (here e) s t = other-side_differs (offerer rounds ask) (t ∙ ap (λ (l : NewLeg). l.side) e)
     apart m (there i) s t = elim i [ ]
 

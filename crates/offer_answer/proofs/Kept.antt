@@ -1,12 +1,13 @@
 -- What the filling of a plan keeps.
 use Rattle.std.proofs.Common.{◌≡◌, ◌∙◌, refl, ap, sym, subst, ℕ, zero, suc, ◌+◌, ◌<◌, ◌≤◌, false, List, ◌∷◌, length, map, replicate, slice_index_or, arith}
-use Rattle.relay_outside.specs.declared.address.Ip.{Ip}
+use Rattle.relay_outside.specs.declared.settings.Config.{Config}
+use Rattle.sdp_text.specs.declared.host.Host.{Host}
 use Rattle.histories.specs.Words.{numbers}
 use Rattle.sdp_edit.specs.declared.edits.Edit.{Edit}
 use Rattle.sdp_edit.specs.EditedText.{edited}
 use Rattle.ng_command.specs.declared.command.Options.{Options}
-use Rattle.offer_answer.specs.Texts.{host_of_ip}
-use Rattle.offer_answer.specs.Edits.{IsEditReserved, widest_section, widest_at, widest_sections, widest_len, made_at}
+use Rattle.offer_answer.specs.Texts.{interface_host}
+use Rattle.offer_answer.specs.Edits.{IsEditReserved, longest_host, widest_section, widest_at, widest_sections, widest_len, made_at}
 use Rattle.offer_answer.specs.Widths.{SameMade, SameOffer, KeepsOffer, WritesNext}
 use Rattle.offer_answer.specs.declared.last_offer.MadeSection.{MadeSection}
 use Rattle.offer_answer.specs.declared.last_offer.LastOffer.{LastOffer}
@@ -20,9 +21,9 @@ none-set zero section = refl
 none-set (suc n) zero = refl
 none-set (suc n) (suc section) = none-set n section
 
-same-widest : (interface : Ip) (old new : MadeSection) → SameMade old new → widest_section interface new ≡ widest_section interface old
-same-widest interface old new s =
-    ap (λ (made : MadeSection). widest_section interface made) (parts s)
+same-widest : (host : Host) (old new : MadeSection) → SameMade old new → widest_section host new ≡ widest_section host old
+same-widest host old new s =
+    ap (λ (made : MadeSection). widest_section host made) (parts s)
   where
     parts : SameMade old new → record { section = new.section; line = old.line; written = new.written; lines = old.lines } ≡ old
     parts s = let a = s.section_is in let b = s.written_is in λ i. record { section = a i; line = old.line; written = b i; lines = old.lines }
@@ -34,19 +35,19 @@ map-numbers f g from (suc count) same =
     let more = map-numbers f g (suc from) count (λ k lt. same k (omega (arith, lt))) in
     λ i. here i ∷ more i
 
-same-sections : (interface : Ip) (old new : LastOffer) → SameOffer old new → old.count ≤ 8 → widest_sections interface new ≡ widest_sections interface old
-same-sections interface old new s few =
-    ap (λ n. map (widest_at interface new) (numbers 0 n)) s.count_is
-    ∙ map-numbers (widest_at interface new) (widest_at interface old) 0 old.count
-    (λ k lt. same-widest interface (made_at old k) (made_at new k) (s.sections_are k (omega (arith, lt, few))))
+same-sections : (host : Host) (old new : LastOffer) → SameOffer old new → old.count ≤ 8 → widest_sections host new ≡ widest_sections host old
+same-sections host old new s few =
+    ap (λ n. map (widest_at host new) (numbers 0 n)) s.count_is
+    ∙ map-numbers (widest_at host new) (widest_at host old) 0 old.count
+    (λ k lt. same-widest host (made_at old k) (made_at new k) (s.sections_are k (omega (arith, lt, few))))
 
-same-len : (interface : Ip) (old new : LastOffer) (lines : List (List ℕ)) → SameOffer old new → old.count ≤ 8 → widest_len interface new lines ≡ widest_len interface old lines
-same-len interface old new lines s few =
+same-len : (config : Config) (old new : LastOffer) (lines : List (List ℕ)) → SameOffer old new → old.count ≤ 8 → widest_len config new lines ≡ widest_len config old lines
+same-len config old new lines s few =
     let o = s.options_are in
-    let l = same-sections interface old new s few in
+    let l = same-sections (longest_host config) old new s few in
     ap (λ (edit : Edit). length (edited lines edit))
     (λ i. record {
-      address = host_of_ip interface;
+      address = longest_host config;
       replace_origin = (o i).replace_origin;
       replace_session = (o i).replace_session;
       sections = record { list = l i; spare = 0 };
@@ -57,9 +58,9 @@ pub kept-writes : (plan : Plan) (lines : List (List ℕ)) (old new : Next) → K
 kept-writes plan lines (Offer o) (Offer n) k w =
     let few = w.0 in (
       subst (λ count. count ≤ 8) (sym k.count_is) few,
-      subst (λ (options : Options). IsEditReserved plan.interface options n.last.count plan.edit) (sym k.options_are)
-          (subst (λ count. IsEditReserved plan.interface o.last.options count plan.edit) (sym k.count_is) w.1),
-      subst (λ len. len ≤ plan.reply_len) (sym (same-len plan.interface o.last n.last lines k few)) w.2,
+      subst (λ (options : Options). IsEditReserved (interface_host plan.config) options n.last.count plan.edit) (sym k.options_are)
+          (subst (λ count. IsEditReserved (interface_host plan.config) o.last.options count plan.edit) (sym k.count_is) w.1),
+      subst (λ len. len ≤ plan.reply_len) (sym (same-len plan.config o.last n.last lines k few)) w.2,
     )
 kept-writes plan lines (Answer o) (Answer n) k w = w
 kept-writes plan lines (Offer o) (Answer n) k w = elim k [ ]

@@ -33,10 +33,10 @@ is_leg-of section side leg e f = rw (e, f) (both side)
     both B = grind arith
 
 -- a new section is given a leg on each side
-both-sides : (rounds : List Round) (ask : OfferAsk) (section : ℕ) (side : Side) → In (new_leg section side) (legs_for rounds ask section)
+both-sides : (rounds : List Round) (ask : OfferAsk) (section : ℕ) (side : Side) → In (new_leg rounds ask section side) (legs_for rounds ask section)
 both-sides rounds ask section side = go (offerer rounds ask) side refl
   where
-    go : (maker side : Side) → offerer rounds ask ≡ maker → In (new_leg section side) (legs_for rounds ask section)
+    go : (maker side : Side) → offerer rounds ask ≡ maker → In (new_leg rounds ask section side) (legs_for rounds ask section)
     go A A e = rw e (there (here refl))
     go A B e = rw e (here refl)
     go B A e = rw e (here refl)
@@ -53,11 +53,11 @@ leased-leg rounds ask legs keys section side r l =
     let new = in-map new_leg_place (new_legs rounds ask) (leg_place one.0) (subst (λ places. In (leg_place one.0) places) r.leased (in-mapped leg_place legs one.0 one.1)) in
     let from = in-flat_map (legs_for rounds ask) (new_active_sections rounds ask) new.0 new.1 in
     let same : from.source ≡ section = section-of one.0 new.0 from.source section (in-legs_for rounds ask from.source new.0 from.gives) new.2 one.2 in
-    let wanted : In (new_leg section side) (new_legs rounds ask) =
-    in-flat (legs_for rounds ask) (new_active_sections rounds ask) section (new_leg section side)
+    let wanted : In (new_leg rounds ask section side) (new_legs rounds ask) =
+    in-flat (legs_for rounds ask) (new_active_sections rounds ask) section (new_leg rounds ask section side)
     (subst (λ n. In n (new_active_sections rounds ask)) same from.is_in) (both-sides rounds ask section side) in
     let leg = in-map leg_place legs (section, side)
-    (subst (λ places. In (section, side) places) (sym r.leased) (in-mapped new_leg_place (new_legs rounds ask) (new_leg section side) wanted)) in
+    (subst (λ places. In (section, side) places) (sym r.leased) (in-mapped new_leg_place (new_legs rounds ask) (new_leg rounds ask section side) wanted)) in
     let of = of-place leg.0 section side leg.2 in
     (leg.0, leg.1, of.0, of.1)
 

@@ -8,6 +8,7 @@ pub mod Keyed
 pub mod Secured
 pub mod Committing
 pub mod Legs
+pub mod PairFamilies
 pub mod Edits
 mod rows
 pub mod Dialogs

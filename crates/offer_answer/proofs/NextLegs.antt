@@ -2,11 +2,15 @@
 use Rattle.std.proofs.Common.{◌≡◌, ℕ, ◌+◌, ◌<◌, Bool, true, false, not, ◌&&◌, ◌||◌, ◌==◌, List, [], ◌∷◌, ◌++◌, length, Option, Some, None, refl, sym, ap, ◌∙◌, subst, if◌then◌else◌, filter, map, unwrap_or, option_map, drop, get_or, arith}
 use Rattle.std.proofs.lemmas.List.{drop_more}
 use Rattle.histories.specs.Words.{or_else}
+use Rattle.relay_outside.specs.declared.address.Family.{Family}
+use Rattle.relay_outside.specs.declared.address.Family.TheVariants.{V4}
 use Rattle.relay_outside.specs.declared.settings.Config.{Config}
 use Rattle.sdes_lines.specs.declared.crypto_line.Suite.{Suite}
 use Rattle.sdes_lines.specs.declared.crypto_line.Suite.TheVariants.{Tag80, Tag32}
 use Rattle.sdes_lines.specs.declared.crypto_line.CryptoLine.{CryptoLine}
 use Rattle.sdp_text.specs.declared.proto.Proto.{Proto}
+use Rattle.sdp_text.specs.declared.section.Section.{Section}
+use Rattle.ng_command.specs.declared.command.Options.{Options}
 use Rattle.port_pool.specs.declared.holder.Side.{Side}
 use Rattle.port_pool.specs.declared.holder.Side.TheVariants.{A, B}
 use Rattle.port_pool.specs.Signals.{NewKey, side_eq, suite_eq, other_side}
@@ -16,11 +20,12 @@ use Rattle.offer_answer.specs.Sides.{offerer}
 use Rattle.offer_answer.specs.Sections.{section_in, is_active, is_active_in, has_pairs, is_committed}
 use Rattle.offer_answer.specs.Profiles.{is_srtp, profile_offered, written_profile}
 use Rattle.offer_answer.specs.Keys.{is_for, leg_keys, key_among, leg_key, key_in_force, line_with, lines_of_keys, no_lines, offered_lines}
+use Rattle.offer_answer.specs.Families.{family_by, new_family, leg_family, family_after}
 use Rattle.offer_answer.specs.Demands.{new_legs}
 use Rattle.offer_answer.specs.Texts.{new_port, standing_port}
 use Rattle.offer_answer.specs.Dialogs.{drawn_for_leg, key_for, leg_at, no_leg}
 use Rattle.offer_answer.specs.Offers.{OfferedFor, leg_asked, key_asked}
-use Rattle.offer_answer.specs.Nexts.{numbered_keys, pairs_after, port_kept, key_kept, carrying, LegNext, MadeNext}
+use Rattle.offer_answer.specs.Nexts.{numbered_keys, pairs_after, port_kept, family_next, key_kept, carrying, LegNext, MadeNext}
 use Rattle.offer_answer.specs.declared.leg.DrawnKey.{DrawnKey}
 use Rattle.offer_answer.specs.declared.leg.Leg.{Leg}
 use Rattle.offer_answer.specs.declared.leg.DialogSection.{DialogSection}
@@ -28,7 +33,7 @@ use Rattle.offer_answer.specs.declared.last_offer.MadeSection.{MadeSection}
 use Rattle.offer_answer.specs.declared.offered_section.OfferedSection.{OfferedSection}
 use Rattle.offer_answer.proofs.Offering.{dropped-is}
 use Rattle.offer_answer.proofs.Steps.{find-append}
-use Rattle.offer_answer.proofs.Nexts.{without-leg, without-key, without-profile, without-key_in_force}
+use Rattle.offer_answer.proofs.Nexts.{committed-has, without-leg, without-key, without-profile, without-key_in_force, without-family, family-stays, family-begins}
 
 -- As they are planned.
 
@@ -48,6 +53,7 @@ pub leg-dropped : (config : Config) (rounds : List Round) (ask : OfferAsk) (sect
     LegNext config rounds ask [] [] section side (record no_leg { offered = Some profile })
 leg-dropped config rounds ask section o side profile f p dropped = record {
   port_is = sym (ap (λ o. unwrap_or o 0) (ap (λ o. or_else o (port_kept config rounds ask section side)) (no-new-port (new_legs rounds ask) section side) ∙ port_gone));
+  family_is = sym (ap (λ (b : Bool). if b then Some (family_after rounds ask section side) else None) gone);
   offered_is = p;
   in_force_is = sym (without-profile rounds section side parts.0);
   keys_are = keys;
@@ -71,14 +77,39 @@ leg-dropped config rounds ask section o side profile f p dropped = record {
     keys Tag80 = sym (key_gone Tag80)
     keys Tag32 = sym (key_gone Tag32)
 
-pub leg-stands : (config : Config) (rounds : List Round) (ask : OfferAsk) (section : ℕ) (o : OfferedSection) (side : Side) (profile : Proto) →
-    OfferedFor config rounds ask section o → Some profile ≡ profile_offered (Offered ask [] [] ∷ rounds) section side →
+-- the families of the legs that an offer doesn't drop
+pub family-stands : (config : Config) (rounds : List Round) (ask : OfferAsk) (section : ℕ) (o : OfferedSection) (options : Options) (maker side : Side) →
+    OfferedFor config rounds ask section o → options ≡ ask.options → maker ≡ offerer rounds ask →
     (o.kept.has_pairs && not o.kept.is_committed && not (is_active o.section)) ≡ false →
-    LegNext config rounds ask [] [] section side (record (leg_at o.kept side) { offered = Some profile })
-leg-stands config rounds ask section o side profile f p stands = record {
+    (if is_active o.section && not o.kept.has_pairs then Some (family_by options o.section maker side) else (leg_at o.kept side).family) ≡ family_next rounds ask section side
+family-stands config rounds ask section o options maker side f e m stands =
+    ap (λ (x : Options). if is_active o.section && not o.kept.has_pairs then Some (family_by x o.section maker side) else (leg_at o.kept side).family) e
+    ∙ ap (λ (x : Side). if is_active o.section && not o.kept.has_pairs then Some (family_by ask.options o.section x side) else (leg_at o.kept side).family) m
+    ∙ ap (λ (x : Section). if is_active x && not o.kept.has_pairs then Some (family_by ask.options x (offerer rounds ask) side) else (leg_at o.kept side).family) f.section_is
+    ∙ ap (λ (b : Bool). if is_active_in ask.sdp section && not b then Some (new_family rounds ask section side) else (leg_at o.kept side).family) f.kept_is.pairs_are
+    ∙ ap (λ (x : Option Family). if is_active_in ask.sdp section && not (has_pairs rounds section) then Some (new_family rounds ask section side) else x) (f.kept_is.legs_are side).family_is
+    ∙ go (is_active_in ask.sdp section) (has_pairs rounds section) (is_committed rounds section) refl (committed-has rounds section)
+    (sym (dropped-is config rounds ask section o f) ∙ stands)
+  where
+    go : (active had committed : Bool) → has_pairs rounds section ≡ had → (committed ≡ true → had ≡ true) → (had && not committed && not active) ≡ false →
+        (if active && not had then Some (new_family rounds ask section side) else leg_family rounds section side)
+        ≡ (if active || committed then Some (family_after rounds ask section side) else None)
+    go true true committed h c d = family-stays rounds ask section side h
+    go true false committed h c d = ap Some (family-begins rounds ask section side h)
+    go false true true h c d = family-stays rounds ask section side h
+    go false true false h c d = cc
+    go false false true h c d = let e : false ≡ true = c refl in cc
+    go false false false h c d = without-family rounds section side h
+
+pub leg-stands : (config : Config) (rounds : List Round) (ask : OfferAsk) (section : ℕ) (o : OfferedSection) (side : Side) (family : Option Family) (profile : Proto) →
+    OfferedFor config rounds ask section o → family ≡ family_next rounds ask section side → Some profile ≡ profile_offered (Offered ask [] [] ∷ rounds) section side →
+    (o.kept.has_pairs && not o.kept.is_committed && not (is_active o.section)) ≡ false →
+    LegNext config rounds ask [] [] section side (record (leg_at o.kept side) { family = family; offered = Some profile })
+leg-stands config rounds ask section o side family profile f fam p stands = record {
   port_is =
       (f.kept_is.legs_are side).port_is
       ∙ sym (ap (λ o. unwrap_or o 0) (ap (λ o. or_else o (port_kept config rounds ask section side)) (no-new-port (new_legs rounds ask) section side) ∙ port_stays));
+  family_is = fam;
   offered_is = p;
   in_force_is = (f.kept_is.legs_are side).in_force_is;
   keys_are = keys;
@@ -114,7 +145,7 @@ leg-stands config rounds ask section o side profile f p stands = record {
     key_stays : (suite : Suite) → key_kept rounds ask section side suite ≡ leg_key rounds section side suite
     key_stays suite = key_by suite (pairs_after rounds ask section) refl
 
-    keys : (suite : Suite) → option_map (drawn_for_leg section side) (key_for (record (leg_at o.kept side) { offered = Some profile }) suite)
+    keys : (suite : Suite) → option_map (drawn_for_leg section side) (key_for (record (leg_at o.kept side) { family = family; offered = Some profile }) suite)
         ≡ or_else (key_among (filter (is_for section side) []) suite) (key_kept rounds ask section side suite)
     keys Tag80 = (f.kept_is.legs_are side).keys_are Tag80 ∙ sym (key_stays Tag80)
     keys Tag32 = (f.kept_is.legs_are side).keys_are Tag32 ∙ sym (key_stays Tag32)
@@ -158,6 +189,7 @@ leg-leased config rounds ask ports keys section side leg n = record {
       ap (unwrap_or (new_port (new_legs rounds ask) ports section side))
       (n.port_is ∙ ap (λ o. unwrap_or (or_else o (port_kept config rounds ask section side)) 0) (no-new-port (new_legs rounds ask) section side))
       ∙ default-twice (new_port (new_legs rounds ask) ports section side) (port_kept config rounds ask section side);
+  family_is = n.family_is;
   offered_is = n.offered_is;
   in_force_is = n.in_force_is;
   keys_are = keys_stay;
@@ -191,6 +223,7 @@ pub leg-drawn : (config : Config) (rounds : List Round) (ask : OfferAsk) (ports 
     LegNext config rounds ask ports keys section side (record leg { long_key = or_else long leg.long_key; short_key = or_else short leg.short_key })
 leg-drawn config rounds ask ports keys section side leg long short n l s = record {
   port_is = n.port_is;
+  family_is = n.family_is;
   offered_is = n.offered_is;
   in_force_is = n.in_force_is;
   keys_are = drawn;
@@ -224,22 +257,22 @@ leg-keyed config rounds ask ports keys section side leg long short new_long new_
 -- Looking a port up.
 
 -- what is found among the legs from a place on
-abbrev pub port_left : List (ℕ × Side) → List ℕ → ℕ → ℕ → Side → Option ℕ
+abbrev pub port_left : List (ℕ × Side × Family) → List ℕ → ℕ → ℕ → Side → Option ℕ
 port_left legs ports i section side = new_port (map leg_asked (drop i legs)) (drop i ports) section side
 
-port-step : (leg : ℕ × Side) (legs : List (ℕ × Side)) (port : ℕ) (ports : List ℕ) (section : ℕ) (side : Side) (b : Bool) →
+port-step : (leg : ℕ × Side × Family) (legs : List (ℕ × Side × Family)) (port : ℕ) (ports : List ℕ) (section : ℕ) (side : Side) (b : Bool) →
     (leg.0 == section && side_eq leg.1 side) ≡ b →
     new_port (map leg_asked (leg ∷ legs)) (port ∷ ports) section side ≡ (if b then Some port else new_port (map leg_asked legs) ports section side)
 port-step leg legs port ports section side true e = rw e refl
 port-step leg legs port ports section side false e = rw e refl
 
-pub port-turn : (legs : List (ℕ × Side)) (ports : List ℕ) (i section : ℕ) (side : Side) (b : Bool) → i < length legs → length legs ≡ length ports →
-    ((get_or legs i (0, A)).0 == section && side_eq (get_or legs i (0, A)).1 side) ≡ b →
+pub port-turn : (legs : List (ℕ × Side × Family)) (ports : List ℕ) (i section : ℕ) (side : Side) (b : Bool) → i < length legs → length legs ≡ length ports →
+    ((get_or legs i (0, A, V4)).0 == section && side_eq (get_or legs i (0, A, V4)).1 side) ≡ b →
     port_left legs ports i section side ≡ (if b then Some (get_or ports i 0) else port_left legs ports (i + 1) section side)
 port-turn legs ports i section side b below same e =
-    ap (λ ls. new_port (map leg_asked ls) (drop i ports) section side) (drop_more legs i (0, A) below)
-    ∙ ap (λ ps. new_port (map leg_asked (get_or legs i (0, A) ∷ drop (i + 1) legs)) ps section side) (drop_more ports i 0 (omega (arith, below, same)))
-    ∙ port-step (get_or legs i (0, A)) (drop (i + 1) legs) (get_or ports i 0) (drop (i + 1) ports) section side b e
+    ap (λ ls. new_port (map leg_asked ls) (drop i ports) section side) (drop_more legs i (0, A, V4) below)
+    ∙ ap (λ ps. new_port (map leg_asked (get_or legs i (0, A, V4) ∷ drop (i + 1) legs)) ps section side) (drop_more ports i 0 (omega (arith, below, same)))
+    ∙ port-step (get_or legs i (0, A, V4)) (drop (i + 1) legs) (get_or ports i 0) (drop (i + 1) ports) section side b e
 
 -- Looking a key up.
 

@@ -1,7 +1,8 @@
 -- What the sections of a dialog become by an offer.
-use Rattle.std.proofs.Common.{◌≡◌, ℕ, ◌+◌, ◌≤◌, Bool, true, false, not, ◌&&◌, ◌||◌, ◌==◌, List, [], ◌∷◌, length, Option, Some, None, refl, sym, ap, ◌∙◌, subst, if◌then◌else◌, true≢false, find, filter, map, unwrap_or, option_map, append-nil, arith}
+use Rattle.std.proofs.Common.{◌≡◌, ℕ, ◌+◌, ◌≤◌, Bool, true, false, not, ◌&&◌, ◌||◌, ◌==◌, List, [], ◌∷◌, length, Option, Some, None, is_some, refl, sym, ap, ◌∙◌, subst, if◌then◌else◌, true≢false, find, filter, map, unwrap_or, option_map, append-nil, arith}
 use Rattle.std.specs.List.{list_any}
 use Rattle.histories.specs.Words.{In, here, there, or_else}
+use Rattle.relay_outside.specs.declared.address.Family.{Family}
 use Rattle.relay_outside.specs.declared.settings.Config.{Config}
 use Rattle.sdes_lines.specs.declared.crypto_line.Suite.{Suite}
 use Rattle.port_pool.specs.declared.holder.Side.{Side}
@@ -9,16 +10,17 @@ use Rattle.port_pool.specs.declared.holder.Holder.{Holder}
 use Rattle.port_pool.specs.Signals.{NewKey, side_eq, suite_eq}
 use Rattle.port_pool.specs.Ports.{pair_port}
 use Rattle.offer_answer.specs.Rounds.{Round, Offered, Answered, OfferAsk, NewLeg, KeyPlace, drawn_for}
-use Rattle.offer_answer.specs.Sides.{is_begun, has_answer, last_answer, first_tag, offerer}
+use Rattle.offer_answer.specs.Sides.{MadeOffer, is_begun, has_answer, last_answer, first_tag, offerer}
 use Rattle.offer_answer.specs.Sections.{most_sections, all_sections, active_sections, is_active_in, leases, section_life, has_pairs, is_committed, leased_for, leg_of}
 use Rattle.offer_answer.specs.Profiles.{profile_offered, profile_in_force}
 use Rattle.offer_answer.specs.Keys.{is_for, key_among, leg_key, committed_key, key_in_force, section_keys}
+use Rattle.offer_answer.specs.Families.{new_family, leasing_offer, leg_family, family_after}
 use Rattle.offer_answer.specs.Demands.{new_leg, legs_for, new_active_sections, new_legs, new_keys}
 use Rattle.offer_answer.specs.Texts.{new_port, standing_port}
 use Rattle.offer_answer.specs.Laws.{leg_place, new_leg_place, key_place}
 use Rattle.offer_answer.specs.Dialogs.{DialogFor, Awaits, SectionFor}
 use Rattle.offer_answer.specs.PortsAndKeys.{AreDemandedLegs, port_after}
-use Rattle.offer_answer.specs.Nexts.{numbered_keys, pairs_after, port_kept, key_kept, LegNext, SectionNext}
+use Rattle.offer_answer.specs.Nexts.{numbered_keys, pairs_after, port_kept, family_next, key_kept, LegNext, SectionNext}
 use Rattle.offer_answer.specs.declared.leg.Leg.{Leg}
 use Rattle.offer_answer.specs.declared.leg.DialogSection.{DialogSection}
 use Rattle.offer_answer.specs.declared.dialog.Dialog.{Dialog}
@@ -26,8 +28,9 @@ use Rattle.offer_answer.proofs.Members.{found, kept}
 use Rattle.offer_answer.proofs.Numbers.{in-map, in-flat_map}
 use Rattle.offer_answer.proofs.Demanded.{in-legs_for, in-section_keys}
 use Rattle.offer_answer.proofs.Keyed.{in-kept}
+use Rattle.offer_answer.proofs.Lives.{LifeOf, begins, goes_on, is_over, life-step}
 use Rattle.offer_answer.proofs.Secured.{in-active, none-passes, some-passes, in-mapped, in-flat, section-of}
-use Rattle.offer_answer.proofs.Steps.{pairs-offered, committed-offered, not-among, leg-offered, key-offered, in_force-offered}
+use Rattle.offer_answer.proofs.Steps.{pairs-offered, committed-offered, not-among, leg-offered, key-offered, in_force-offered, family-offered, family-answered}
 
 -- Sections without pairs, and ones that aren't committed.
 
@@ -61,6 +64,50 @@ pub without-key_in_force : (rounds : List Round) (section : ℕ) (side : Side) �
 without-key_in_force rounds section side e =
     ap (λ (b : Bool). if b then elim (last_answer rounds) [ None ↦ None | Some answer ↦ committed_key answer.before answer.ask section side ] else None) e
 
+pub without-family : (rounds : List Round) (section : ℕ) (side : Side) → has_pairs rounds section ≡ false → leg_family rounds section side ≡ None
+without-family rounds section side e =
+    ap (λ (b : Bool). if b then option_map (λ (offer : MadeOffer). new_family offer.before offer.ask section side) (leasing_offer rounds section) else None) e
+
+-- a section with pairs has legs with families
+has-family : (rounds : List Round) (section : ℕ) (side : Side) → has_pairs rounds section ≡ true → is_some (leg_family rounds section side) ≡ true
+has-family [] section side has = cc
+has-family (Offered ask legs keys ∷ rounds) section side has =
+    ap is_some (family-offered ask legs keys rounds section side) ∙ go (life-step (Offered ask legs keys) rounds section) (has-family rounds section side)
+  where
+    go : LifeOf (Offered ask legs keys) rounds section → (has_pairs rounds section ≡ true → is_some (leg_family rounds section side) ≡ true) →
+        is_some (if leases (Offered ask legs keys) section then Some (new_family rounds ask section side)
+        else if has_pairs (Offered ask legs keys ∷ rounds) section then leg_family rounds section side else None) ≡ true
+    go (begins l e) more =
+        ap (λ (b : Bool). is_some (if b then Some (new_family rounds ask section side)
+        else if has_pairs (Offered ask legs keys ∷ rounds) section then leg_family rounds section side else None)) l
+    go (goes_on l had e) more =
+        ap (λ (b : Bool). is_some (if b then Some (new_family rounds ask section side)
+        else if has_pairs (Offered ask legs keys ∷ rounds) section then leg_family rounds section side else None)) l
+        ∙ ap (λ (b : Bool). is_some (if b then leg_family rounds section side else None)) has
+        ∙ more had
+    go (is_over e) more = absurd (true≢false (sym has ∙ ap is_begun e))
+has-family (Answered ask ∷ rounds) section side has =
+    ap is_some (family-answered ask rounds section side) ∙ ap (λ (b : Bool). is_some (if b then leg_family rounds section side else None)) has
+    ∙ go (life-step (Answered ask) rounds section) (has-family rounds section side)
+  where
+    go : LifeOf (Answered ask) rounds section → (has_pairs rounds section ≡ true → is_some (leg_family rounds section side) ≡ true) → is_some (leg_family rounds section side) ≡ true
+    go (begins l e) more = cc
+    go (goes_on l had e) more = more had
+    go (is_over e) more = absurd (true≢false (sym has ∙ ap is_begun e))
+
+pub family-stays : (rounds : List Round) (ask : OfferAsk) (section : ℕ) (side : Side) → has_pairs rounds section ≡ true →
+    leg_family rounds section side ≡ Some (family_after rounds ask section side)
+family-stays rounds ask section side has = go (leg_family rounds section side) (has-family rounds section side has)
+  where
+    go : (o : Option Family) → is_some o ≡ true → o ≡ Some (unwrap_or o (new_family rounds ask section side))
+    go None e = cc
+    go (Some family) e = refl
+
+pub family-begins : (rounds : List Round) (ask : OfferAsk) (section : ℕ) (side : Side) → has_pairs rounds section ≡ false →
+    new_family rounds ask section side ≡ family_after rounds ask section side
+family-begins rounds ask section side none =
+    sym (ap (λ (o : Option Family). unwrap_or o (new_family rounds ask section side)) (without-family rounds section side none))
+
 -- An offer leases pairs for the sections that it uses and that have none.
 
 leased-new : (config : Config) (rounds : List Round) (ask : OfferAsk) (ports : List ℕ) (legs : List Holder) (section : ℕ) → AreDemandedLegs config rounds ask ports legs →
@@ -78,10 +125,10 @@ new-leased : (config : Config) (rounds : List Round) (ask : OfferAsk) (ports : L
 new-leased config rounds ask ports legs section l active had e =
     let new : In section (new_active_sections rounds ask) =
     in-kept (λ n. not (has_pairs rounds n)) (active_sections ask.sdp) section (in-active ask.sdp section active) (ap not had) in
-    let wanted : In (new_leg section (offerer rounds ask)) (new_legs rounds ask) =
-    in-flat (legs_for rounds ask) (new_active_sections rounds ask) section (new_leg section (offerer rounds ask)) new (there (here refl)) in
+    let wanted : In (new_leg rounds ask section (offerer rounds ask)) (new_legs rounds ask) =
+    in-flat (legs_for rounds ask) (new_active_sections rounds ask) section (new_leg rounds ask section (offerer rounds ask)) new (there (here refl)) in
     let leg = in-map leg_place legs (section, offerer rounds ask)
-    (subst (λ places. In (section, offerer rounds ask) places) (sym l.places_are) (in-mapped new_leg_place (new_legs rounds ask) (new_leg section (offerer rounds ask)) wanted)) in
+    (subst (λ places. In (section, offerer rounds ask) places) (sym l.places_are) (in-mapped new_leg_place (new_legs rounds ask) (new_leg rounds ask section (offerer rounds ask)) wanted)) in
     let of_section : section ≡ leg.0.section = ap (λ (p : ℕ × Side). p.0) leg.2 in
     let other : (leg.0.section == section) ≡ false = none-passes (λ (h : Holder). h.section == section) legs leg.0 e leg.1 in
     let same : (section == section) ≡ false = subst (λ n. (n == section) ≡ false) (sym of_section) other in
@@ -326,6 +373,35 @@ profile-next config rounds ask ports legs keys section side l =
     go true e = ap (λ (b : Bool). if b then profile_in_force rounds section side else None) e
     go false e = ap (λ (b : Bool). if b then profile_in_force rounds section side else None) e ∙ sym (without-profile rounds section side e)
 
+family-is_next : (config : Config) (rounds : List Round) (ask : OfferAsk) (ports : List ℕ) (legs : List Holder) (keys : List NewKey) (section : ℕ) (side : Side) →
+    AreDemandedLegs config rounds ask ports legs → leg_family (Offered ask legs keys ∷ rounds) section side ≡ family_next rounds ask section side
+family-is_next config rounds ask ports legs keys section side l =
+    family-offered ask legs keys rounds section side
+    ∙ ap (λ (b : Bool). if leases (Offered ask legs keys) section then Some (new_family rounds ask section side) else if b then leg_family rounds section side else None)
+    (pairs-next config rounds ask ports legs keys section l)
+    ∙ go (leases (Offered ask legs keys) section) (pairs_after rounds ask section) refl refl
+  where
+    kept_on : (active had committed : Bool) → (committed ≡ true → had ≡ true) → (active && not had) ≡ false → (active || committed) ≡ true → had ≡ true
+    kept_on true true committed h e f = refl
+    kept_on true false committed h e f = cc
+    kept_on false had true h e f = h refl
+    kept_on false had false h e f = cc
+
+    go : (b after : Bool) → leases (Offered ask legs keys) section ≡ b → pairs_after rounds ask section ≡ after →
+        (if b then Some (new_family rounds ask section side) else if after then leg_family rounds section side else None)
+        ≡ (if after then Some (family_after rounds ask section side) else None)
+    go true true e f = ap Some (family-begins rounds ask section side (leased-had config rounds ask ports legs keys section l e))
+    go true false e f =
+        let stands : pairs_after rounds ask section ≡ true =
+        sym (pairs-next config rounds ask ports legs keys section l) ∙ pairs-offered ask legs keys rounds section
+        ∙ ap (λ (b : Bool). b || (has_pairs rounds section && not (not (is_active_in ask.sdp section) && not (is_committed rounds section)))) e in
+        absurd (true≢false (sym stands ∙ f))
+    go false true e f =
+        family-stays rounds ask section side
+        (kept_on (is_active_in ask.sdp section) (has_pairs rounds section) (is_committed rounds section) (committed-has rounds section)
+        (sym (leases-new config rounds ask ports legs keys section l) ∙ e) f)
+    go false false e f = refl
+
 -- Once all ports and keys have come, a section is as after the offer.
 
 pub section-filled : (config : Config) (rounds : List Round) (ask : OfferAsk) (ports : List ℕ) (legs : List Holder) (keys : List NewKey) (section : ℕ) (now : DialogSection) →
@@ -336,6 +412,7 @@ section-filled config rounds ask ports legs keys section now n drawn l = record 
   committed_is = n.committed_is ∙ sym (committed-next config rounds ask ports legs keys section l);
   legs_are = λ side. record {
     port_is = (n.legs_are side).port_is ∙ ap (λ (o : Option ℕ). unwrap_or o 0) (port-next config rounds ask ports legs keys section side l);
+    family_is = (n.legs_are side).family_is ∙ sym (family-is_next config rounds ask ports legs keys section side l);
     offered_is = (n.legs_are side).offered_is;
     in_force_is = (n.legs_are side).in_force_is ∙ sym (profile-next config rounds ask ports legs keys section side l);
     keys_are = λ suite. (n.legs_are side).keys_are suite ∙ key-next config rounds ask ports legs keys section side suite l drawn;
@@ -348,6 +425,11 @@ pub port-filled : (config : Config) (rounds : List Round) (ask : OfferAsk) (port
 port-filled config rounds ask ports keys section side leg n active =
     n.port_is
     ∙ ap (λ (b : Bool). unwrap_or (or_else (new_port (new_legs rounds ask) ports section side) (if b || is_committed rounds section then standing_port config rounds section side else None)) 0) active
+
+pub family-filled : (config : Config) (rounds : List Round) (ask : OfferAsk) (ports : List ℕ) (keys : List NewKey) (section : ℕ) (side : Side) (leg : Leg) →
+    LegNext config rounds ask ports keys section side leg → is_active_in ask.sdp section ≡ true → leg.family ≡ Some (family_after rounds ask section side)
+family-filled config rounds ask ports keys section side leg n active =
+    n.family_is ∙ ap (λ (b : Bool). if b || is_committed rounds section then Some (family_after rounds ask section side) else None) active
 
 -- The dialog.
 

@@ -5,6 +5,7 @@ use Rattle.std.proofs.lemmas.Option.{slice_get_cases}
 use Rattle.std.proofs.lemmas.List.{append_assoc, map-append}
 use Rattle.histories.specs.Words.{numbers, has}
 use Rattle.offer_answer.proofs.Standing.{has-filter}
+use Rattle.relay_outside.specs.declared.address.Family.{Family}
 use Rattle.relay_outside.specs.declared.settings.Config.{Config}
 use Rattle.sdes_lines.specs.declared.crypto_line.CryptoLine.{CryptoLine}
 use Rattle.sdp_text.specs.Descriptions.{sections_in}
@@ -16,11 +17,14 @@ use Rattle.offer_answer.specs.Rounds.{Round, OfferAsk, NewLeg, KeyPlace}
 use Rattle.offer_answer.specs.Sections.{section_count, section_in, no_section, is_active, is_active_in, active_sections, committed_count, has_pairs, is_committed}
 use Rattle.offer_answer.specs.Profiles.{is_srtp, profile_in_force}
 use Rattle.offer_answer.specs.Keys.{chosen_in, suite_of, key_place_of, leg_key, missing_keys, offerers_suites, others_suites, section_keys}
-use Rattle.offer_answer.specs.Demands.{is_dropped, dropped_sections, new_leg, legs_for, new_legs, new_keys}
-use Rattle.offer_answer.specs.Faults.{lacks_line, is_strangers}
+use Rattle.offer_answer.specs.Demands.{is_dropped, dropped_sections, legs_for, new_legs, new_keys}
+use Rattle.offer_answer.specs.Families.{family_by, leg_family, misfits}
+use Rattle.offer_answer.specs.Faults.{lacks_line, misfits_offerer, is_strangers}
 use Rattle.offer_answer.specs.Plan.{OfferRead, offer_fault}
-use Rattle.ng_reply.specs.declared.code.ErrorCode.TheVariants.{E8, E10, E12}
-use Rattle.offer_answer.specs.Offers.{ReadsOffer, OfferedFor, written_over, missing, offerers_keys, others_keys, keys_asked, leg_asked, key_asked}
+use Rattle.ng_command.specs.declared.command.Options.{Options}
+use Rattle.ng_reply.specs.declared.code.ErrorCode.{ErrorCode}
+use Rattle.ng_reply.specs.declared.code.ErrorCode.TheVariants.{E8, E10, E12, E20}
+use Rattle.offer_answer.specs.Offers.{ReadsOffer, OfferedFor, written_over, missing, offerers_keys, others_keys, keys_asked, leg_asked, legs_asked, key_asked}
 use Rattle.offer_answer.specs.Dialogs.{key_for, leg_at, drawn_for_leg}
 use Rattle.offer_answer.specs.Sides.{offerer}
 use Rattle.offer_answer.specs.declared.leg.Leg.{Leg}
@@ -85,6 +89,15 @@ dropped-is config rounds ask section o f =
     ∙ ap (λ b. has_pairs rounds section && not b && not (is_active o.section)) f.kept_is.committed_is
     ∙ ap (λ s. has_pairs rounds section && not (is_committed rounds section) && not (is_active s)) f.section_is
 
+pub misfits-is : (config : Config) (rounds : List Round) (ask : OfferAsk) (section : ℕ) (o : OfferedSection) (options : Options) (side : Side) →
+    OfferedFor config rounds ask section o → options ≡ ask.options → side ≡ offerer rounds ask →
+    (is_active o.section && misfits (leg_at o.kept side).family options o.section) ≡ (is_active_in ask.sdp section && misfits_offerer rounds ask section)
+misfits-is config rounds ask section o options side f e s =
+    ap (λ (x : Option Family). is_active o.section && misfits x options o.section) (f.kept_is.legs_are side).family_is
+    ∙ ap (λ (x : Side). is_active o.section && misfits (leg_family rounds section x) options o.section) s
+    ∙ ap (λ (x : Options). is_active o.section && misfits (leg_family rounds section (offerer rounds ask)) x o.section) e
+    ∙ ap (λ (x : Section). is_active x && misfits (leg_family rounds section (offerer rounds ask)) ask.options x) f.section_is
+
 -- Lists over the sections from one on.
 
 pub numbers-next : (i n : ℕ) → i < n → numbers i (n - i) ≡ i ∷ numbers (i + 1) (n - (i + 1))
@@ -139,21 +152,37 @@ filter-twice p q (n ∷ ns) = go (q n) (p n) refl refl (filter-twice p q ns)
 
 -- What a loop over the sections has gathered, with what is left to gather, is the whole.
 
-pub legs-gathered : (rounds : List Round) (ask : OfferAsk) (i n : ℕ) (is_new : Bool) (side : Side) (old new : List (ℕ × Side)) → i < n →
-    is_new ≡ (is_active_in ask.sdp i && not (has_pairs rounds i)) → side ≡ offerer rounds ask →
-    new ≡ old ++ (if is_new then (i, other_side side) ∷ (i, side) ∷ [] else []) →
+pub legs-gathered : (rounds : List Round) (ask : OfferAsk) (i n : ℕ) (here old new : List (ℕ × Side × Family)) → i < n →
+    map leg_asked here ≡ (if is_active_in ask.sdp i && not (has_pairs rounds i) then legs_for rounds ask i else []) → new ≡ old ++ here →
     map leg_asked new ++ legs_left rounds ask (i + 1) n ≡ map leg_asked old ++ legs_left rounds ask i n
-legs-gathered rounds ask i n is_new side old new l b s e =
+legs-gathered rounds ask i n here old new l h e =
     ap (λ xs. map leg_asked xs ++ legs_left rounds ask (i + 1) n) e
-    ∙ ap (λ xs. xs ++ legs_left rounds ask (i + 1) n) (map-append leg_asked old (if is_new then (i, other_side side) ∷ (i, side) ∷ [] else []))
-    ∙ append_assoc (map leg_asked old) (map leg_asked (if is_new then (i, other_side side) ∷ (i, side) ∷ [] else [])) (legs_left rounds ask (i + 1) n)
-    ∙ ap (λ xs. map leg_asked old ++ (xs ++ legs_left rounds ask (i + 1) n)) (here is_new b)
+    ∙ ap (λ xs. xs ++ legs_left rounds ask (i + 1) n) (map-append leg_asked old here)
+    ∙ append_assoc (map leg_asked old) (map leg_asked here) (legs_left rounds ask (i + 1) n)
+    ∙ ap (λ xs. map leg_asked old ++ (xs ++ legs_left rounds ask (i + 1) n)) h
     ∙ ap (λ xs. map leg_asked old ++ xs) (sym (flat-next (legs_for rounds ask) (λ section. is_active_in ask.sdp section && not (has_pairs rounds section)) i n l))
+
+-- the legs that a section demands
+pub legs-are : (config : Config) (rounds : List Round) (ask : OfferAsk) (section : ℕ) (o : OfferedSection) (options : Options) (side : Side) →
+    OfferedFor config rounds ask section o → options ≡ ask.options → side ≡ offerer rounds ask →
+    map leg_asked (legs_asked o options section side) ≡ (if is_active_in ask.sdp section && not (has_pairs rounds section) then legs_for rounds ask section else [])
+legs-are config rounds ask section o options side f e s =
+    ap (λ x. map leg_asked (legs_asked o x section side)) e
+    ∙ ap (λ x. map leg_asked (legs_asked o ask.options section x)) s
+    ∙ go (is_active o.section && not o.kept.has_pairs)
+    ∙ ap (λ (x : Section). if is_active o.section && not o.kept.has_pairs then both x else []) f.section_is
+    ∙ ap (λ (b : Bool). if b then legs_for rounds ask section else []) (new-is config rounds ask section o f)
   where
-    here : (b : Bool) → b ≡ (is_active_in ask.sdp i && not (has_pairs rounds i)) →
-        map leg_asked (if b then (i, other_side side) ∷ (i, side) ∷ [] else []) ≡ (if is_active_in ask.sdp i && not (has_pairs rounds i) then legs_for rounds ask i else [])
-    here true p = rw (sym p) (ap (λ x. new_leg i (other_side x) ∷ new_leg i x ∷ []) s)
-    here false p = rw (sym p) refl
+    both : Section → List NewLeg
+    both x =
+        record { section = section; side = other_side (offerer rounds ask); family = family_by ask.options x (offerer rounds ask) (other_side (offerer rounds ask)) }
+        ∷ record { section = section; side = offerer rounds ask; family = family_by ask.options x (offerer rounds ask) (offerer rounds ask) } ∷ []
+
+    go : (b : Bool) →
+        map leg_asked (if b then (section, other_side (offerer rounds ask), family_by ask.options o.section (offerer rounds ask) (other_side (offerer rounds ask)))
+        ∷ (section, offerer rounds ask, family_by ask.options o.section (offerer rounds ask) (offerer rounds ask)) ∷ [] else []) ≡ (if b then both o.section else [])
+    go true = refl
+    go false = refl
 
 pub keys-gathered : (rounds : List Round) (ask : OfferAsk) (i n : ℕ) (here : List (ℕ × Side × Suite)) (old new : List (ℕ × Side × Suite)) → i < n →
     map key_asked here ≡ (if is_active_in ask.sdp i then section_keys rounds ask i else []) → new ≡ old ++ here →
@@ -287,30 +316,41 @@ eight-dropped rounds ask section {a} {b} {c} {d} {e} {f} {g} {h} p0 p1 p2 p3 p4 
 
 -- The first fault.
 
+abbrev faulty : Bool → Bool → Bool → Bool → Option ErrorCode
+faulty strangers few misfit lacks = if strangers then Some E10 else if few then Some E12 else if misfit then Some E20 else if lacks then Some E8 else None
+
 pub fault-strangers : (rounds : List Round) (ask : OfferAsk) → is_strangers rounds ask ≡ true → offer_fault rounds ask ≡ Some E10
 unfolding offer_fault
 fault-strangers rounds ask e =
-    ap (λ (b : Bool). if b then Some E10 else if nat_lt (section_count ask.sdp) (committed_count rounds) then Some E12
-    else if list_any (lacks_line ask) (active_sections ask.sdp) then Some E8 else None) e
+    ap (λ (b : Bool). faulty b (nat_lt (section_count ask.sdp) (committed_count rounds)) (list_any (misfits_offerer rounds ask) (active_sections ask.sdp))
+    (list_any (lacks_line ask) (active_sections ask.sdp))) e
 
-fault-behind : (rounds : List Round) (ask : OfferAsk) (few lacks : Bool) → is_strangers rounds ask ≡ false →
-    nat_lt (section_count ask.sdp) (committed_count rounds) ≡ few → list_any (lacks_line ask) (active_sections ask.sdp) ≡ lacks →
-    offer_fault rounds ask ≡ (if few then Some E12 else if lacks then Some E8 else None)
+fault-behind : (rounds : List Round) (ask : OfferAsk) (few misfit lacks : Bool) → is_strangers rounds ask ≡ false →
+    nat_lt (section_count ask.sdp) (committed_count rounds) ≡ few → list_any (misfits_offerer rounds ask) (active_sections ask.sdp) ≡ misfit →
+    list_any (lacks_line ask) (active_sections ask.sdp) ≡ lacks → offer_fault rounds ask ≡ (if few then Some E12 else if misfit then Some E20 else if lacks then Some E8 else None)
 unfolding offer_fault
-fault-behind rounds ask few lacks e f g =
-    ap (λ (b : Bool). if b then Some E10 else if nat_lt (section_count ask.sdp) (committed_count rounds) then Some E12
-    else if list_any (lacks_line ask) (active_sections ask.sdp) then Some E8 else None) e
-    ∙ ap (λ (b : Bool). if b then Some E12 else if list_any (lacks_line ask) (active_sections ask.sdp) then Some E8 else None) f
-    ∙ ap (λ (b : Bool). if few then Some E12 else if b then Some E8 else None) g
+fault-behind rounds ask few misfit lacks e f m g =
+    ap (λ (b : Bool). faulty b (nat_lt (section_count ask.sdp) (committed_count rounds)) (list_any (misfits_offerer rounds ask) (active_sections ask.sdp))
+    (list_any (lacks_line ask) (active_sections ask.sdp))) e
+    ∙ ap (λ (b : Bool). faulty false b (list_any (misfits_offerer rounds ask) (active_sections ask.sdp)) (list_any (lacks_line ask) (active_sections ask.sdp))) f
+    ∙ ap (λ (b : Bool). faulty false few b (list_any (lacks_line ask) (active_sections ask.sdp))) m
+    ∙ ap (λ (b : Bool). faulty false few misfit b) g
 
 pub fault-few : (rounds : List Round) (ask : OfferAsk) → is_strangers rounds ask ≡ false → section_count ask.sdp < committed_count rounds →
     offer_fault rounds ask ≡ Some E12
 fault-few rounds ask e l =
     let few : nat_lt (section_count ask.sdp) (committed_count rounds) ≡ true = grind (arith, l) in
-    fault-behind rounds ask true (list_any (lacks_line ask) (active_sections ask.sdp)) e few refl
+    fault-behind rounds ask true (list_any (misfits_offerer rounds ask) (active_sections ask.sdp)) (list_any (lacks_line ask) (active_sections ask.sdp)) e few refl refl
+
+pub fault-misfits : (rounds : List Round) (ask : OfferAsk) → is_strangers rounds ask ≡ false → committed_count rounds ≤ section_count ask.sdp →
+    list_any (misfits_offerer rounds ask) (active_sections ask.sdp) ≡ true → offer_fault rounds ask ≡ Some E20
+fault-misfits rounds ask e l m =
+    let enough : nat_lt (section_count ask.sdp) (committed_count rounds) ≡ false = grind (arith, l) in
+    fault-behind rounds ask false true (list_any (lacks_line ask) (active_sections ask.sdp)) e enough m refl
 
 pub fault-lines : (rounds : List Round) (ask : OfferAsk) (lacks : Bool) → is_strangers rounds ask ≡ false → committed_count rounds ≤ section_count ask.sdp →
+    list_any (misfits_offerer rounds ask) (active_sections ask.sdp) ≡ false →
     list_any (lacks_line ask) (active_sections ask.sdp) ≡ lacks → offer_fault rounds ask ≡ (if lacks then Some E8 else None)
-fault-lines rounds ask lacks e l g =
+fault-lines rounds ask lacks e l m g =
     let enough : nat_lt (section_count ask.sdp) (committed_count rounds) ≡ false = grind (arith, l) in
-    fault-behind rounds ask false lacks e enough g
+    fault-behind rounds ask false false lacks e enough m g

@@ -9,7 +9,7 @@ use Rattle.sdes_lines.specs.declared.crypto_line.CryptoLine.{CryptoLine}
 use Rattle.sdp_edit.specs.ChosenLines.{IsOffered}
 use Rattle.sdp_text.specs.declared.section.Section.{Section}
 use Rattle.std.proofs.Common.{nat_lt}
-use Rattle.ng_reply.specs.declared.code.ErrorCode.TheVariants.{E8, E10, E12}
+use Rattle.ng_reply.specs.declared.code.ErrorCode.TheVariants.{E8, E10, E12, E20}
 use Rattle.port_pool.specs.declared.holder.Side.{Side}
 use Rattle.port_pool.specs.declared.holder.Side.TheVariants.{A, B}
 use Rattle.port_pool.specs.declared.holder.Holder.{Holder}
@@ -20,7 +20,7 @@ use Rattle.offer_answer.specs.Sections.{no_section, committed_count, sections_of
 use Rattle.offer_answer.specs.Profiles.{is_srtp, written_profile}
 use Rattle.offer_answer.specs.Keys.{chosen_in, is_for, leg_keys, key_among, leg_key, key_in_force, key_place_of, missing_keys, offerers_suites, others_suites, section_keys, line_with, lines_of_keys, no_lines, offered_lines}
 use Rattle.offer_answer.specs.Demands.{legs_for, new_active_sections, new_legs}
-use Rattle.offer_answer.specs.Faults.{is_strangers, lacks_line}
+use Rattle.offer_answer.specs.Faults.{is_strangers, lacks_line, misfits_offerer}
 use Rattle.offer_answer.specs.Plan.{offer_fault, demand}
 use Rattle.offer_answer.specs.Laws.{leg_place, new_leg_place, key_place, IsOfferRound}
 use Rattle.offer_answer.proofs.Members.{found, kept, in-append, in-left, in-right}
@@ -84,13 +84,15 @@ in-flat f (z ∷ zs) x y (there i) j = in-right (f z) (in-flat f zs x y i j)
 no_line-lacks : (rounds : List Round) (ask : OfferAsk) → offer_fault rounds ask ≡ None → list_any (lacks_line ask) (active_sections ask.sdp) ≡ false
 unfolding offer_fault
 no_line-lacks rounds ask e =
-    go (is_strangers rounds ask) (nat_lt (section_count ask.sdp) (committed_count rounds)) (list_any (lacks_line ask) (active_sections ask.sdp)) e
+    go (is_strangers rounds ask) (nat_lt (section_count ask.sdp) (committed_count rounds)) (list_any (misfits_offerer rounds ask) (active_sections ask.sdp))
+    (list_any (lacks_line ask) (active_sections ask.sdp)) e
   where
-    go : (x y z : Bool) → (if x then Some E10 else if y then Some E12 else if z then Some E8 else None) ≡ None → z ≡ false
-    go true y z e = cc
-    go false true z e = cc
-    go false false true e = cc
-    go false false false e = refl
+    go : (x y m z : Bool) → (if x then Some E10 else if y then Some E12 else if m then Some E20 else if z then Some E8 else None) ≡ None → z ≡ false
+    go true y m z e = cc
+    go false true m z e = cc
+    go false false true z e = cc
+    go false false false true e = cc
+    go false false false false e = refl
 
 pub is_there : {X : Type 0} (o : Option X) → is_none o ≡ false → (x : X) × (o ≡ Some x)
 is_there None e = cc

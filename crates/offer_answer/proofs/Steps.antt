@@ -1,5 +1,5 @@
 -- What one more round does to each question that a dialog keeps.
-use Rattle.std.proofs.Common.{◌≡◌, ℕ, Bool, true, false, not, ◌&&◌, ◌||◌, ◌==◌, List, [], ◌∷◌, ◌++◌, Option, Some, None, refl, sym, ap, ◌∙◌, subst, if◌then◌else◌, find, filter, append-nil}
+use Rattle.std.proofs.Common.{◌≡◌, ℕ, Bool, true, false, not, ◌&&◌, ◌||◌, ◌==◌, List, [], ◌∷◌, ◌++◌, Option, Some, None, refl, sym, ap, ◌∙◌, subst, if◌then◌else◌, option_map, find, filter, append-nil}
 use Rattle.std.proofs.lemmas.List.Elements.{filter-append}
 use Rattle.std.specs.List.{list_any}
 use Rattle.histories.specs.Words.{or_else}
@@ -8,11 +8,12 @@ use Rattle.port_pool.specs.declared.holder.Side.{Side}
 use Rattle.port_pool.specs.declared.holder.Holder.{Holder}
 use Rattle.port_pool.specs.Signals.{NewKey, side_eq, suite_eq}
 use Rattle.offer_answer.specs.Rounds.{Round, Offered, Answered, OfferAsk, AnswerAsk, drawn_for}
-use Rattle.offer_answer.specs.Sides.{is_begun, has_answer, last_answer}
+use Rattle.offer_answer.specs.Sides.{MadeOffer, is_begun, has_answer, last_answer}
 use Rattle.offer_answer.specs.Sections.{is_active_in, leases, lives_on, section_life, has_pairs, is_committed, leased_for, leg_of}
 use Rattle.offer_answer.specs.Profiles.{profile_offered, profile_in_force}
 use Rattle.offer_answer.specs.Keys.{is_for, leg_keys, key_among, leg_key, committed_key, key_in_force}
 use Rattle.offer_answer.specs.Signals.{is_rejected_by}
+use Rattle.offer_answer.specs.Families.{new_family, leasing_offer, leg_family}
 use Rattle.offer_answer.proofs.Lives.{LifeOf, begins, goes_on, is_over, life-step}
 use Rattle.offer_answer.proofs.Standing.{rejected-goes}
 
@@ -200,3 +201,54 @@ pub profile-answered : (ask : AnswerAsk) (rounds : List Round) (section : ℕ) (
     profile_in_force (Answered ask ∷ rounds) section side ≡ (if has_pairs (Answered ask ∷ rounds) section then profile_offered rounds section side else None)
 profile-answered ask rounds section side =
     ap (λ (b : Bool). if b then profile_offered rounds section side else None) (committed-answered ask rounds section)
+
+-- an offer gives the legs that it leases pairs for their families, and others keep theirs while the section has pairs
+pub family-offered : (ask : OfferAsk) (legs : List Holder) (keys : List NewKey) (rounds : List Round) (section : ℕ) (side : Side) →
+    leg_family (Offered ask legs keys ∷ rounds) section side
+    ≡ (if leases (Offered ask legs keys) section then Some (new_family rounds ask section side)
+    else if has_pairs (Offered ask legs keys ∷ rounds) section then leg_family rounds section side else None)
+family-offered ask legs keys rounds section side = go (life-step (Offered ask legs keys) rounds section)
+  where
+    over : (b : Bool) → leases (Offered ask legs keys) section ≡ b → section_life (Offered ask legs keys ∷ rounds) section ≡ [] → leases (Offered ask legs keys) section ≡ false
+    over true l e = let begun : Offered ask legs keys ∷ [] ≡ [] = subst (λ (b : Bool). (if b then Offered ask legs keys ∷ [] else lives_on (Offered ask legs keys) (section_life rounds section) section) ≡ []) l e in cc begun
+    over false l e = l
+
+    by : (l has : Bool) → leases (Offered ask legs keys) section ≡ l → has_pairs (Offered ask legs keys ∷ rounds) section ≡ has →
+        (if has then option_map (λ (made : MadeOffer). new_family made.before made.ask section side)
+        (if l then Some (record { ask = ask; keys = keys; before = rounds }) else leasing_offer rounds section) else None)
+        ≡ (if l then Some (new_family rounds ask section side) else if has then leg_family rounds section side else None) →
+        leg_family (Offered ask legs keys ∷ rounds) section side
+        ≡ (if leases (Offered ask legs keys) section then Some (new_family rounds ask section side)
+        else if has_pairs (Offered ask legs keys ∷ rounds) section then leg_family rounds section side else None)
+    by l has p r same =
+        ap (λ (b : Bool). if b then option_map (λ (made : MadeOffer). new_family made.before made.ask section side) (leasing_offer (Offered ask legs keys ∷ rounds) section) else None) r
+        ∙ ap (λ (b : Bool). if has then option_map (λ (made : MadeOffer). new_family made.before made.ask section side)
+        (if b then Some (record { ask = ask; keys = keys; before = rounds }) else leasing_offer rounds section) else None) p
+        ∙ same
+        ∙ sym (ap (λ (b : Bool). if b then Some (new_family rounds ask section side) else if has_pairs (Offered ask legs keys ∷ rounds) section then leg_family rounds section side else None) p
+        ∙ ap (λ (b : Bool). if l then Some (new_family rounds ask section side) else if b then leg_family rounds section side else None) r)
+
+    go : LifeOf (Offered ask legs keys) rounds section →
+        leg_family (Offered ask legs keys ∷ rounds) section side
+        ≡ (if leases (Offered ask legs keys) section then Some (new_family rounds ask section side)
+        else if has_pairs (Offered ask legs keys ∷ rounds) section then leg_family rounds section side else None)
+    go (begins l e) = by true true l (ap is_begun e) refl
+    go (goes_on l had e) =
+        by false true l (ap is_begun e)
+        (sym (ap (λ (b : Bool). if b then option_map (λ (made : MadeOffer). new_family made.before made.ask section side) (leasing_offer rounds section) else None) had))
+    go (is_over e) = by false false (over (leases (Offered ask legs keys) section) refl e) (ap is_begun e) refl
+
+-- an answer leaves them while the section has pairs
+pub family-answered : (ask : AnswerAsk) (rounds : List Round) (section : ℕ) (side : Side) →
+    leg_family (Answered ask ∷ rounds) section side ≡ (if has_pairs (Answered ask ∷ rounds) section then leg_family rounds section side else None)
+family-answered ask rounds section side = go (life-step (Answered ask) rounds section)
+  where
+    go : LifeOf (Answered ask) rounds section →
+        leg_family (Answered ask ∷ rounds) section side ≡ (if has_pairs (Answered ask ∷ rounds) section then leg_family rounds section side else None)
+    go (begins l e) = cc
+    go (goes_on l had e) =
+        ap (λ (b : Bool). if has_pairs (Answered ask ∷ rounds) section
+        then (if b then option_map (λ (made : MadeOffer). new_family made.before made.ask section side) (leasing_offer rounds section) else None) else None) (sym had)
+    go (is_over e) =
+        ap (λ (b : Bool). if b then option_map (λ (made : MadeOffer). new_family made.before made.ask section side) (leasing_offer rounds section) else None) (ap is_begun e)
+        ∙ sym (ap (λ (b : Bool). if b then leg_family rounds section side else None) (ap is_begun e))

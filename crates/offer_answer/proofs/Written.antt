@@ -1,21 +1,24 @@
 -- What is written, from what a dialog keeps.
-use Rattle.std.proofs.Common.{◌≡◌, ℕ, zero, suc, ◌+◌, ◌-◌, ◌<◌, ◌≤◌, Bool, true, false, ◌&&◌, List, [], ◌∷◌, ◌++◌, length, decimal, Option, Some, None, refl, sym, ap, ◌∙◌, subst, if◌then◌else◌, map, option_map, filter, slice_index_or, append_assoc, append-nil, arith}
+use Rattle.std.proofs.Common.{◌≡◌, ℕ, zero, suc, ◌+◌, ◌-◌, ◌<◌, ◌≤◌, ◌==◌, nat_le, Bool, true, false, not, ◌&&◌, List, [], ◌∷◌, ◌++◌, length, decimal, Option, Some, None, refl, sym, ap, ◌∙◌, subst, if◌then◌else◌, map, option_map, unwrap_or, filter, slice_index_or, append_assoc, append-nil, arith}
 use Rattle.std.proofs.lemmas.List.Elements.{All-nil, All-cons}
 use Rattle.std.proofs.lemmas.Fmt.{length-decimal-le}
 use Rattle.std.specs.Fmt.{digits}
 use Rattle.histories.specs.Words.{numbers}
 use Rattle.relay_outside.specs.declared.settings.Config.{Config}
-use Rattle.relay_outside.specs.declared.address.Ip.{Ip}
+use Rattle.relay_outside.specs.declared.address.Family.{Family}
+use Rattle.relay_outside.specs.declared.address.Family.TheVariants.{V4, V6}
+use Rattle.relay_outside.specs.Settings.{interface_of}
 use Rattle.sdes_lines.specs.declared.crypto_line.CryptoLine.{CryptoLine}
 use Rattle.sdes_lines.specs.declared.crypto_line.Suite.TheVariants.{Tag80, Tag32}
 use Rattle.sdp_text.specs.Lines.{lines_of}
+use Rattle.sdp_text.specs.Hosts.{text_of}
 use Rattle.sdp_text.specs.declared.host.Host.{Host}
 use Rattle.sdp_text.specs.declared.proto.Proto.{Proto}
 use Rattle.sdp_text.specs.declared.section.Section.{Section}
 use Rattle.sdp_edit.specs.declared.edits.SectionEdit.{SectionEdit}
 use Rattle.sdp_edit.specs.declared.edits.Edit.{Edit}
 use Rattle.sdp_edit.specs.EditedText.{KeysHaveTags, HaveTags, edited}
-use Rattle.sdp_edit.specs.Widths.{IsSectionWithin, AreSectionsWithin}
+use Rattle.sdp_edit.specs.Widths.{IsHostWithin, IsSectionWithin, AreSectionsWithin}
 use Rattle.ng_command.specs.declared.command.Options.{Options}
 use Rattle.port_pool.specs.declared.holder.Side.{Side}
 use Rattle.port_pool.specs.Signals.{NewKey, other_side}
@@ -24,12 +27,13 @@ use Rattle.offer_answer.specs.Sides.{offerer}
 use Rattle.offer_answer.specs.Sections.{most_sections, section_count, is_active, is_active_in, all_sections}
 use Rattle.offer_answer.specs.Profiles.{is_srtp, written_profile}
 use Rattle.offer_answer.specs.Keys.{no_lines, line_with, lines_of_keys, key_among, key_in_force, is_for, leg_keys, offered_lines}
-use Rattle.offer_answer.specs.Texts.{host_of_ip, interface_host, edit_with, offered_port, offer_section, offer_edit}
+use Rattle.offer_answer.specs.Families.{family_after}
+use Rattle.offer_answer.specs.Texts.{host_of_ip, interface_host, written_host, session_host, edit_with, offered_port, offer_section, offer_edit}
 use Rattle.offer_answer.specs.Plan.{offer_text}
 use Rattle.offer_answer.specs.Dialogs.{leg_at, no_state}
 use Rattle.offer_answer.specs.LastOffers.{MadeFor}
 use Rattle.offer_answer.specs.PortsAndKeys.{FilledFor, port_after}
-use Rattle.offer_answer.specs.Edits.{IsEditReserved, KeepsWidth, tagged_lines, has_lines, made_at, port_written, section_written, sections_written, any_line, widest_section, widest_at, widest_sections, widest_edit, widest_len}
+use Rattle.offer_answer.specs.Edits.{tagged_lines, has_lines, made_at, port_written, family_written, section_written, sections_written, longer_host, longest_host, widest_sections, widest_edit, widest_len}
 use Rattle.offer_answer.specs.declared.last_offer.MadeSection.{MadeSection}
 use Rattle.offer_answer.specs.declared.last_offer.LastOffer.{LastOffer}
 use Rattle.offer_answer.specs.declared.last_offer.OfferedNext.{OfferedNext}
@@ -104,11 +108,11 @@ text-of-parts lines edit address origin session sections a o s e =
     ∙ ap (λ x. edited lines (edit-of address origin session x)) e
 
 -- an edit whose parts are these has the text of the edit that is made of them
-pub text-is : (lines : List (List ℕ)) (edit : Edit) (config : Config) (interface : Ip) (options : Options) (sections : List SectionEdit) →
-    edit.address ≡ host_of_ip interface → edit.replace_origin ≡ options.replace_origin → edit.replace_session ≡ options.replace_session →
-    edit.sections.list ≡ sections → config.interface ≡ interface → edited lines edit ≡ edited lines (edit_with config options sections)
-text-is lines edit config interface options sections a o s e i =
-    text-of-parts lines edit (interface_host config) options.replace_origin options.replace_session sections (a ∙ ap host_of_ip (sym i)) o s e
+pub text-is : (lines : List (List ℕ)) (edit : Edit) (config : Config) (options : Options) (sections : List SectionEdit) →
+    edit.address ≡ session_host config edit.sections.list → edit.replace_origin ≡ options.replace_origin → edit.replace_session ≡ options.replace_session →
+    edit.sections.list ≡ sections → edited lines edit ≡ edited lines (edit_with config options sections)
+text-is lines edit config options sections a o s e =
+    text-of-parts lines edit (session_host config sections) options.replace_origin options.replace_session sections (a ∙ ap (session_host config) e) o s e
 
 -- The widest text.
 
@@ -116,39 +120,46 @@ text-is lines edit config interface options sections a o s e i =
 pub pushed-to-none : {X : Type 0} (old new xs : List X) → old ≡ [] → new ≡ old ++ xs → new ≡ xs
 pushed-to-none old new xs none e = e ∙ ap (λ ys. ys ++ xs) none
 
-pub widest-is : (lines : List (List ℕ)) (edit : Edit) (interface : Ip) (last : LastOffer) →
-    edit.address ≡ host_of_ip interface → edit.replace_origin ≡ last.options.replace_origin → edit.replace_session ≡ last.options.replace_session →
-    edit.sections.list ≡ widest_sections interface last → length (edited lines edit) ≡ widest_len interface last lines
-widest-is lines edit interface last a o s e =
-    ap length (text-of-parts lines edit (host_of_ip interface) last.options.replace_origin last.options.replace_session (widest_sections interface last) a o s e)
+pub widest-is : (lines : List (List ℕ)) (edit : Edit) (config : Config) (host : Host) (last : LastOffer) → host ≡ longest_host config →
+    edit.address ≡ host → edit.replace_origin ≡ last.options.replace_origin → edit.replace_session ≡ last.options.replace_session →
+    edit.sections.list ≡ widest_sections host last → length (edited lines edit) ≡ widest_len config last lines
+widest-is lines edit config host last h a o s e =
+    ap length (text-of-parts lines edit host last.options.replace_origin last.options.replace_session (widest_sections host last) a o s e)
+    ∙ ap (λ (x : Host). length (edited lines (widest_edit x last))) h
 
--- The room stays enough where what it depends on stays.
+-- Both interfaces' addresses are within the longest one.
 
-pub reserved-kept : (interface : Ip) (old new : LastOffer) (edit : Edit) → KeepsWidth old new → IsEditReserved interface old.options old.count edit →
-    IsEditReserved interface new.options new.count edit
-reserved-kept interface old new edit k r = record {
-  address_is = r.address_is;
-  origin_is = r.origin_is ∙ ap (λ (x : Options). x.replace_origin) (sym k.options_are);
-  session_is = r.session_is ∙ ap (λ (x : Options). x.replace_session) (sym k.options_are);
-  none_yet = r.none_yet;
-  room = omega (arith, r.room, k.count_is);
-}
-
-pub widest-kept : (interface : Ip) (old new : LastOffer) (lines : List (List ℕ)) → old.count ≤ most_sections → KeepsWidth old new →
-    widest_len interface new lines ≡ widest_len interface old lines
-widest-kept interface old new lines few keeps =
-    ap (λ (x : Options). length (edited lines (edit-of (host_of_ip interface) x.replace_origin x.replace_session (widest_sections interface new)))) keeps.options_are
-    ∙ ap (λ xs. length (edited lines (edit-of (host_of_ip interface) old.options.replace_origin old.options.replace_session xs)))
-    (ap (λ k. map (widest_at interface new) (numbers 0 k)) keeps.count_is
-    ∙ map-alike (widest_at interface new) (widest_at interface old) old.count
-    (λ k below. same-widest (made_at new k) (made_at old k) (keeps.sections_are k (omega (arith, below, few))) (keeps.written_are k (omega (arith, below, few)))))
+longer-first : (a b : Host) → IsHostWithin a (longer_host a b)
+longer-first a b = go (nat_le (length (text_of a)) (length (text_of b))) refl
   where
-    widest : Section → Proto → SectionEdit
-    widest section profile =
-        section-of 65535 profile (host_of_ip interface) (if is_active section && is_srtp profile then Some (any_line 1) ∷ Some (any_line 2) ∷ [] else no_lines)
+    go : (c : Bool) → nat_le (length (text_of a)) (length (text_of b)) ≡ c → IsHostWithin a (if c then b else a)
+    go true e = grind (arith, e)
+    go false e = omega arith
 
-    same-widest : (m k : MadeSection) → m.section ≡ k.section → m.written ≡ k.written → widest_section interface m ≡ widest_section interface k
-    same-widest m k e f = ap (λ s. widest s m.written) e ∙ ap (widest k.section) f
+longer-second : (a b : Host) → IsHostWithin b (longer_host a b)
+longer-second a b = go (nat_le (length (text_of a)) (length (text_of b))) refl
+  where
+    go : (c : Bool) → nat_le (length (text_of a)) (length (text_of b)) ≡ c → IsHostWithin b (if c then b else a)
+    go true e = omega arith
+    go false e = grind (arith, e)
+
+pub written-within : (config : Config) (port : ℕ) (family : Option Family) → IsHostWithin (written_host config port family) (longest_host config)
+written-within config port family = go (port == 0) (unwrap_or family V4)
+  where
+    go : (b : Bool) (f : Family) → IsHostWithin (if b then interface_host config else host_of_ip (interface_of config f)) (longest_host config)
+    go true f = longer-first (interface_host config) (host_of_ip (interface_of config V6))
+    go false V4 = longer-first (interface_host config) (host_of_ip (interface_of config V6))
+    go false V6 = longer-second (interface_host config) (host_of_ip (interface_of config V6))
+
+session-within : (config : Config) (f : ℕ → SectionEdit) (ns : List ℕ) → ((k : ℕ) → IsHostWithin (f k).address (longest_host config)) →
+    IsHostWithin (session_host config (map f ns)) (longest_host config)
+session-within config f [] within = longer-first (interface_host config) (host_of_ip (interface_of config V6))
+session-within config f (n ∷ ns) within = go (not ((f n).port == 0)) refl (session-within config f ns within)
+  where
+    go : (b : Bool) → not ((f n).port == 0) ≡ b → IsHostWithin (session_host config (map f ns)) (longest_host config) →
+        IsHostWithin (session_host config (map f (n ∷ ns))) (longest_host config)
+    go true e more = rw e (within n)
+    go false e more = rw e more
 
 -- a port has at most five digits
 pub port-digits : (port : ℕ) → port < 65536 → length (decimal port) ≤ length (decimal 65535)
@@ -158,17 +169,23 @@ port-digits port small =
     omega (arith, five, length-decimal-le 5 port (omega arith) (omega (arith, small)) (omega (arith, small)))
 
 -- the offer's text is no longer
-pub offer-fits : (lines : List (List ℕ)) (edit : Edit) (interface : Ip) (next : OfferedNext) →
-    edit.address ≡ host_of_ip interface → edit.replace_origin ≡ next.last.options.replace_origin → edit.replace_session ≡ next.last.options.replace_session →
-    edit.sections.list ≡ sections_written interface next → AreSectionsWithin (sections_written interface next) (widest_sections interface next.last) →
-    length (edited lines edit) ≤ widest_len interface next.last lines
-offer-fits lines edit interface next a o s e within =
-    edited-within lines edit (widest_edit interface next.last) (record {
-      address_is = a;
+pub offer-fits : (lines : List (List ℕ)) (edit : Edit) (config : Config) (next : OfferedNext) →
+    edit.address ≡ session_host config edit.sections.list → edit.replace_origin ≡ next.last.options.replace_origin →
+    edit.replace_session ≡ next.last.options.replace_session →
+    edit.sections.list ≡ sections_written config next → AreSectionsWithin (sections_written config next) (widest_sections (longest_host config) next.last) →
+    length (edited lines edit) ≤ widest_len config next.last lines
+offer-fits lines edit config next a o s e within =
+    edited-within lines edit (widest_edit (longest_host config) next.last) (record {
+      address_within = subst (λ (h : Host). IsHostWithin h (longest_host config)) (sym (a ∙ ap (session_host config) e)) session;
       origin_is = o;
       session_is = s;
-      sections_within = subst (λ xs. AreSectionsWithin xs (widest_sections interface next.last)) (sym e) within;
+      sections_within = subst (λ xs. AreSectionsWithin xs (widest_sections (longest_host config) next.last)) (sym e) within;
     })
+  where
+    session : IsHostWithin (session_host config (sections_written config next)) (longest_host config)
+    session =
+        session-within config (section_written config next) (numbers 0 next.last.count)
+        (λ k. written-within config (port_written next k) (family_written next k))
 
 -- The offer.
 
@@ -219,26 +236,45 @@ port-is config rounds ask ports keys next section f below =
     go true active = ap port f.last_for.maker_is ∙ f.ports_are section (other_side (offerer rounds ask)) below active
     go false active = refl
 
-section-is-written : (config : Config) (rounds : List Round) (ask : OfferAsk) (ports : List ℕ) (keys : List NewKey) (next : OfferedNext) (interface : Ip) (section : ℕ) →
-    FilledFor config rounds ask ports keys next → config.interface ≡ interface → section < most_sections →
-    section_written interface next section ≡ offer_section config rounds ask ports keys section
-section-is-written config rounds ask ports keys next interface section f i below =
+-- the address of a section that isn't used is that of the interface of version 4, whatever its legs
+host-is : (config : Config) (rounds : List Round) (ask : OfferAsk) (ports : List ℕ) (keys : List NewKey) (next : OfferedNext) (section : ℕ) →
+    FilledFor config rounds ask ports keys next → section < most_sections →
+    written_host config (port_written next section) (family_written next section)
+    ≡ written_host config (offered_port config rounds ask ports section) (Some (family_after rounds ask section (other_side (offerer rounds ask))))
+host-is config rounds ask ports keys next section f below =
+    ap (λ port. written_host config port (family_written next section)) (port-is config rounds ask ports keys next section f below)
+    ∙ go (is_active_in ask.sdp section) refl
+  where
+    go : (b : Bool) → is_active_in ask.sdp section ≡ b →
+        written_host config (if b then port_after config rounds ask ports section (other_side (offerer rounds ask)) else 0) (family_written next section)
+        ≡ written_host config (if b then port_after config rounds ask ports section (other_side (offerer rounds ask)) else 0) (Some (family_after rounds ask section (other_side (offerer rounds ask))))
+    go true active =
+        ap (λ (o : Option Family). written_host config (port_after config rounds ask ports section (other_side (offerer rounds ask))) o)
+        (ap (λ maker. (leg_at (slice_index_or next.sections section no_state) (other_side maker)).family) f.last_for.maker_is
+        ∙ f.families_are section (other_side (offerer rounds ask)) below active)
+    go false active = refl
+
+section-is-written : (config : Config) (rounds : List Round) (ask : OfferAsk) (ports : List ℕ) (keys : List NewKey) (next : OfferedNext) (section : ℕ) →
+    FilledFor config rounds ask ports keys next → section < most_sections → section_written config next section ≡ offer_section config rounds ask ports keys section
+section-is-written config rounds ask ports keys next section f below =
     let m = f.last_for.sections_are section below in
-    section-is _ _ _ _ _ _ _ _ (port-is config rounds ask ports keys next section f below) m.written_is (ap host_of_ip (sym i))
+    section-is _ _ _ _ _ _ _ _ (port-is config rounds ask ports keys next section f below) m.written_is
+    (host-is config rounds ask ports keys next section f below)
     (lines-are rounds ask keys section (made_at next.last section) m)
 
 -- the edit with what is written of the offer's sections has the offer's text
-pub offer-written : (config : Config) (rounds : List Round) (ask : OfferAsk) (ports : List ℕ) (keys : List NewKey) (next : OfferedNext) (interface : Ip)
-    (lines : List (List ℕ)) (edit : Edit) → FilledFor config rounds ask ports keys next → config.interface ≡ interface → lines_of ask.sdp ≡ lines →
-    edit.address ≡ host_of_ip interface → edit.replace_origin ≡ next.last.options.replace_origin → edit.replace_session ≡ next.last.options.replace_session →
-    edit.sections.list ≡ sections_written interface next → edited lines edit ≡ offer_text config rounds ask ports keys
+pub offer-written : (config : Config) (rounds : List Round) (ask : OfferAsk) (ports : List ℕ) (keys : List NewKey) (next : OfferedNext)
+    (lines : List (List ℕ)) (edit : Edit) → FilledFor config rounds ask ports keys next → lines_of ask.sdp ≡ lines →
+    edit.address ≡ session_host config edit.sections.list → edit.replace_origin ≡ next.last.options.replace_origin →
+    edit.replace_session ≡ next.last.options.replace_session →
+    edit.sections.list ≡ sections_written config next → edited lines edit ≡ offer_text config rounds ask ports keys
 unfolding offer_text
-offer-written config rounds ask ports keys next interface lines edit f i l a o s e =
+offer-written config rounds ask ports keys next lines edit f l a o s e =
     let last = f.last_for in
-    let sections : sections_written interface next ≡ map (offer_section config rounds ask ports keys) (all_sections ask.sdp) =
-    ap (λ n. map (section_written interface next) (numbers 0 n)) last.count_is
-    ∙ map-alike (section_written interface next) (offer_section config rounds ask ports keys) (section_count ask.sdp)
-    (λ k below. section-is-written config rounds ask ports keys next interface k f i (omega (arith, below, last.few))) in
-    text-is lines edit config interface ask.options (map (offer_section config rounds ask ports keys) (all_sections ask.sdp)) a
-    (o ∙ ap (λ (x : Options). x.replace_origin) last.options_are) (s ∙ ap (λ (x : Options). x.replace_session) last.options_are) (e ∙ sections) i
+    let sections : sections_written config next ≡ map (offer_section config rounds ask ports keys) (all_sections ask.sdp) =
+    ap (λ n. map (section_written config next) (numbers 0 n)) last.count_is
+    ∙ map-alike (section_written config next) (offer_section config rounds ask ports keys) (section_count ask.sdp)
+    (λ k below. section-is-written config rounds ask ports keys next k f (omega (arith, below, last.few))) in
+    text-is lines edit config ask.options (map (offer_section config rounds ask ports keys) (all_sections ask.sdp)) a
+    (o ∙ ap (λ (x : Options). x.replace_origin) last.options_are) (s ∙ ap (λ (x : Options). x.replace_session) last.options_are) (e ∙ sections)
     ∙ ap (λ ls. edited ls (offer_edit config rounds ask ports keys)) (sym l)

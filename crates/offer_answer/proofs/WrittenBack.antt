@@ -18,7 +18,8 @@ use Rattle.offer_answer.specs.Sections.{no_section, section_in, section_count, i
 use Rattle.offer_answer.specs.Profiles.{is_srtp}
 use Rattle.offer_answer.specs.Keys.{no_lines, chosen_in, line_with}
 use Rattle.offer_answer.specs.Signals.{is_rejected_by}
-use Rattle.offer_answer.specs.Texts.{host_of_ip, answering_line, answered_port, answered_lines, answer_section, answer_edit}
+use Rattle.offer_answer.specs.Families.{leg_family}
+use Rattle.offer_answer.specs.Texts.{written_host, session_host, answering_line, answered_port, answered_lines, answer_section, answer_edit}
 use Rattle.offer_answer.specs.Plan.{OfferRead, answer_text}
 use Rattle.offer_answer.specs.Dialogs.{LegFor, SectionFor, key_for, leg_at, drawn_for_leg}
 use Rattle.offer_answer.specs.LastOffers.{MadeFor}
@@ -119,22 +120,26 @@ port-back config rounds offer ask section leg r l e =
 -- what is written of a section of the answer
 pub section-back : (config : Config) (rounds : List Round) (offer : MadeOffer) (ask : AnswerAsk) (section : ℕ) (made : MadeSection) (kept : DialogSection) (side : Side) (r : Bool) →
     MadeFor offer section made → SectionFor config rounds section kept → side ≡ maker offer → OfferRead offer.ask → r ≡ is_rejected_by rounds ask section →
-    section-of (if r then 0 else (leg_at kept side).port) made.section.proto (host_of_ip config.interface)
+    section-of (if r then 0 else (leg_at kept side).port) made.section.proto (written_host config (if r then 0 else (leg_at kept side).port) (leg_at kept side).family)
     (if not r && is_srtp made.section.proto then option_and_then (line_back (leg_at kept side)) made.line ∷ None ∷ [] else no_lines)
     ≡ answer_section config rounds offer ask section
 section-back config rounds offer ask section made kept side r m s e heard rejected =
     let leg : LegFor config rounds section (maker offer) (leg_at kept side) = subst (λ x. LegFor config rounds section (maker offer) (leg_at kept x)) (sym e) (s.legs_are (maker offer)) in
-    section-is _ _ _ _ _ _ _ _ (port-back config rounds offer ask section (leg_at kept side) r leg rejected) (ap (λ (x : Section). x.proto) m.section_is) refl
+    let port = port-back config rounds offer ask section (leg_at kept side) r leg rejected in
+    let host : written_host config (if r then 0 else (leg_at kept side).port) (leg_at kept side).family
+    ≡ written_host config (answered_port config rounds offer ask section) (leg_family rounds section (maker offer)) =
+    ap (λ p. written_host config p (leg_at kept side).family) port ∙ ap (written_host config (answered_port config rounds offer ask section)) leg.family_is in
+    section-is _ _ _ _ _ _ _ _ port (ap (λ (x : Section). x.proto) m.section_is) host
     (lines-back config rounds offer ask section made (leg_at kept side) r m leg heard rejected)
 
 -- the edit with these sections has the answer's text
 pub answer-written : (config : Config) (rounds : List Round) (offer : MadeOffer) (ask : AnswerAsk) (options : Options) (lines : List (List ℕ)) (edit : Edit) →
     last_offer rounds ≡ Some offer → ask.options ≡ options → lines_of ask.sdp ≡ lines →
-    edit.address ≡ host_of_ip config.interface → edit.replace_origin ≡ options.replace_origin → edit.replace_session ≡ options.replace_session →
+    edit.address ≡ session_host config edit.sections.list → edit.replace_origin ≡ options.replace_origin → edit.replace_session ≡ options.replace_session →
     edit.sections.list ≡ map (answer_section config rounds offer ask) (all_sections ask.sdp) → edited lines edit ≡ answer_text config rounds ask
 unfolding answer_text
 answer-written config rounds offer ask options lines edit is o l a origin session e =
-    text-is lines edit config config.interface ask.options (map (answer_section config rounds offer ask) (all_sections ask.sdp)) a
-    (origin ∙ ap (λ (x : Options). x.replace_origin) (sym o)) (session ∙ ap (λ (x : Options). x.replace_session) (sym o)) e refl
+    text-is lines edit config ask.options (map (answer_section config rounds offer ask) (all_sections ask.sdp)) a
+    (origin ∙ ap (λ (x : Options). x.replace_origin) (sym o)) (session ∙ ap (λ (x : Options). x.replace_session) (sym o)) e
     ∙ ap (λ ls. edited ls (answer_edit config rounds offer ask)) (sym l)
     ∙ sym (ap (λ (x : Option MadeOffer). elim x [ None ↦ [] | Some y ↦ edited (lines_of ask.sdp) (answer_edit config rounds y ask) ]) is)

@@ -3,3 +3,4 @@ mod Plain
 mod Secure
 mod Texts
 mod ChosenLines
+mod Families

@@ -1,24 +1,24 @@
 -- What an offer demands.
 use Rattle.std.specs.Prelude.{ℕ, List, [], ◌∷◌, Bool, not, ◌&&◌, filter, flat_map}
 use Rattle.histories.specs.Words.{numbers}
-use Rattle.relay_outside.specs.declared.address.Family.TheVariants as families
 use Rattle.port_pool.specs.declared.holder.Side.{Side}
 use Rattle.port_pool.specs.Signals.{other_side}
 use Rattle.offer_answer.specs.Rounds.{Round, OfferAsk, NewLeg, KeyPlace}
 use Rattle.offer_answer.specs.Sides.{offerer}
 use Rattle.offer_answer.specs.Sections.{most_sections, active_sections, is_active_in, has_pairs, is_committed}
 use Rattle.offer_answer.specs.Keys.{section_keys}
+use Rattle.offer_answer.specs.Families.{new_family}
 
 -- the active sections without pairs
 abbrev pub new_active_sections : List Round → OfferAsk → List ℕ
 new_active_sections rounds ask = filter (λ section. not (has_pairs rounds section)) (active_sections ask.sdp)
 
-abbrev pub new_leg : ℕ → Side → NewLeg
-new_leg section side = record { section = section; side = side; family = families.V4 }
+abbrev pub new_leg : List Round → OfferAsk → ℕ → Side → NewLeg
+new_leg rounds ask section side = record { section = section; side = side; family = new_family rounds ask section side }
 
 -- a new section gets two pairs: for the leg that the reply names, which is the other side's, and for the offerer's
 abbrev pub legs_for : List Round → OfferAsk → ℕ → List NewLeg
-legs_for rounds ask section = new_leg section (other_side (offerer rounds ask)) ∷ new_leg section (offerer rounds ask) ∷ []
+legs_for rounds ask section = new_leg rounds ask section (other_side (offerer rounds ask)) ∷ new_leg rounds ask section (offerer rounds ask) ∷ []
 
 abbrev pub new_legs : List Round → OfferAsk → List NewLeg
 new_legs rounds ask = flat_map (legs_for rounds ask) (new_active_sections rounds ask)

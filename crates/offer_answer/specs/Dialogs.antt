@@ -12,6 +12,7 @@ use Rattle.offer_answer.specs.Sides.{is_begun, has_answer, is_settled, first_tag
 use Rattle.offer_answer.specs.Sections.{most_sections, has_pairs, is_committed, committed_count}
 use Rattle.offer_answer.specs.Profiles.{profile_offered, profile_in_force}
 use Rattle.offer_answer.specs.Keys.{leg_key, key_in_force}
+use Rattle.offer_answer.specs.Families.{leg_family}
 use Rattle.offer_answer.specs.Texts.{standing_port}
 use Rattle.offer_answer.specs.LastOffers.{OfferKept}
 use Rattle.offer_answer.specs.declared.leg.DrawnKey.{DrawnKey}
@@ -30,7 +31,7 @@ leg_at kept B = kept.b
 
 -- a leg and a section of which nothing is known
 abbrev pub no_leg : Leg
-no_leg = record { port = 0; offered = None; in_force = None; long_key = None; short_key = None; key_in_force = None }
+no_leg = record { port = 0; family = None; offered = None; in_force = None; long_key = None; short_key = None; key_in_force = None }
 
 abbrev pub no_state : DialogSection
 no_state = record { has_pairs = false; is_committed = false; a = no_leg; b = no_leg }
@@ -42,6 +43,7 @@ drawn_for_leg section side key = record { number = key.number; section = section
 -- what is kept of a leg is what the rounds come to
 pub record LegFor (config : Config) (rounds : List Round) (section : ℕ) (side : Side) (leg : Leg) : Type 0 where
   pub port_is : leg.port ≡ unwrap_or (standing_port config rounds section side) 0
+  pub family_is : leg.family ≡ leg_family rounds section side
   pub offered_is : leg.offered ≡ profile_offered rounds section side
   pub in_force_is : leg.in_force ≡ profile_in_force rounds section side
   pub keys_are : (suite : Suite) → option_map (drawn_for_leg section side) (key_for leg suite) ≡ leg_key rounds section side suite

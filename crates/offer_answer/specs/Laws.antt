@@ -1,7 +1,9 @@
 -- What holds of every plan.
 use Rattle.std.specs.Prelude.{◌≡◌, ℕ, ◌<◌, List, [], ◌∷◌, ◌++◌, length, map, Bool, false, true, not, ◌&&◌, Some, None, IsSome}
 use Rattle.histories.specs.Words.{In, has}
+use Rattle.relay_outside.specs.declared.settings.Config.{Config}
 use Rattle.port_pool.specs.declared.holder.Side.{Side}
+use Rattle.port_pool.specs.Ports.{pair_family}
 use Rattle.port_pool.specs.declared.holder.Holder.{Holder}
 use Rattle.port_pool.specs.declared.signal.LegSignal.{LegSignal}
 use Rattle.port_pool.specs.Signals.{NewKey, signal_at, is_rejected}
@@ -9,6 +11,7 @@ use Rattle.offer_answer.specs.Rounds.{Round, Offered, Answered, OfferAsk, Answer
 use Rattle.offer_answer.specs.Sections.{most_sections, leases, has_pairs, leg_of}
 use Rattle.offer_answer.specs.Profiles.{is_srtp_leg, profile_offered}
 use Rattle.offer_answer.specs.Keys.{key_place_of}
+use Rattle.offer_answer.specs.Families.{leg_family}
 use Rattle.offer_answer.specs.Plan.{AnswerRead, offer_fault, answer_fault, signal, demand}
 
 -- after the earlier rounds, and through all of the later ones, the section kept its pairs
@@ -99,3 +102,16 @@ SecuresLegs =
 -- A section that has pairs has one for each of its legs.
 abbrev pub HaveLegs : Type 0
 HaveLegs = (rounds : List Round) (section : ℕ) (side : Side) → AreRounds rounds → has_pairs rounds section ≡ true → IsSome (leg_of rounds section side)
+
+-- each offer leased for its legs pairs of the families that it demanded
+abbrev pub LeaseByFamily : Config → List Round → Type 0
+LeaseByFamily config [] = Unit {0}
+LeaseByFamily config (Offered ask legs keys ∷ rounds) =
+    (map (λ (leg : Holder). pair_family config leg.pair) legs ≡ map (λ (leg : NewLeg). leg.family) (demand rounds ask).pairs) × LeaseByFamily config rounds
+LeaseByFamily config (Answered ask ∷ rounds) = LeaseByFamily config rounds
+
+-- A leg has the family of its pair, so the address that a description gets for it is the one at which its ports are.
+abbrev pub HavePairsFamilies : Type 0
+HavePairsFamilies =
+    (config : Config) (rounds : List Round) (section : ℕ) (side : Side) (leg : Holder) → AreRounds rounds → LeaseByFamily config rounds →
+    leg_of rounds section side ≡ Some leg → leg_family rounds section side ≡ Some (pair_family config leg.pair)

@@ -3,8 +3,9 @@ pub mod Sides
 pub mod Sections
 pub mod Profiles
 pub mod Keys
-pub mod Demands
 pub mod Signals
+pub mod Families
+pub mod Demands
 pub mod Texts
 pub mod Faults
 pub mod Plan

@@ -1,6 +1,7 @@
 -- What a dialog becomes by an offer, while the offer's ports and keys come in.
-use Rattle.std.specs.Prelude.{◌≡◌, ◌<◌, ◌≤◌, ◌+◌, ℕ, List, [], ◌∷◌, Bool, ◌||◌, Option, None, if◌then◌else◌, filter, unwrap_or, option_map, slice_index_or}
+use Rattle.std.specs.Prelude.{◌≡◌, ◌<◌, ◌≤◌, ◌+◌, ℕ, List, [], ◌∷◌, Bool, ◌||◌, Option, Some, None, if◌then◌else◌, filter, unwrap_or, option_map, slice_index_or}
 use Rattle.histories.specs.Words.{or_else}
+use Rattle.relay_outside.specs.declared.address.Family.{Family}
 use Rattle.relay_outside.specs.declared.settings.Config.{Config}
 use Rattle.sdes_lines.specs.declared.crypto_line.Suite.{Suite}
 use Rattle.sdes_lines.specs.declared.crypto_line.CryptoLine.{CryptoLine}
@@ -11,6 +12,7 @@ use Rattle.offer_answer.specs.Sides.{offerer}
 use Rattle.offer_answer.specs.Sections.{most_sections, section_in, section_count, is_active_in, is_committed}
 use Rattle.offer_answer.specs.Profiles.{profile_offered, profile_in_force, written_profile}
 use Rattle.offer_answer.specs.Keys.{chosen_in, is_for, key_among, leg_key, key_in_force}
+use Rattle.offer_answer.specs.Families.{family_after}
 use Rattle.offer_answer.specs.Demands.{new_legs}
 use Rattle.offer_answer.specs.Plan.{OfferRead}
 use Rattle.offer_answer.specs.Texts.{new_port, standing_port}
@@ -38,6 +40,10 @@ pairs_after rounds ask section = is_active_in ask.sdp section || is_committed ro
 abbrev pub port_kept : Config → List Round → OfferAsk → ℕ → Side → Option ℕ
 port_kept config rounds ask section side = if pairs_after rounds ask section then standing_port config rounds section side else None
 
+-- the family of the leg; none where the section has no pairs after the offer
+abbrev pub family_next : List Round → OfferAsk → ℕ → Side → Option Family
+family_next rounds ask section side = if pairs_after rounds ask section then Some (family_after rounds ask section side) else None
+
 -- a key that the leg keeps
 abbrev pub key_kept : List Round → OfferAsk → ℕ → Side → Suite → Option NewKey
 key_kept rounds ask section side suite = if pairs_after rounds ask section then leg_key rounds section side suite else None
@@ -49,6 +55,7 @@ carrying tag key = record { tag = tag; suite = key.suite; key = key.bytes }
 -- a leg after the offer, as far as these ports and keys have come
 pub record LegNext (config : Config) (rounds : List Round) (ask : OfferAsk) (ports : List ℕ) (keys : List NewKey) (section : ℕ) (side : Side) (leg : Leg) : Type 0 where
   pub port_is : leg.port ≡ unwrap_or (or_else (new_port (new_legs rounds ask) ports section side) (port_kept config rounds ask section side)) 0
+  pub family_is : leg.family ≡ family_next rounds ask section side
   pub offered_is : leg.offered ≡ profile_offered (Offered ask [] [] ∷ rounds) section side
   pub in_force_is : leg.in_force ≡ profile_in_force rounds section side
   pub keys_are : (suite : Suite) →

@@ -1,22 +1,24 @@
 -- What an offer asks of a section, by what the dialog keeps of it.
-use Rattle.std.specs.Prelude.{◌≡◌, ℕ, List, [], ◌∷◌, ◌++◌, length, false, ◌&&◌, Option, Some, None, is_none, if◌then◌else◌, filter, map, unwrap_or, slice_index_or}
+use Rattle.std.specs.Prelude.{◌≡◌, ℕ, List, [], ◌∷◌, ◌++◌, length, false, not, ◌&&◌, Option, Some, None, is_none, if◌then◌else◌, filter, map, unwrap_or, slice_index_or}
 use Rattle.histories.specs.Words.{or_else, has}
+use Rattle.relay_outside.specs.declared.address.Family.{Family}
 use Rattle.relay_outside.specs.declared.settings.Config.{Config}
 use Rattle.sdes_lines.specs.declared.crypto_line.Suite.{Suite}
 use Rattle.sdes_lines.specs.declared.crypto_line.Suite.TheVariants.{Tag80, Tag32}
 use Rattle.sdp_text.specs.Lines.{lines_of}
 use Rattle.sdp_text.specs.Parts.{is_rtp_proto}
 use Rattle.sdp_text.specs.declared.proto.Proto.{Proto}
+use Rattle.ng_command.specs.declared.command.Options.{Options}
 use Rattle.ng_command.specs.declared.command.OfferIn.{OfferIn}
 use Rattle.ng_reply.specs.declared.code.ErrorCode.{ErrorCode}
-use Rattle.ng_reply.specs.declared.code.ErrorCode.TheVariants.{E8, E10, E11, E12}
+use Rattle.ng_reply.specs.declared.code.ErrorCode.TheVariants.{E8, E10, E11, E12, E20}
 use Rattle.port_pool.specs.declared.holder.Side.{Side}
 use Rattle.port_pool.specs.Signals.{other_side}
 use Rattle.offer_answer.specs.Rounds.{Round, OfferAsk, Demand, NewLeg, KeyPlace}
 use Rattle.offer_answer.specs.Sections.{section_in, is_active}
 use Rattle.offer_answer.specs.Profiles.{is_srtp}
 use Rattle.offer_answer.specs.Keys.{chosen_in, suite_of, key_place_of}
-use Rattle.offer_answer.specs.Demands.{new_leg}
+use Rattle.offer_answer.specs.Families.{family_by}
 use Rattle.offer_answer.specs.Plan.{OfferRead}
 use Rattle.offer_answer.specs.Dialogs.{SectionFor, key_for, leg_at}
 use Rattle.offer_answer.specs.declared.leg.Leg.{Leg}
@@ -65,15 +67,26 @@ abbrev pub keys_asked : OfferedSection → Option Proto → ℕ → Side → Lis
 keys_asked offered transport section side =
     if is_active offered.section then offerers_keys offered section side ++ others_keys offered transport section (other_side side) else []
 
-abbrev pub leg_asked : ℕ × Side → NewLeg
-leg_asked leg = new_leg leg.0 leg.1
+abbrev pub leg_asked : ℕ × Side × Family → NewLeg
+leg_asked leg = record { section = leg.0; side = leg.1; family = leg.2 }
 
 abbrev pub key_asked : ℕ × Side × Suite → KeyPlace
 key_asked key = key_place_of key.0 key.1 key.2
 
+-- the legs that the plan demands pairs for, in the order of leases
+abbrev pub legs_demanded : Plan → List NewLeg
+legs_demanded plan = map leg_asked plan.legs.items
+
+-- the legs that the section demands pairs for, in an offer with these options from a side
+abbrev pub legs_asked : OfferedSection → Options → ℕ → Side → List (ℕ × Side × Family)
+legs_asked offered options section side =
+    if is_active offered.section && not offered.kept.has_pairs
+    then (section, other_side side, family_by options offered.section side (other_side side)) ∷ (section, side, family_by options offered.section side side) ∷ []
+    else []
+
 -- what the plan demands
 pub record PlanFor (plan : Plan) (asked : Demand) : Type 0 where
-  pub pairs_are : map leg_asked plan.legs.items ≡ asked.pairs
+  pub pairs_are : legs_demanded plan ≡ asked.pairs
   pub keys_are : map key_asked plan.key_places.items ≡ asked.keys
   pub drops_are : (section : ℕ) → slice_index_or plan.dropped section false ≡ has asked.dropped section
 
@@ -82,6 +95,7 @@ abbrev pub plan_code : OaFault → Option ErrorCode
 plan_code faults.UnknownTag = Some E10
 plan_code faults.OtherSide = Some E11
 plan_code faults.MediaCount = Some E12
+plan_code faults.Family = Some E20
 plan_code faults.NoCrypto = Some E8
 plan_code faults.OutOfMemory = None
 

@@ -27,18 +27,18 @@ OfferRead ask = AreFirst (λ section. IsAny) ask.sdp ask.chosen
 unfoldable pub AnswerRead : List Round → AnswerAsk → Type 0
 AnswerRead rounds ask = AreFirst (λ section. IsOffered (last_lines rounds section)) ask.sdp ask.chosen
 
--- the first fault of an offer: E10, E12 or E8
+-- the first fault of an offer: E10, E12, E20 or E8
 unfoldable pub offer_fault : List Round → OfferAsk → Option ErrorCode
 offer_fault rounds ask = fault_of_offer rounds ask
 
 unfoldable pub demand : List Round → OfferAsk → Demand
 demand rounds ask = record { pairs = new_legs rounds ask; keys = new_keys rounds ask; dropped = dropped_sections rounds ask }
 
--- the first fault of an answer: E10, E11, E12 or E8
+-- the first fault of an answer: E10, E11, E12, E20 or E8
 unfoldable pub answer_fault : List Round → AnswerAsk → Option ErrorCode
 answer_fault rounds ask =
     if not (is_some_sides rounds ask.from_tag && may_answer rounds ask) then Some E10
-    else elim (last_offer rounds) [ None ↦ Some E10 | Some offer ↦ fault_of_answer_to offer ask ]
+    else elim (last_offer rounds) [ None ↦ Some E10 | Some offer ↦ fault_of_answer_to rounds offer ask ]
 
 -- what the commit of an answer says, one for each section
 unfoldable pub signal : List Round → AnswerAsk → List SectionSignal

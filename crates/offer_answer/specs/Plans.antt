@@ -34,7 +34,7 @@ AnswerNext config rounds ask (Answer next) = AnsweredFor config rounds ask next
 pub record OfferPlan (config : Config) (rounds : List Round) (ask : OfferAsk) (plan : Plan) : Type 0 where
   pub demands : PlanFor plan (demand rounds ask)
   pub next_for : OfferNext config rounds ask plan.next
-  pub interface_is : plan.interface ≡ config.interface
+  pub config_is : plan.config ≡ config
 
 -- nothing is demanded
 abbrev pub no_demand : Demand

@@ -1,5 +1,5 @@
 -- What the sections of a dialog become by an offer, once its pairs are leased and its keys drawn.
-use Rattle.std.specs.Prelude.{◌≡◌, ◌<◌, ℕ, List, ◌∷◌, true, map, unwrap_or, slice_index_or}
+use Rattle.std.specs.Prelude.{◌≡◌, ◌<◌, ℕ, List, ◌∷◌, true, Some, map, unwrap_or, slice_index_or}
 use Rattle.histories.specs.Words.{or_else}
 use Rattle.relay_outside.specs.declared.settings.Config.{Config}
 use Rattle.port_pool.specs.declared.holder.Side.{Side}
@@ -8,6 +8,7 @@ use Rattle.port_pool.specs.Signals.{NewKey}
 use Rattle.port_pool.specs.Ports.{pair_port}
 use Rattle.offer_answer.specs.Rounds.{Round, Offered, OfferAsk}
 use Rattle.offer_answer.specs.Sections.{most_sections, is_active_in}
+use Rattle.offer_answer.specs.Families.{family_after}
 use Rattle.offer_answer.specs.Demands.{new_legs}
 use Rattle.offer_answer.specs.Texts.{new_port, standing_port}
 use Rattle.offer_answer.specs.Laws.{leg_place, new_leg_place}
@@ -30,5 +31,7 @@ pub record FilledFor (config : Config) (rounds : List Round) (ask : OfferAsk) (p
   pub last_for : LastFor (record { ask = ask; keys = keys; before = rounds }) next.last
   pub ports_are : (section : ℕ) (side : Side) → section < most_sections → is_active_in ask.sdp section ≡ true →
       (leg_at (slice_index_or next.sections section no_state) side).port ≡ port_after config rounds ask ports section side
+  pub families_are : (section : ℕ) (side : Side) → section < most_sections → is_active_in ask.sdp section ≡ true →
+      (leg_at (slice_index_or next.sections section no_state) side).family ≡ Some (family_after rounds ask section side)
   pub sections_are : (legs : List Holder) (section : ℕ) → AreDemandedLegs config rounds ask ports legs → section < most_sections →
       SectionFor config (Offered ask legs keys ∷ rounds) section (slice_index_or next.sections section no_state)

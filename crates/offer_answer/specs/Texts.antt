@@ -1,9 +1,12 @@
 -- What descriptions become (RFC 3264 sections 5 and 6).
-use Rattle.std.specs.Prelude.{ℕ, List, [], ◌∷◌, not, ◌&&◌, ◌==◌, Option, None, if◌then◌else◌, map, find, zip, unwrap_or, option_map, option_and_then}
+use Rattle.std.specs.Prelude.{ℕ, List, [], ◌∷◌, not, ◌&&◌, ◌==◌, Option, Some, None, if◌then◌else◌, map, find, zip, unwrap_or, option_map, option_and_then}
 use Rattle.histories.specs.Words.{or_else}
 use Rattle.relay_outside.specs.declared.address.Ip.{Ip}
 use Rattle.relay_outside.specs.declared.address.Ip.TheVariants as ips
+use Rattle.relay_outside.specs.declared.address.Family.{Family}
+use Rattle.relay_outside.specs.declared.address.Family.TheVariants.{V4}
 use Rattle.relay_outside.specs.declared.settings.Config.{Config}
+use Rattle.relay_outside.specs.Settings.{interface_of}
 use Rattle.sdes_lines.specs.declared.crypto_line.CryptoLine.{CryptoLine}
 use Rattle.sdp_text.specs.declared.host.Host.{Host}
 use Rattle.sdp_text.specs.declared.host.Host.TheVariants as hosts
@@ -19,20 +22,29 @@ use Rattle.offer_answer.specs.Sections.{section_in, all_sections, is_active_in, 
 use Rattle.offer_answer.specs.Profiles.{is_srtp, written_profile}
 use Rattle.offer_answer.specs.Keys.{chosen_in, leg_key, line_with, no_lines, offered_lines}
 use Rattle.offer_answer.specs.Signals.{is_rejected_by}
+use Rattle.offer_answer.specs.Families.{leg_family, family_after}
 use Rattle.offer_answer.specs.Demands.{new_legs}
 
 abbrev pub host_of_ip : Ip → Host
 host_of_ip (ips.V4 bytes) = hosts.V4 bytes
 host_of_ip (ips.V6 bytes) = hosts.V6 bytes
 
--- every address that is written is that of the interface
 abbrev pub interface_host : Config → Host
 interface_host config = host_of_ip config.interface
+
+-- the address that is written with a port: that of the interface of its leg's family, and of the interface of version 4 where the port is 0
+abbrev pub written_host : Config → ℕ → Option Family → Host
+written_host config port family = if port == 0 then interface_host config else host_of_ip (interface_of config (unwrap_or family V4))
+
+-- the address of the first section whose port isn't 0
+abbrev pub session_host : Config → List SectionEdit → Host
+session_host config sections =
+    unwrap_or (option_map (λ (edit : SectionEdit). edit.address) (find (λ (edit : SectionEdit). not (edit.port == 0)) sections)) (interface_host config)
 
 -- these sections, with what the options say of the lines before the first of them
 abbrev pub edit_with : Config → Options → List SectionEdit → Edit
 edit_with config options sections = record {
-  address = interface_host config;
+  address = session_host config sections;
   replace_origin = options.replace_origin;
   replace_session = options.replace_session;
   sections = record { list = sections; spare = 0 };
@@ -59,7 +71,7 @@ abbrev pub offer_section : Config → List Round → OfferAsk → List ℕ → L
 offer_section config rounds ask ports keys section = record {
   port = offered_port config rounds ask ports section;
   proto = written_profile rounds ask section;
-  address = interface_host config;
+  address = written_host config (offered_port config rounds ask ports section) (Some (family_after rounds ask section (other_side (offerer rounds ask))));
   crypto = offered_lines rounds ask keys section;
 }
 
@@ -86,7 +98,7 @@ abbrev pub answer_section : Config → List Round → MadeOffer → AnswerAsk �
 answer_section config rounds offer ask section = record {
   port = answered_port config rounds offer ask section;
   proto = (section_in offer.ask.sdp section).proto;
-  address = interface_host config;
+  address = written_host config (answered_port config rounds offer ask section) (leg_family rounds section (maker offer));
   crypto = answered_lines rounds offer ask section;
 }
 

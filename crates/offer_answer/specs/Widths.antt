@@ -2,6 +2,7 @@
 use Rattle.std.specs.Prelude.{◌≡◌, ◌<◌, ◌≤◌, ℕ, List, length}
 use Rattle.sdp_edit.specs.EditedText.{edited, HaveTags}
 use Rattle.offer_answer.specs.Sections.{most_sections}
+use Rattle.offer_answer.specs.Texts.{interface_host}
 use Rattle.offer_answer.specs.Edits.{IsEditReserved, made_at, widest_len}
 use Rattle.offer_answer.specs.declared.last_offer.MadeSection.{MadeSection}
 use Rattle.offer_answer.specs.declared.last_offer.LastOffer.{LastOffer}
@@ -29,8 +30,8 @@ KeepsOffer (Answer old) (Offer new) = ⊥
 -- an offer's edit has room for its sections, and the plan's length bounds its text; an answer's edit is whole
 abbrev pub WritesNext : Plan → List (List ℕ) → Next → Type 0
 WritesNext plan lines (Offer next) =
-    (next.last.count ≤ most_sections) × IsEditReserved plan.interface next.last.options next.last.count plan.edit
-    × (widest_len plan.interface next.last lines ≤ plan.reply_len)
+    (next.last.count ≤ most_sections) × IsEditReserved (interface_host plan.config) next.last.options next.last.count plan.edit
+    × (widest_len plan.config next.last lines ≤ plan.reply_len)
 WritesNext plan lines (Answer next) = HaveTags plan.edit.sections.list × (length (edited lines plan.edit) ≤ plan.reply_len)
 
 -- the plan writes a description with these lines

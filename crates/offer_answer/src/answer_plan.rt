@@ -6,8 +6,8 @@ ghost use Rattle.std.specs.Str.{bytes_eq};
 ghost use Rattle.relay_outside.specs.declared.settings.Config.{Config};
 ghost use Rattle.offer_answer.specs.Rounds.{Round, AnswerAsk};
 ghost use Rattle.offer_answer.specs.Sides.{MadeOffer, is_some_sides, last_offer};
-ghost use Rattle.offer_answer.specs.Sections.{section_count, all_sections};
-ghost use Rattle.offer_answer.specs.Faults.{may_answer, takes_no_line, fault_of_answer_to};
+ghost use Rattle.offer_answer.specs.Sections.{section_count, all_sections, active_sections};
+ghost use Rattle.offer_answer.specs.Faults.{may_answer, misfits_answerer, takes_no_line, fault_of_answer_to};
 ghost use Rattle.offer_answer.specs.Plan.{answer_fault};
 ghost use Rattle.offer_answer.specs.Dialogs.{DialogFor};
 ghost use Rattle.offer_answer.specs.LastOffers.{LastFor};
@@ -23,9 +23,10 @@ use crate::fault::OaFault;
 use crate::last_offer::LastOffer;
 use crate::next_answer::next_of_answer;
 use crate::offer_plan::is_some_sides;
+use crate::offered_section::other_side;
 use crate::plan::{Next, Plan};
 use crate::signals::answer_signal;
-use ng_command::AnswerIn;
+use ng_command::{AnswerIn, Options};
 use relay_outside::Config;
 use sdp_edit::edit_len;
 use sdp_text::{MOST_SECTIONS, Sdp};
@@ -70,6 +71,22 @@ fn has_as_many(last: &LastOffer, sdp: &Sdp) -> bool
     sdp.section_count() == last.count
 }
 
+/// Whether an address of an active section doesn't fit the leg of the side that answers, in an answer with these options.
+/// It is asked of each section that is active in the answer, also where the answer rejects it.
+fn misfits(dialog: &Dialog, last: &LastOffer, options: &Options, sdp: &Sdp) -> bool
+    ensures { (config : Config) (rounds : List Round) (offer : MadeOffer) (ask : AnswerAsk) → DialogFor config dialog.now rounds →
+        IsLast rounds offer last.now → ReadsAnswer sdp.now rounds ask → options.now ≡ ask.options →
+        result ≡ list_any (misfits_answerer rounds offer ask) (active_sections ask.sdp) }
+{
+    let side = other_side(last.maker);
+    for index in 0..sdp.section_count() {
+        if answered_section(dialog, last, sdp, index).misfits(options, side) {
+            return true;
+        }
+    }
+    false
+}
+
 /// Whether some section that was offered with SRTP takes up none of the offered crypto lines.
 /// It is asked of each section that is active in offer and answer, also where its pairs have gone.
 fn takes_no_line(dialog: &Dialog, last: &LastOffer, sdp: &Sdp) -> bool
@@ -90,17 +107,21 @@ fn fault_of_answer_to(
     dialog: &Dialog,
     last: &LastOffer,
     from_tag: &[u8],
+    options: &Options,
     sdp: &Sdp,
 ) -> Option<OaFault>
     ensures { (config : Config) (rounds : List Round) (offer : MadeOffer) (ask : AnswerAsk) → DialogFor config dialog.now rounds →
-        IsLast rounds offer last.now → ask.from_tag ≡ from_tag.now → ReadsAnswer sdp.now rounds ask →
-        fault_of_answer_to offer ask ≡ fault_code result }
+        IsLast rounds offer last.now → ask.from_tag ≡ from_tag.now → options.now ≡ ask.options → ReadsAnswer sdp.now rounds ask →
+        fault_of_answer_to rounds offer ask ≡ fault_code result }
 {
     if !is_offerers(last, from_tag) {
         return Some(OaFault::OtherSide);
     }
     if !has_as_many(last, sdp) {
         return Some(OaFault::MediaCount);
+    }
+    if misfits(dialog, last, options, sdp) {
+        return Some(OaFault::Family);
     }
     if takes_no_line(dialog, last, sdp) {
         return Some(OaFault::NoCrypto);
@@ -127,7 +148,7 @@ fn answered_offer<'a>(
     let Some(last) = dialog.last_offer() else {
         return Err(OaFault::UnknownTag);
     };
-    match fault_of_answer_to(dialog, last, from_tag, sdp) {
+    match fault_of_answer_to(dialog, last, from_tag, &input.options, sdp) {
         Some(fault) => Err(fault),
         None => Ok(last),
     }
@@ -155,7 +176,7 @@ pub fn answer(
         legs: Vec::new(alloc),
         key_places: Vec::new(alloc),
         dropped: [false; MOST_SECTIONS],
-        interface: config.interface,
+        config: *config,
         edit,
         reply_len,
         signal,

@@ -17,7 +17,7 @@ ghost use Rattle.offer_answer.specs.Edits.{line_back};
 use crate::dialog::Dialog;
 use crate::last_offer::{LastOffer, MadeSection};
 use crate::leg::Leg;
-use crate::offer_text::{host_of_ip, made_at, reserved_edit};
+use crate::offer_text::{host_of_ip, made_at, reserved_edit, session_host, written_host};
 use crate::offered_section::is_srtp;
 use crate::rejected_sections::is_rejected;
 use ng_command::Options;
@@ -100,10 +100,11 @@ fn answered_section(
     let made = made_at(last, section);
     let leg = makers_leg(dialog, last, section);
     let is_rejected = is_rejected(dialog, last, sdp, section);
+    let port = port_back(&leg, is_rejected);
     SectionEdit {
-        port: port_back(&leg, is_rejected),
+        port,
         proto: made.section.proto,
-        address: host_of_ip(config.interface),
+        address: written_host(config, port, leg.family),
         crypto: lines_back(&made, &leg, is_rejected),
     }
 }
@@ -122,10 +123,12 @@ pub(crate) fn answer_sections(
         IfOk result (λ edit. edited sdp.now edit ≡ answer_text config.now rounds ask) }
     ensures tags { IfOk result (λ edit. HaveTags edit.sections.list) }
 {
-    let mut edit = reserved_edit(alloc, config.interface, options, sdp.section_count())?;
+    let interface = host_of_ip(config.interface);
+    let mut edit = reserved_edit(alloc, interface, options, sdp.section_count())?;
     for index in 0..sdp.section_count() {
         edit.sections
             .push(answered_section(config, dialog, last, sdp, index));
     }
+    edit.address = session_host(config, edit.sections.as_slice());
     Ok(edit)
 }

@@ -6,16 +6,19 @@ ghost use Rattle.port_pool.specs.Signals.{side_eq};
 ghost use Rattle.offer_answer.specs.Rounds.{Round, AnswerAsk};
 ghost use Rattle.offer_answer.specs.Sides.{MadeOffer};
 ghost use Rattle.offer_answer.specs.Sections.{is_active};
+ghost use Rattle.offer_answer.specs.Families.{misfits};
 ghost use Rattle.offer_answer.specs.Profiles.{is_srtp, is_srtp_leg};
 ghost use Rattle.offer_answer.specs.Keys.{chosen_in, last_lines};
 ghost use Rattle.offer_answer.specs.Dialogs.{DialogFor, leg_at};
 ghost use Rattle.offer_answer.specs.Answers.{IsLast, ReadsAnswer, AnsweredAt, line_committed, key_for_line};
 
 use crate::dialog::Dialog;
+use crate::families::misfits;
 use crate::last_offer::{LastOffer, MadeSection};
 use crate::leg::{DialogSection, DrawnKey, Leg};
 use crate::offered_section::{is_active, is_srtp};
 use crate::rejected_sections::{made_section, section_in};
+use ng_command::Options;
 use port_pool::Side;
 use sdes_lines::CryptoLine;
 use sdp_edit::choose_among;
@@ -93,6 +96,13 @@ fn key_for_line(leg: &Leg, line: Option<CryptoLine>) -> Option<DrawnKey>
 }
 
 impl AnsweredSection {
+    /// Whether it is active, and an address of it doesn't fit the leg of the side that answers.
+    pub(crate) fn misfits(&self, options: &Options, side: Side) -> bool
+        ensures { result ≡ (is_active self.now.section && misfits (leg_at self.now.kept side).family options.now self.now.section) }
+    {
+        is_active(&self.section) && misfits(self.kept.leg(side).family, options, &self.section)
+    }
+
     /// Whether it is used, was offered with SRTP, and takes up none of the offered crypto lines.
     pub(crate) fn takes_no_line(&self) -> bool
         ensures { result ≡ (is_active self.now.made.section && is_active self.now.section && is_srtp self.now.made.written && is_none self.now.line) }

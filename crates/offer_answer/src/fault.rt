@@ -14,6 +14,8 @@ pub enum OaFault {
     OtherSide,
     /// The number of sections isn't that of the offer, or less than that of the last committed one.
     MediaCount,
+    /// An address of an active section is of another family than its side's leg, or its addresses are of two.
+    Family,
     /// A section with SRTP has no crypto line that can be used (RFC 4568).
     NoCrypto,
     /// Out of memory. The dialog is as before.

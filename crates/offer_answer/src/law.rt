@@ -1,4 +1,4 @@
-ghost use Rattle.offer_answer.specs.Laws.{NamesDrawnKeys, RejectsWhatGoes, DropsWhatGoes, SecuresLegs, HaveLegs};
+ghost use Rattle.offer_answer.specs.Laws.{NamesDrawnKeys, RejectsWhatGoes, DropsWhatGoes, SecuresLegs, HaveLegs, HavePairsFamilies};
 
 /// What a signal says of keys: the number that it names for a leg is that of a key which an offer of the call drew for that leg,
 /// in the suite under which the leg's side sends; and since that offer no offer dropped the section and no answer rejected it.
@@ -27,4 +27,10 @@ pub fn signals_secure_legs()
 /// A section that has pairs has one for each of its two legs.
 pub fn sections_have_both_legs()
     ensures { HaveLegs }
+{}
+
+/// A leg has the family of its pair, where each offer leased pairs of the families that it demanded. So the address that stands beside a
+/// port in a description is the one of the interface at which the port is.
+pub fn legs_have_their_pairs_families()
+    ensures { HavePairsFamilies }
 {}

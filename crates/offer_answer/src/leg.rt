@@ -4,7 +4,7 @@ ghost use Rattle.std.specs.Prelude.{◌≡◌, None};
 ghost use Rattle.offer_answer.specs.Dialogs.{key_for, leg_at};
 
 use port_pool::Side;
-use relay_outside::KeyAndSalt;
+use relay_outside::{Family, KeyAndSalt};
 use sdes_lines::Suite;
 use sdp_text::Proto;
 
@@ -24,6 +24,8 @@ pub(crate) struct DrawnKey {
 pub(crate) struct Leg {
     /// The RTP port of its pair, 0 where it has none.
     pub port: u16,
+    /// The family of its pair, where it has one.
+    pub family: Option<Family>,
     /// The profile that the last offer gives it.
     pub offered: Option<Proto>,
     /// The profile that its last commit gave it.
@@ -53,6 +55,7 @@ impl Leg {
     /// A leg before the first offer.
     pub(crate) const NONE: Leg = Leg {
         port: 0,
+        family: None,
         offered: None,
         in_force: None,
         long_key: None,

@@ -2,8 +2,8 @@
 //!
 //! `specs/Rounds.antt` has the accepted offers and answers of a call, latest first. `specs/Plan.antt` has the plan as functions
 //! of them: faults, demands, signals and texts. It stands over the sides of the call (`Sides`), its sections and their pairs
-//! (`Sections`), the profiles of legs (`Profiles`), their keys and crypto lines (`Keys`), and over `Demands`, `Signals`, `Texts`
-//! and `Faults`. `specs/Laws.antt` has what holds of every plan, which `law` proves.
+//! (`Sections`), the profiles of legs (`Profiles`), their keys and crypto lines (`Keys`), their families (`Families`), and over
+//! `Demands`, `Signals`, `Texts` and `Faults`. `specs/Laws.antt` has what holds of every plan, which `law` proves.
 //!
 //! A `Dialog` keeps the state that the rounds lead to (`specs/Dialogs.antt`), and `offer` makes the plan of an offer from it, or tells its
 //! first fault (`specs/Offers.antt`).
@@ -14,6 +14,7 @@ mod answer_text;
 mod answered_section;
 mod chosen_lines;
 mod dialog;
+mod families;
 mod fault;
 mod last_offer;
 mod law;
@@ -33,7 +34,8 @@ pub use chosen_lines::ChosenLines;
 pub use dialog::Dialog;
 pub use fault::OaFault;
 pub use law::{
-    offers_drop_what_goes, signals_name_drawn_keys, signals_reject_what_goes, signals_secure_legs,
+    legs_have_their_pairs_families, offers_drop_what_goes, signals_name_drawn_keys,
+    signals_reject_what_goes, signals_secure_legs,
 };
 pub use offer_plan::offer;
 pub use plan::Plan;

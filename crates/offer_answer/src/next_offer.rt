@@ -1,26 +1,28 @@
 //! What a dialog becomes by an offer, before its pairs are leased and its keys drawn.
 
-ghost use Rattle.std.specs.Prelude.{◌≡◌, ◌≤◌, ◌<◌, ◌||◌, ◌∷◌, ℕ, List, [], IfOk, Some, slice_index_or};
+ghost use Rattle.std.specs.Prelude.{◌≡◌, ◌≤◌, ◌<◌, ◌||◌, ◌∷◌, ◌&&◌, ℕ, List, [], IfOk, Some, not, if◌then◌else◌, slice_index_or};
 ghost use Rattle.relay_outside.specs.declared.settings.Config.{Config};
 ghost use Rattle.offer_answer.specs.Rounds.{Round, Offered, OfferAsk};
 ghost use Rattle.offer_answer.specs.Sides.{offerer};
 ghost use Rattle.offer_answer.specs.Sections.{is_active};
+ghost use Rattle.offer_answer.specs.Families.{family_by};
 ghost use Rattle.offer_answer.specs.Profiles.{profile_offered};
-ghost use Rattle.offer_answer.specs.Dialogs.{DialogFor, no_state};
+ghost use Rattle.offer_answer.specs.Dialogs.{DialogFor, leg_at, no_state};
 ghost use Rattle.offer_answer.specs.LastOffers.{no_made};
 ghost use Rattle.offer_answer.specs.Offers.{ReadsOffer, AsksOffer, OfferedFor};
 ghost use Rattle.offer_answer.specs.Nexts.{LegNext, SectionNext, MadeNext, NextFor};
 
 use crate::dialog::Dialog;
+use crate::families::family_by;
 use crate::last_offer::{LastOffer, MadeSection, OfferedNext};
 use crate::leg::{DialogSection, Leg};
 use crate::offered_section::{
     OfferedSection, is_active, offered_section, other_side, written_over,
 };
 use ng_bencode::Text;
-use ng_command::OfferIn;
+use ng_command::{OfferIn, Options};
 use port_pool::Side;
-use relay_outside::OutOfMemory;
+use relay_outside::{Family, OutOfMemory};
 use sdp_text::{MOST_SECTIONS, Proto, Sdp};
 use std::alloc::Global;
 
@@ -39,12 +41,24 @@ impl OfferedSection {
         }
     }
 
-    /// A leg after the offer: where the offer drops the section, only its profile is left.
-    fn leg_after(&self, side: Side, transport: Option<Proto>, maker: Side) -> Leg
-        ensures { (config : Config) (rounds : List Round) (ask : OfferAsk) (section : ℕ) → OfferedFor config rounds ask section self.now →
-            transport ≡ ask.options.transport → maker ≡ offerer rounds ask → LegNext config rounds ask [] [] section side result }
+    /// The family of a leg that the offer doesn't drop: a new leg gets one, and others keep theirs.
+    fn family_after(&self, side: Side, options: &Options, maker: Side) -> Option<Family>
+        ensures { result ≡ (if is_active self.now.section && not self.now.kept.has_pairs
+            then Some (family_by options.now self.now.section maker side) else (leg_at self.now.kept side).family) }
     {
-        let offered = Some(self.profile(side, transport, maker));
+        if self.is_new() {
+            Some(family_by(options, &self.section, maker, side))
+        } else {
+            self.kept.leg(side).family
+        }
+    }
+
+    /// A leg after the offer: where the offer drops the section, only its profile is left.
+    fn leg_after(&self, side: Side, options: &Options, maker: Side) -> Leg
+        ensures { (config : Config) (rounds : List Round) (ask : OfferAsk) (section : ℕ) → OfferedFor config rounds ask section self.now →
+            options.now ≡ ask.options → maker ≡ offerer rounds ask → LegNext config rounds ask [] [] section side result }
+    {
+        let offered = Some(self.profile(side, options.transport, maker));
         if self.is_dropped() {
             Leg {
                 offered,
@@ -52,6 +66,7 @@ impl OfferedSection {
             }
         } else {
             Leg {
+                family: self.family_after(side, options, maker),
                 offered,
                 ..self.kept.leg(side)
             }
@@ -66,15 +81,15 @@ impl OfferedSection {
     }
 
     /// The section after the offer, without its new ports and keys.
-    fn after(&self, transport: Option<Proto>, maker: Side) -> DialogSection
+    fn after(&self, options: &Options, maker: Side) -> DialogSection
         ensures { (config : Config) (rounds : List Round) (ask : OfferAsk) (section : ℕ) → OfferedFor config rounds ask section self.now →
-            transport ≡ ask.options.transport → maker ≡ offerer rounds ask → SectionNext config rounds ask [] [] section result }
+            options.now ≡ ask.options → maker ≡ offerer rounds ask → SectionNext config rounds ask [] [] section result }
     {
         DialogSection {
             has_pairs: self.has_pairs_after(),
             is_committed: self.kept.is_committed,
-            a: self.leg_after(Side::A, transport, maker),
-            b: self.leg_after(Side::B, transport, maker),
+            a: self.leg_after(Side::A, options, maker),
+            b: self.leg_after(Side::B, options, maker),
         }
     }
 
@@ -96,16 +111,16 @@ impl OfferedSection {
 fn sections_after(
     dialog: &Dialog,
     sdp: &Sdp,
-    transport: Option<Proto>,
+    options: &Options,
     maker: Side,
 ) -> [DialogSection; MOST_SECTIONS]
     ensures { (config : Config) (rounds : List Round) (ask : OfferAsk) → DialogFor config dialog.now rounds → ReadsOffer sdp.now ask →
-        transport ≡ ask.options.transport → maker ≡ offerer rounds ask →
+        options.now ≡ ask.options → maker ≡ offerer rounds ask →
         (section : ℕ) → section < 8 → SectionNext config rounds ask [] [] section (slice_index_or result section no_state) }
 {
     let mut sections = [DialogSection::NONE; MOST_SECTIONS];
     for index in 0..MOST_SECTIONS {
-        sections[index] = offered_section(dialog, sdp, index).after(transport, maker);
+        sections[index] = offered_section(dialog, sdp, index).after(options, maker);
     }
     sections
 }
@@ -145,7 +160,7 @@ pub(crate) fn next_of_offer(
     };
     let transport = input.options.transport;
     let made = made_sections(dialog, sdp, transport, side);
-    let sections = sections_after(dialog, sdp, transport, side);
+    let sections = sections_after(dialog, sdp, &input.options, side);
     Ok(OfferedNext {
         last: LastOffer {
             from_tag,

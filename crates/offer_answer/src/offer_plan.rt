@@ -1,19 +1,19 @@
 //! How an offer is judged, and what it demands.
 
-ghost use Rattle.std.specs.Prelude.{◌≡◌, ◌<◌, ◌&&◌, ◌++◌, ◌∷◌, [], ◌≤◌, ℕ, List, Bool, Option, Some, None, length, map, filter, OnOk, IfOk, if◌then◌else◌, slice_index_or, false};
+ghost use Rattle.std.specs.Prelude.{◌≡◌, ◌<◌, ◌&&◌, ◌++◌, ◌∷◌, [], ◌≤◌, ℕ, List, Bool, Option, Some, None, length, map, filter, OnOk, IfOk, slice_index_or, false};
 ghost use Rattle.std.specs.List.{list_any};
 ghost use Rattle.histories.specs.Words.{has};
 ghost use Rattle.relay_outside.specs.declared.settings.Config.{Config};
 ghost use Rattle.sdp_text.specs.Descriptions.{sections_in};
-ghost use Rattle.port_pool.specs.Signals.{other_side};
 ghost use Rattle.offer_answer.specs.Rounds.{Round, OfferAsk};
 ghost use Rattle.offer_answer.specs.Sides.{is_tag_of, is_some_sides, offerer};
 ghost use Rattle.offer_answer.specs.Sections.{active_sections, is_active_in};
 ghost use Rattle.offer_answer.specs.Demands.{new_legs, new_keys, is_dropped, dropped_sections};
-ghost use Rattle.offer_answer.specs.Faults.{is_strangers, lacks_line};
+ghost use Rattle.offer_answer.specs.Faults.{is_strangers, misfits_offerer, lacks_line};
 ghost use Rattle.offer_answer.specs.Plan.{offer_fault};
 ghost use Rattle.offer_answer.specs.Dialogs.{DialogFor};
 ghost use Rattle.offer_answer.specs.Plans.{OfferAnswered};
+ghost use Rattle.offer_answer.specs.Texts.{interface_host};
 ghost use Rattle.offer_answer.specs.Edits.{IsEditReserved, widest_len};
 ghost use Rattle.offer_answer.specs.Widths.{WritesFrom};
 ghost use Rattle.offer_answer.specs.Offers.{ReadsOffer, AsksOffer, leg_asked, key_asked, fault_code};
@@ -22,12 +22,12 @@ use crate::dialog::Dialog;
 use crate::fault::OaFault;
 use crate::last_offer::LastOffer;
 use crate::next_offer::next_of_offer;
-use crate::offer_text::{reserved_edit, widest_len};
+use crate::offer_text::{host_of_ip, reserved_edit, widest_len};
 use crate::offered_section::{offered_section, other_side};
 use crate::plan::{Next, Plan};
-use ng_command::OfferIn;
+use ng_command::{OfferIn, Options};
 use port_pool::{Side, Signal};
-use relay_outside::{Config, Ip, OutOfMemory};
+use relay_outside::{Config, Family, OutOfMemory};
 use sdes_lines::Suite;
 use sdp_edit::Edit;
 use sdp_text::{MOST_SECTIONS, Proto, Sdp};
@@ -79,6 +79,19 @@ fn lacks_lines(dialog: &Dialog, sdp: &Sdp) -> bool
     false
 }
 
+/// Whether an address of an active section doesn't fit the leg of the side that offers it, in an offer with these options.
+fn misfits(dialog: &Dialog, options: &Options, sdp: &Sdp, side: Side) -> bool
+    ensures { (config : Config) (rounds : List Round) (ask : OfferAsk) → DialogFor config dialog.now rounds → ReadsOffer sdp.now ask →
+        options.now ≡ ask.options → side ≡ offerer rounds ask → result ≡ list_any (misfits_offerer rounds ask) (active_sections ask.sdp) }
+{
+    for index in 0..sdp.section_count() {
+        if offered_section(dialog, sdp, index).misfits(options, side) {
+            return true;
+        }
+    }
+    false
+}
+
 /// The first fault of an offer.
 fn fault_of(dialog: &Dialog, input: &OfferIn, sdp: &Sdp) -> Option<OaFault>
     ensures { (config : Config) (rounds : List Round) (ask : OfferAsk) → DialogFor config dialog.now rounds → AsksOffer input.now sdp.now ask →
@@ -90,43 +103,31 @@ fn fault_of(dialog: &Dialog, input: &OfferIn, sdp: &Sdp) -> Option<OaFault>
     if sdp.section_count() < dialog.committed_count() {
         return Some(OaFault::MediaCount);
     }
+    let side = offerer(dialog, input.from_tag.as_slice());
+    if misfits(dialog, &input.options, sdp, side) {
+        return Some(OaFault::Family);
+    }
     if lacks_lines(dialog, sdp) {
         return Some(OaFault::NoCrypto);
     }
     None
 }
 
-/// Adds the two legs of a new section: the one that the reply names is the other side's.
-fn push_legs(
-    legs: &mut Vec<(u8, Side)>,
-    is_new: bool,
-    section: u8,
-    side: Side,
-) -> Result<(), OutOfMemory>
-    ensures { OnOk result (legs.new.items ≡ legs.old.items ++ (if is_new then (section, other_side side) ∷ (section, side) ∷ [] else [])) }
-{
-    if !is_new {
-        return Ok(());
-    }
-    legs.push((section, other_side(side)))?;
-    legs.push((section, side))?;
-    Ok(())
-}
-
-/// The legs that pairs are demanded for, by an offer from `side`.
+/// The legs that pairs are demanded for, by an offer from `side` with these options.
 fn demanded_legs(
     alloc: Global,
     dialog: &Dialog,
     sdp: &Sdp,
+    options: &Options,
     side: Side,
-) -> Result<Vec<(u8, Side)>, OutOfMemory>
+) -> Result<Vec<(u8, Side, Family)>, OutOfMemory>
     ensures { (config : Config) (rounds : List Round) (ask : OfferAsk) → DialogFor config dialog.now rounds → ReadsOffer sdp.now ask →
-        side ≡ offerer rounds ask → IfOk result (λ legs. map leg_asked legs.items ≡ new_legs rounds ask) }
+        options.now ≡ ask.options → side ≡ offerer rounds ask → IfOk result (λ legs. map leg_asked legs.items ≡ new_legs rounds ask) }
 {
     let mut legs = Vec::new(alloc);
     for index in 0..sdp.section_count() {
-        let is_new = offered_section(dialog, sdp, index).is_new();
-        push_legs(&mut legs, is_new, index as u8, side)?;
+        let offered = offered_section(dialog, sdp, index);
+        offered.push_legs(&mut legs, options, index as u8, side)?;
     }
     Ok(legs)
 }
@@ -177,15 +178,21 @@ fn dropped(dialog: &Dialog, sdp: &Sdp) -> [bool; MOST_SECTIONS]
 /// What becomes of an offer's description before its ports and keys are known, and how long it can be.
 fn offer_writing(
     alloc: Global,
-    interface: Ip,
+    config: &Config,
     last: &LastOffer,
     sdp: &Sdp,
 ) -> Result<(Edit, usize), OutOfMemory>
     requires { last.now.count ≤ 8 }
-    ensures { IfOk result (λ writing. IsEditReserved interface last.now.options last.now.count writing.0 × (writing.1 ≡ widest_len interface last.now sdp.now)) }
+    ensures { IfOk result (λ writing. IsEditReserved (interface_host config.now) last.now.options last.now.count writing.0
+        × (writing.1 ≡ widest_len config.now last.now sdp.now)) }
 {
-    let edit = reserved_edit(alloc, interface, &last.options, last.count)?;
-    let len = widest_len(alloc, interface, last, sdp)?;
+    let edit = reserved_edit(
+        alloc,
+        host_of_ip(config.interface),
+        &last.options,
+        last.count,
+    )?;
+    let len = widest_len(alloc, config, last, sdp)?;
     Ok((edit, len))
 }
 
@@ -205,16 +212,16 @@ pub fn offer(
         return Err(fault);
     }
     let side = offerer(dialog, input.from_tag.as_slice());
-    let legs = demanded_legs(alloc, dialog, sdp, side)?;
+    let legs = demanded_legs(alloc, dialog, sdp, &input.options, side)?;
     let key_places = demanded_keys(alloc, dialog, sdp, input.options.transport, side)?;
     let next = next_of_offer(alloc, dialog, input, sdp, side)?;
-    let (edit, reply_len) = offer_writing(alloc, config.interface, &next.last, sdp)?;
+    let (edit, reply_len) = offer_writing(alloc, config, &next.last, sdp)?;
     let signal = Signal::new(alloc)?;
     Ok(Plan {
         legs,
         key_places,
         dropped: dropped(dialog, sdp),
-        interface: config.interface,
+        config: *config,
         edit,
         reply_len,
         signal,

@@ -6,14 +6,17 @@ ghost use Rattle.sdp_text.specs.Parts.{is_rtp_proto};
 ghost use Rattle.port_pool.specs.Signals.{other_side};
 ghost use Rattle.offer_answer.specs.Rounds.{Round, OfferAsk};
 ghost use Rattle.offer_answer.specs.Sections.{is_active};
+ghost use Rattle.offer_answer.specs.Families.{misfits};
 ghost use Rattle.offer_answer.specs.Profiles.{is_srtp};
-ghost use Rattle.offer_answer.specs.Dialogs.{DialogFor};
-ghost use Rattle.offer_answer.specs.Offers.{ReadsOffer, OfferedFor, written_over, missing, offerers_keys, others_keys, keys_asked};
+ghost use Rattle.offer_answer.specs.Dialogs.{DialogFor, leg_at};
+ghost use Rattle.offer_answer.specs.Offers.{ReadsOffer, OfferedFor, written_over, missing, offerers_keys, others_keys, keys_asked, legs_asked};
 
 use crate::dialog::Dialog;
+use crate::families::{family_by, misfits};
 use crate::leg::{DialogSection, Leg};
+use ng_command::Options;
 use port_pool::Side;
-use relay_outside::OutOfMemory;
+use relay_outside::{Family, OutOfMemory};
 use sdes_lines::{CryptoLine, Suite};
 use sdp_edit::choose;
 use sdp_text::{Proto, Sdp, Section};
@@ -113,6 +116,35 @@ impl OfferedSection {
         ensures { result ≡ (is_active self.now.section && not self.now.kept.has_pairs) }
     {
         is_active(&self.section) && !self.kept.has_pairs
+    }
+
+    /// Whether it is active, and an address of it doesn't fit the leg of the side that offers it.
+    pub(crate) fn misfits(&self, options: &Options, side: Side) -> bool
+        ensures { result ≡ (is_active self.now.section && misfits (leg_at self.now.kept side).family options.now self.now.section) }
+    {
+        is_active(&self.section) && misfits(self.kept.leg(side).family, options, &self.section)
+    }
+
+    /// Adds the legs that the section demands pairs for, where it is new, for an offer that comes from `side`. The first one, which the
+    /// reply names, is the other side's.
+    pub(crate) fn push_legs(
+        &self,
+        legs: &mut Vec<(u8, Side, Family)>,
+        options: &Options,
+        section: u8,
+        side: Side,
+    ) -> Result<(), OutOfMemory>
+        ensures { OnOk result (legs.new.items ≡ legs.old.items ++ legs_asked self.now options.now section side) }
+    {
+        if !self.is_new() {
+            return Ok(());
+        }
+        let other = other_side(side);
+        let asked = family_by(options, &self.section, side, other);
+        let own = family_by(options, &self.section, side, side);
+        legs.push((section, other, asked))?;
+        legs.push((section, side, own))?;
+        Ok(())
     }
 
     /// Whether it is active with SRTP and has no usable crypto line.

@@ -1,13 +1,14 @@
 //! What an offer or an answer demands, writes and commits.
 
-ghost use Rattle.std.specs.Prelude.{◌≡◌, ◌<◌, ◌≤◌, ◌+◌, ◌^◌, ◌++◌, ℕ, List, length, Some, slice_get};
+ghost use Rattle.std.specs.Prelude.{◌≡◌, ◌<◌, ◌≤◌, ◌+◌, ◌^◌, ◌++◌, ℕ, List, length, Some, option_map, slice_get};
 ghost use Rattle.histories.specs.Words.{has};
 ghost use Rattle.relay_outside.specs.declared.settings.Config.{Config};
 ghost use Rattle.sdp_text.specs.Lines.{lines_of};
 ghost use Rattle.port_pool.specs.Signals.{NewKey};
-ghost use Rattle.offer_answer.specs.Rounds.{Round, OfferAsk, AnswerAsk, Demand};
+ghost use Rattle.offer_answer.specs.Rounds.{Round, OfferAsk, AnswerAsk, NewLeg, Demand};
 ghost use Rattle.offer_answer.specs.Plan.{demand, offer_text, answer_text};
-ghost use Rattle.offer_answer.specs.Offers.{PlanFor, leg_asked, key_asked, pairs_demanded, key_count};
+ghost use Rattle.offer_answer.specs.Offers.{PlanFor, key_asked, legs_demanded, pairs_demanded, key_count};
+ghost use Rattle.offer_answer.specs.Laws.{new_leg_place};
 ghost use Rattle.offer_answer.specs.Plans.{OfferNext, OfferFilled, OfferPlan, AnswerNext, AnswerPlan};
 ghost use Rattle.offer_answer.specs.Nexts.{numbered_keys};
 ghost use Rattle.offer_answer.specs.Widths.{KeepsOffer, WritesNext, WritesFrom};
@@ -16,7 +17,7 @@ use crate::last_offer::OfferedNext;
 use crate::next_answer::AnsweredNext;
 use crate::offer_text::write_offer;
 use port_pool::{Side, Signal};
-use relay_outside::{Ip, KeyAndSalt};
+use relay_outside::{Config, Family, KeyAndSalt};
 use sdes_lines::Suite;
 use sdp_edit::{Edit, edit_into};
 use sdp_text::{Bytes, MOST_SECTIONS, Sdp};
@@ -34,13 +35,13 @@ pub(crate) enum Next {
 #[derive(Drop)]
 pub struct Plan {
     /// The legs that pairs are demanded for, in the order of leases.
-    pub(crate) legs: Vec<(u8, Side)>,
+    pub(crate) legs: Vec<(u8, Side, Family)>,
     /// The legs and suites that keys are demanded for, in the order of draws.
     pub(crate) key_places: Vec<(u8, Side, Suite)>,
     /// Which sections' legs the offer drops.
     pub(crate) dropped: [bool; MOST_SECTIONS],
-    /// The address that is written into the description.
-    pub(crate) interface: Ip,
+    /// The configuration, whose interfaces' addresses are written into the description.
+    pub(crate) config: Config,
     /// What becomes of the description: of an offer its sections are written when it is filled, of an answer it is whole.
     pub(crate) edit: Edit,
     /// How long the written description can be.
@@ -71,9 +72,21 @@ impl Plan {
     /// The section, from 0, and the side of the leg that a pair is for. The index counts from 0, in the order of leases.
     pub fn pair_leg(&self, index: usize) -> (u8, Side)
         requires { index < pairs_demanded self.now }
-        ensures { (asked : Demand) → PlanFor self.now asked → slice_get asked.pairs index ≡ Some (leg_asked result) }
+        ensures { (asked : Demand) → PlanFor self.now asked → option_map new_leg_place (slice_get asked.pairs index) ≡ Some result }
     {
-        self.legs[index]
+        let (section, side, _) = self.legs[index];
+        (section, side)
+    }
+
+    /// The family of the leg that a pair is for. The index counts from 0, in the order of leases.
+    pub fn pair_family(&self, index: usize) -> Family
+        requires { index < pairs_demanded self.now }
+        ensures own { option_map (λ (leg : NewLeg). leg.family) (slice_get (legs_demanded self.now) index) ≡ Some result }
+        ensures demanded { (asked : Demand) → PlanFor self.now asked →
+            option_map (λ (leg : NewLeg). leg.family) (slice_get asked.pairs index) ≡ Some result }
+    {
+        let (_, _, family) = self.legs[index];
+        family
     }
 
     /// The section, from 0, and the side of the leg that a key is for, and its suite. The index counts from 0, in the order
@@ -100,7 +113,7 @@ impl Plan {
             legs: _,
             key_places: _,
             dropped: _,
-            interface: _,
+            config: _,
             edit: _,
             reply_len: _,
             signal: _,
@@ -152,7 +165,7 @@ impl Plan {
         ensures demands { (asked : Demand) → PlanFor self.old asked → PlanFor self.new asked }
         ensures signal { self.new.signal ≡ self.old.signal }
         ensures offered { (config : Config) (rounds : List Round) (ask : OfferAsk) (ports : List ℕ) (keys : List NewKey) →
-            OfferFilled config rounds ask ports keys self.old.next → self.old.interface ≡ config.interface → lines_of ask.sdp ≡ sdp.now →
+            OfferFilled config rounds ask ports keys self.old.next → self.old.config ≡ config → lines_of ask.sdp ≡ sdp.now →
             out.new.list ≡ out.old.list ++ offer_text config rounds ask ports keys }
         ensures answered { (config : Config) (rounds : List Round) (ask : AnswerAsk) → AnswerPlan config rounds ask sdp.now self.old →
             out.new.list ≡ out.old.list ++ answer_text config rounds ask }
@@ -160,7 +173,7 @@ impl Plan {
         ensures spare { length out.old.list + out.old.spare ≤ length out.new.list + out.new.spare }
     {
         match &self.next {
-            Next::Offer(next) => write_offer(next, self.interface, &mut self.edit, sdp, out),
+            Next::Offer(next) => write_offer(next, &self.config, &mut self.edit, sdp, out),
             Next::Answer(_) => edit_into(sdp, &self.edit, out),
         }
     }

@@ -21,20 +21,20 @@ use crate::last_offer::{MadeSection, OfferedNext};
 use crate::leg::{DialogSection, DrawnKey, Leg};
 use crate::offered_section::{is_active, is_srtp, other_side};
 use port_pool::Side;
-use relay_outside::KeyAndSalt;
+use relay_outside::{Family, KeyAndSalt};
 use sdes_lines::{CryptoLine, Suite};
 use sdp_text::MOST_SECTIONS;
 
 // The ports.
 
-fn is_leg(leg: (u8, Side), section: usize, side: Side) -> bool
+fn is_leg(leg: (u8, Side, Family), section: usize, side: Side) -> bool
     ensures { result ≡ (leg.0 == section && side_eq leg.1 side) }
 {
     leg.0 as usize == section && leg.1 == side
 }
 
 /// The port of a leg that a pair was demanded for.
-fn port_of(legs: &[(u8, Side)], ports: &[u16], section: usize, side: Side) -> Option<u16>
+fn port_of(legs: &[(u8, Side, Family)], ports: &[u16], section: usize, side: Side) -> Option<u16>
     requires { length legs.now ≡ length ports.now }
     ensures { result ≡ new_port (map leg_asked legs.now) ports.now section side }
 {
@@ -58,7 +58,7 @@ fn leg_with_port(leg: Leg, port: Option<u16>) -> Leg
 fn section_with_ports(
     kept: DialogSection,
     section: usize,
-    legs: &[(u8, Side)],
+    legs: &[(u8, Side, Family)],
     ports: &[u16],
 ) -> DialogSection
     requires { length legs.now ≡ length ports.now }
@@ -74,7 +74,7 @@ fn section_with_ports(
 
 fn sections_with_ports(
     kept: &[DialogSection; MOST_SECTIONS],
-    legs: &[(u8, Side)],
+    legs: &[(u8, Side, Family)],
     ports: &[u16],
 ) -> [DialogSection; MOST_SECTIONS]
     requires { length legs.now ≡ length ports.now }
@@ -256,7 +256,7 @@ fn sections_with_lines(
 
 impl OfferedNext {
     /// Puts in the RTP ports of the pairs that were leased for these legs, which are the demanded ones, in the order of leases.
-    pub(crate) fn put_ports(&mut self, legs: &[(u8, Side)], ports: &[u16])
+    pub(crate) fn put_ports(&mut self, legs: &[(u8, Side, Family)], ports: &[u16])
         requires { length legs.now ≡ length ports.now }
         ensures last { self.new.last ≡ self.old.last }
         ensures next { (config : Config) (rounds : List Round) (ask : OfferAsk) (keys : List NewKey) → NextFor config rounds ask [] keys self.old →

@@ -32,7 +32,7 @@ fn ip_of(host: Host) -> Ip
 }
 
 /// The address that is signalled: that of `received from` where it is in effect, else the description's.
-fn signalled(source: Option<Ip>, host: Option<Host>) -> Ip
+pub(crate) fn signalled(source: Option<Ip>, host: Option<Host>) -> Ip
     ensures { result ≡ signalled source host }
 {
     match (source, host) {

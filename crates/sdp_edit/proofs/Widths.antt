@@ -1,5 +1,5 @@
 -- The text of an edit that is within another one is no longer than that one's.
-use Rattle.std.proofs.Common.{◌≡◌, ℕ, zero, suc, ◌+◌, ◌-◌, ◌≤◌, ◌==◌, ◌&&◌, ◌||◌, not, Bool, true, false, List, [], ◌∷◌, ◌++◌, length, drop, codes, decimal, Option, Some, None, refl, ap, ◌∙◌, arith, if◌then◌else◌}
+use Rattle.std.proofs.Common.{◌≡◌, ℕ, zero, suc, ◌+◌, ◌-◌, ◌≤◌, ◌==◌, ◌&&◌, ◌||◌, not, Bool, true, false, List, [], ◌∷◌, ◌++◌, length, drop, codes, decimal, Option, Some, None, refl, ap, arith, if◌then◌else◌}
 use Rattle.std.proofs.lemmas.List.{length-append}
 use Rattle.std.specs.List.{slice_get, join_with_byte}
 use Rattle.base64.specs.Engines.{standard}
@@ -8,6 +8,9 @@ use Rattle.base64.proofs.RoundTrip.{length-encode_symbols}
 use Rattle.sdes_lines.specs.CryptoLine.{line_text, suite_name}
 use Rattle.sdes_lines.specs.declared.crypto_line.CryptoLine.{CryptoLine}
 use Rattle.sdes_lines.proofs.Lines.{length-suite_name}
+use Rattle.sdp_text.specs.Hosts.{text_of}
+use Rattle.sdp_text.specs.declared.host.Host.{Host}
+use Rattle.sdp_text.specs.declared.host.Host.TheVariants.{V4, V6}
 use Rattle.sdp_text.specs.Pieces.{fields}
 use Rattle.sdp_text.specs.Roles.{is_media, is_connection, is_origin}
 use Rattle.sdp_edit.specs.declared.edits.SectionEdit.{SectionEdit}
@@ -15,12 +18,12 @@ use Rattle.sdp_edit.specs.declared.edits.Edit.{Edit}
 use Rattle.sdp_edit.specs.declared.image.Image.{Image}
 use Rattle.sdp_edit.specs.declared.image.Image.TheVariants.{Dropped, Kept, Connection, Origin}
 use Rattle.sdp_edit.specs.declared.place.Place.{Place}
-use Rattle.sdp_edit.specs.Texts.{with_end, proto_text, edited_media_fields, media_text, connection_text}
+use Rattle.sdp_edit.specs.Texts.{with_end, family_of, proto_text, edited_media_fields, media_text, connection_text, origin_fields, origin_text}
 use Rattle.sdp_edit.specs.Places.{line_place, ends_section, begins_with_title, connection_follows}
 use Rattle.sdp_edit.specs.Attributes.{is_removed, is_feedback}
 use Rattle.sdp_edit.specs.Images.{edit_at, media_image, connection_image, origin_image, lacks_feedback, attribute_image, image_of}
 use Rattle.sdp_edit.specs.EditedText.{image_text, added_connection, key_lines, added_keys, edited_line, edited_from, edited}
-use Rattle.sdp_edit.specs.Widths.{AreLinesWithin, IsSectionWithin, AreSectionsWithin, IsWithin}
+use Rattle.sdp_edit.specs.Widths.{AreLinesWithin, IsHostWithin, IsSectionWithin, AreSectionsWithin, IsWithin}
 use Rattle.sdp_edit.proofs.TextLemmas.{length-with_end}
 
 -- Sections.
@@ -99,15 +102,39 @@ keys-within (Some s) (Some w) more within = go (ends_section more)
     go true = lines-within s.crypto w.crypto within.lines_within
     go false = omega arith
 
--- Connections that are added.
+-- Connections.
 
-same-added : (s w : Option SectionEdit) (is_head : Bool) (more : List (List ℕ)) → AreWithinAt s w → added_connection s is_head more ≡ added_connection w is_head more
+length-family : (host : Host) → length (family_of host) ≡ 3
+length-family (V4 bytes) = refl
+length-family (V6 bytes) = refl
+
+length-four : (a b c d : List ℕ) → length (a ++ b ++ c ++ d) ≡ length a + length b + length c + length d
+length-four a b c d = simp length-append
+
+connection-within : (host wide : Host) → IsHostWithin host wide → length (with_end (connection_text host)) ≤ length (with_end (connection_text wide))
+unfolding connection_text
+connection-within host wide within = omega (
+  arith,
+  within,
+  length-family host,
+  length-family wide,
+  length-with_end (connection_text host),
+  length-with_end (connection_text wide),
+  length-four (codes "c=IN ") (family_of host) (codes " ") (text_of host),
+  length-four (codes "c=IN ") (family_of wide) (codes " ") (text_of wide),
+)
+
+added-within : (s w : Option SectionEdit) (is_head : Bool) (more : List (List ℕ)) → AreWithinAt s w →
+    length (added_connection s is_head more) ≤ length (added_connection w is_head more)
 unfolding added_connection
-same-added None None is_head more within = refl
-same-added None (Some w) is_head more within = absurd within
-same-added (Some s) None is_head more within = absurd within
-same-added (Some s) (Some w) is_head more within =
-    ap (λ a. if is_head && not (begins_with_title more) && not (connection_follows more) then with_end (connection_text a) else []) within.address_is
+added-within None None is_head more within = omega arith
+added-within None (Some w) is_head more within = absurd within
+added-within (Some s) None is_head more within = absurd within
+added-within (Some s) (Some w) is_head more within = go (is_head && not (begins_with_title more) && not (connection_follows more))
+  where
+    go : (b : Bool) → length (if b then with_end (connection_text s.address) else []) ≤ length (if b then with_end (connection_text w.address) else [])
+    go true = connection-within s.address w.address within.address_within
+    go false = omega arith
 
 -- Images.
 
@@ -140,18 +167,68 @@ media_image-within (Some s) None line within = absurd within
 media_image-within (Some s) (Some w) line within =
     omega (arith, media-within s w line within, length-with_end (media_text s line), length-with_end (media_text w line))
 
-same-connection : (edit wide : Edit) (has_connection : Bool) (s w : Option SectionEdit) → IsWithin edit wide → AreWithinAt s w →
-    connection_image edit has_connection s ≡ connection_image wide has_connection w
-same-connection edit wide has_connection None None within here =
-    ap (λ b. if b then Connection edit.address else Kept) within.session_is ∙ ap (λ a. if wide.replace_session then Connection a else Kept) within.address_is
-same-connection edit wide has_connection None (Some w) within here = absurd here
-same-connection edit wide has_connection (Some s) None within here = absurd here
-same-connection edit wide has_connection (Some s) (Some w) within here = ap (λ a. if has_connection then Dropped else Connection a) here.address_is
+connection_image-within : (edit wide : Edit) (has_connection : Bool) (s w : Option SectionEdit) (line : List ℕ) → IsWithin edit wide → AreWithinAt s w →
+    length (image_text (connection_image edit has_connection s) line) ≤ length (image_text (connection_image wide has_connection w) line)
+unfolding image_text
+connection_image-within edit wide has_connection None None line within here = go edit.replace_session wide.replace_session within.session_is
+  where
+    go : (r s : Bool) → r ≡ s → length (image_text (if r then Connection edit.address else Kept) line) ≤ length (image_text (if s then Connection wide.address else Kept) line)
+    go true true e = connection-within edit.address wide.address within.address_within
+    go false false e = omega arith
+    go true false e = cc
+    go false true e = cc
+connection_image-within edit wide has_connection None (Some w) line within here = absurd here
+connection_image-within edit wide has_connection (Some s) None line within here = absurd here
+connection_image-within edit wide has_connection (Some s) (Some w) line within here = go has_connection
+  where
+    go : (b : Bool) → length (image_text (if b then Dropped else Connection s.address) line) ≤ length (image_text (if b then Dropped else Connection w.address) line)
+    go true = omega arith
+    go false = connection-within s.address w.address here.address_within
 
-same-origin : (edit wide : Edit) (has_origin : Bool) → IsWithin edit wide → origin_image edit has_origin ≡ origin_image wide has_origin
-same-origin edit wide has_origin within =
-    ap (λ b. if b && not has_origin then Origin edit.address else Kept) within.origin_is
-    ∙ ap (λ a. if wide.replace_origin && not has_origin then Origin a else Kept) within.address_is
+length-origin : (a b c d e f : List ℕ) → length (codes "o=" ++ (a ++ 32 ∷ (b ++ 32 ∷ (c ++ 32 ∷ (d ++ 32 ∷ (e ++ 32 ∷ f))))))
+    ≡ length a + length b + length c + length d + length e + length f + 7
+length-origin a b c d e f = omega (
+  arith,
+  length-append a (32 ∷ (b ++ 32 ∷ (c ++ 32 ∷ (d ++ 32 ∷ (e ++ 32 ∷ f))))),
+  length-append b (32 ∷ (c ++ 32 ∷ (d ++ 32 ∷ (e ++ 32 ∷ f)))),
+  length-append c (32 ∷ (d ++ 32 ∷ (e ++ 32 ∷ f))),
+  length-append d (32 ∷ (e ++ 32 ∷ f)),
+  length-append e (32 ∷ f),
+)
+
+origin-within : (host wide : Host) (line : List ℕ) → IsHostWithin host wide → length (with_end (origin_text host line)) ≤ length (with_end (origin_text wide line))
+unfolding origin_text
+origin-within host wide line within =
+    omega (arith, go (fields (drop 2 line)), length-with_end (origin_text host line), length-with_end (origin_text wide line))
+  where
+    go : (texts : List (List ℕ)) → length (codes "o=" ++ join_with_byte 32 (origin_fields host texts)) ≤ length (codes "o=" ++ join_with_byte 32 (origin_fields wide texts))
+    go [] = omega arith
+    go (a ∷ []) = omega arith
+    go (a ∷ b ∷ []) = omega arith
+    go (a ∷ b ∷ c ∷ []) = omega arith
+    go (a ∷ b ∷ c ∷ d ∷ []) = omega arith
+    go (a ∷ b ∷ c ∷ d ∷ e ∷ []) = omega arith
+    go (a ∷ b ∷ c ∷ d ∷ e ∷ f ∷ []) = omega (
+      arith,
+      within,
+      length-family host,
+      length-family wide,
+      length-origin a b c d (family_of host) (text_of host),
+      length-origin a b c d (family_of wide) (text_of wide),
+    )
+    go (a ∷ b ∷ c ∷ d ∷ e ∷ f ∷ g ∷ more) = omega arith
+
+origin_image-within : (edit wide : Edit) (has_origin : Bool) (line : List ℕ) → IsWithin edit wide →
+    length (image_text (origin_image edit has_origin) line) ≤ length (image_text (origin_image wide has_origin) line)
+unfolding image_text
+origin_image-within edit wide has_origin line within = go edit.replace_origin wide.replace_origin has_origin within.origin_is
+  where
+    go : (r s h : Bool) → r ≡ s → length (image_text (if r && not h then Origin edit.address else Kept) line) ≤ length (image_text (if s && not h then Origin wide.address else Kept) line)
+    go true true false e = origin-within edit.address wide.address line within.address_within
+    go true true true e = omega arith
+    go false false h e = omega arith
+    go true false h e = cc
+    go false true h e = cc
 
 same-attribute : (s w : Option SectionEdit) (line : List ℕ) → AreWithinAt s w → attribute_image s line ≡ attribute_image w line
 same-attribute None None line within = refl
@@ -183,8 +260,8 @@ image-within edit wide place line within = go (is_media line) (is_connection lin
 
     go : (m c o : Bool) → length (image_text (image edit m c o) line) ≤ length (image_text (image wide m c o) line)
     go true c o = media_image-within _ _ line next
-    go false true o = alike _ _ line (same-connection edit wide place.has_connection _ _ within here)
-    go false false true = alike _ _ line (same-origin edit wide place.has_origin within)
+    go false true o = connection_image-within edit wide place.has_connection _ _ line within here
+    go false false true = origin_image-within edit wide place.has_origin line within
     go false false false = alike _ _ line (same-attribute _ _ line here)
 
 -- The text.
@@ -200,7 +277,7 @@ edited_line-within edit wide before line more within =
     omega (
       arith,
       image-within edit wide (line_place before) line within,
-      ap length (same-added s w here.is_head more at),
+      added-within s w here.is_head more at,
       keys-within s w more at,
       length-append (image_text (image_of edit (line_place before) line) line ++ added_connection s here.is_head more) (added_keys s more),
       length-append (image_text (image_of edit (line_place before) line) line) (added_connection s here.is_head more),

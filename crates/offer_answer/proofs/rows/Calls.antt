@@ -1,6 +1,7 @@
 -- The descriptions, offers and answers of the worked rows.
 use Rattle.std.proofs.Common.{ℕ, List, [], ◌∷◌, ◌++◌, false, true, ◌+◌, Option, Some, None, codes, replicate}
 use Rattle.relay_outside.specs.declared.settings.Config.{Config}
+use Rattle.relay_outside.specs.declared.address.Family.TheVariants.{V4}
 use Rattle.relay_outside.specs.declared.address.Ip.{Ip}
 use Rattle.relay_outside.specs.declared.address.Ip.TheVariants as ips
 use Rattle.sdes_lines.specs.declared.crypto_line.Suite.{Suite}
@@ -14,7 +15,6 @@ use Rattle.port_pool.specs.declared.holder.Holder.{Holder}
 use Rattle.port_pool.specs.declared.signal.LegSignal.{LegSignal}
 use Rattle.port_pool.specs.Signals.{NewKey}
 use Rattle.offer_answer.specs.Rounds.{Round, Offered, Answered, OfferAsk, AnswerAsk, Demand, NewLeg, KeyPlace}
-use Rattle.offer_answer.specs.Demands.{new_leg}
 
 -- The configuration and the options of a command.
 
@@ -30,7 +30,14 @@ config = record {
 }
 
 abbrev pub plain : Options
-plain = record { flags = record { strict = false; handover = false; asymmetric = false }; replace_origin = false; replace_session = false; transport = None; source = None }
+plain = record {
+  flags = record { strict = false; handover = false; asymmetric = false };
+  replace_origin = false;
+  replace_session = false;
+  transport = None;
+  source = None;
+  family = None;
+}
 
 abbrev pub replacing : Options
 replacing = record plain { replace_origin = true; replace_session = true }
@@ -111,9 +118,13 @@ place section side suite = record { section = section; side = side; suite = suit
 abbrev pub nothing : Demand
 nothing = record { pairs = []; keys = []; dropped = [] }
 
+-- a new leg of version 4
+abbrev pub new_four : ℕ → Side → NewLeg
+new_four section side = record { section = section; side = side; family = V4 }
+
 -- new legs that side A's offer demands for the section
 abbrev pub new_two : ℕ → List NewLeg
-new_two section = new_leg section B ∷ new_leg section A ∷ []
+new_two section = new_four section B ∷ new_four section A ∷ []
 
 -- Offers and answers.
 

@@ -6,9 +6,8 @@ use Rattle.port_pool.specs.declared.holder.Side.TheVariants.{A, B}
 use Rattle.port_pool.specs.declared.signal.SectionSignal.TheVariants.{Commit, Reject}
 use Rattle.relay_outside.specs.declared.address.Ip.TheVariants as ips
 use Rattle.offer_answer.specs.Rounds.{Round, Offered, Answered, OfferAsk}
-use Rattle.offer_answer.specs.Demands.{new_leg}
 use Rattle.offer_answer.specs.Plan.{offer_fault, demand, answer_fault, signal, tag, is_side, protocol}
-use Rattle.offer_answer.proofs.rows.Calls.{plain, from_source, strict, handing_over, alice_ip, bob_ip, alice_with, bob_with, audio, no_audio, video, no_video, image, two_legs, new_two, nothing, offer_by, answer_by, a, b, d, none1, none2, audio_offer, audio_answer, offered_once, answered_once, plain_leg}
+use Rattle.offer_answer.proofs.rows.Calls.{plain, new_four, from_source, strict, handing_over, alice_ip, bob_ip, alice_with, bob_with, audio, no_audio, video, no_video, image, two_legs, new_two, nothing, offer_by, answer_by, a, b, d, none1, none2, audio_offer, audio_answer, offered_once, answered_once, plain_leg}
 
 -- The first offer: no fault; two pairs, the other side's first; side A is its from-tag.
 
@@ -180,7 +179,7 @@ unfolding tag bob_offered bobs_offer
 sides_stay = refl
 
 -- a new section of side B's offer: side A's leg is the one that the reply names
-bob_adds_a_section : demand answered_once (offer_by b (bob_with (audio ++ video)) plain none2) ≡ record { pairs = new_leg 1 A ∷ new_leg 1 B ∷ []; keys = []; dropped = [] }
+bob_adds_a_section : demand answered_once (offer_by b (bob_with (audio ++ video)) plain none2) ≡ record { pairs = new_four 1 A ∷ new_four 1 B ∷ []; keys = []; dropped = [] }
 unfolding demand
 bob_adds_a_section = refl
 

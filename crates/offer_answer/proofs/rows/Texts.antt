@@ -11,13 +11,14 @@ use Rattle.sdp_edit.specs.Places.{line_place}
 use Rattle.sdp_edit.specs.Texts.{with_end, connection_text, media_text, origin_text}
 use Rattle.sdp_edit.specs.EditedText.{edited_from, edited_line, image_text, added_connection, added_keys, key_lines}
 use Rattle.port_pool.specs.declared.holder.Side.TheVariants.{A, B}
+use Rattle.port_pool.specs.Ports.{range_pairs}
 use Rattle.offer_answer.specs.Rounds.{Round, Offered, Answered, AnswerAsk}
 use Rattle.offer_answer.specs.Plan.{offer_text, answer_text}
 use Rattle.offer_answer.proofs.rows.Calls.{config, plain, replacing, towards, alice_with, bob_with, audio, secure_audio, no_audio, video, image, line80, two_legs, key, offer_by, answer_by, a, b, none1, none2}
 
 -- what is opened so that a text computes
-offers_and_answers : Unit {0}
-unfolding offer_text answer_text digits is_removed is_feedback image_of line_place with_end connection_text media_text origin_text edited_from edited_line image_text added_connection added_keys key_lines line_text encode_symbols
+unfoldable pub offers_and_answers : Unit {0}
+unfolding offer_text answer_text range_pairs digits is_removed is_feedback image_of line_place with_end connection_text media_text origin_text edited_from edited_line image_text added_connection added_keys key_lines line_text encode_symbols
 offers_and_answers = tt
 
 -- Side A's description, and what side B gets.

@@ -6,7 +6,7 @@ use Rattle.sdp_edit.specs.EditedText.{HaveTags}
 use Rattle.offer_answer.specs.Rounds.{Round, AnswerAsk}
 use Rattle.offer_answer.specs.Sides.{MadeOffer, last_offer}
 use Rattle.offer_answer.specs.Sections.{section_count, all_sections}
-use Rattle.offer_answer.specs.Texts.{host_of_ip, answer_section}
+use Rattle.offer_answer.specs.Texts.{answer_section}
 use Rattle.offer_answer.specs.Plan.{OfferRead}
 use Rattle.offer_answer.specs.Dialogs.{DialogFor}
 use Rattle.offer_answer.specs.LastOffers.{LastFor}
@@ -15,7 +15,6 @@ use Rattle.offer_answer.proofs.answer_text.answer_sections.Given as goal
 -- the sections, with those that are left, are all
 abbrev pub invariant-loop-index : goal.invariant-loop-index
 invariant-loop-index l = record {
-  address : l.edit.address ≡ host_of_ip l.config.interface;
   origin : l.edit.replace_origin ≡ l.options.replace_origin;
   session : l.edit.replace_session ≡ l.options.replace_session;
   list : (rounds : List Round) (offer : MadeOffer) (ask : AnswerAsk) → DialogFor l.fn.config l.fn.dialog rounds → last_offer rounds ≡ Some offer →

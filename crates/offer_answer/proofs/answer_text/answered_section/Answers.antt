@@ -1,7 +1,8 @@
 use Rattle.std.proofs.Common.{ℕ, Bool, not, ◌&&◌, ◌∷◌, [], None, refl, sym, ap, ◌∙◌, subst, if◌then◌else◌, option_and_then, slice_index_or}
 use Rattle.offer_answer.specs.Keys.{no_lines}
 use Rattle.offer_answer.specs.Profiles.{is_srtp}
-use Rattle.offer_answer.specs.Dialogs.{no_state}
+use Rattle.offer_answer.specs.Dialogs.{leg_at, no_state}
+use Rattle.offer_answer.specs.Texts.{written_host}
 use Rattle.offer_answer.specs.LastOffers.{MadeFor}
 use Rattle.offer_answer.specs.Edits.{line_back}
 use Rattle.offer_answer.specs.declared.leg.Leg.{Leg}
@@ -17,10 +18,12 @@ returns-clause-edit c = λ rounds offer ask d o m heard l.
     let made : MadeSection = c.made_at-made.result in
     let kept : DialogSection = slice_index_or c.args.dialog.now.sections section no_state in
     let r : Bool = c.is_rejected-is_rejected.result in
-    let port = c.port_back.ensures ∙ ap (λ (g : Leg). if r then 0 else g.port) c.makers_leg-leg.ensures in
+    let port = c.port_back-port.ensures ∙ ap (λ (g : Leg). if r then 0 else g.port) c.makers_leg-leg.ensures in
     let lines = c.lines_back.ensures.lines
     ∙ ap (λ (g : Leg). if not r && is_srtp made.section.proto then option_and_then (line_back g) made.line ∷ None ∷ [] else no_lines) c.makers_leg-leg.ensures in
-    section-is _ _ _ _ _ _ _ _ port refl c.host_of_ip.ensures lines
+    let host = c.written_host.ensures.host ∙ ap (λ p. written_host c.args.config.now p c.makers_leg-leg.result.family) port
+    ∙ ap (λ (g : Leg). written_host c.args.config.now (if r then 0 else (leg_at kept c.args.last.now.maker).port) g.family) c.makers_leg-leg.ensures in
+    section-is _ _ _ _ _ _ _ _ port refl host lines
     ∙ section-back c.args.config.now rounds offer ask section made kept c.args.last.now.maker r
     (subst (MadeFor offer section) (sym c.made_at-made.ensures) (m.sections_are section c.requires))
     (d.sections_are section c.requires)

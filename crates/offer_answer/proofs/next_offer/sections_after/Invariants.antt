@@ -12,6 +12,6 @@ abbrev pub invariant-loop-index : goal.invariant-loop-index
 invariant-loop-index l = record {
   full : length l.sections ≡ 8;
   done : (config : Config) (rounds : List Round) (ask : OfferAsk) → DialogFor config l.fn.dialog rounds → ReadsOffer l.fn.sdp ask →
-      l.fn.transport ≡ ask.options.transport → l.fn.maker ≡ offerer rounds ask →
+      l.fn.options ≡ ask.options → l.fn.maker ≡ offerer rounds ask →
       (section : ℕ) → section < l.index → SectionNext config rounds ask [] [] section (slice_index_or l.sections section no_state);
 }

@@ -12,4 +12,4 @@ use Rattle.offer_answer.proofs.offer_plan.demanded_legs.Given as goal
 -- the legs, with those that are left, are all
 abbrev pub invariant-loop-index : goal.invariant-loop-index
 invariant-loop-index l = (config : Config) (rounds : List Round) (ask : OfferAsk) → DialogFor config l.fn.dialog rounds → ReadsOffer l.fn.sdp ask →
-    l.fn.side ≡ offerer rounds ask → map leg_asked l.legs.items ++ legs_left rounds ask l.index (section_count ask.sdp) ≡ new_legs rounds ask
+    l.fn.options ≡ ask.options → l.fn.side ≡ offerer rounds ask → map leg_asked l.legs.items ++ legs_left rounds ask l.index (section_count ask.sdp) ≡ new_legs rounds ask

@@ -1,7 +1,7 @@
 use Rattle.std.proofs.Common.{◌≡◌, ◌<◌, ◌≤◌, true, false, sym, ◌∙◌, arith}
 use Rattle.offer_answer.specs.Sections.{section_count, committed_count}
 use Rattle.offer_answer.specs.Faults.{is_strangers}
-use Rattle.offer_answer.proofs.Offering.{count-heard, fault-strangers, fault-few, fault-lines}
+use Rattle.offer_answer.proofs.Offering.{count-heard, fault-strangers, fault-few, fault-misfits, fault-lines}
 use Rattle.offer_answer.proofs.offer_plan.fault_of.Goals as goal
 
 pub returns-then-is_strangers : goal.returns-then-is_strangers
@@ -15,16 +15,28 @@ returns-then-section_count-committed_count c = λ config rounds ask s a.
     omega (arith, c.if-section_count-committed_count.true, c.section_count.ensures.count, c.committed_count.ensures, s.committed_count_is, count-heard c.args.sdp.now ask a.hears) in
     fault-few rounds ask known few
 
+pub returns-then-misfits : goal.returns-then-misfits
+returns-then-misfits c = λ config rounds ask s a.
+    let known : is_strangers rounds ask ≡ false = sym (c.is_strangers.ensures config rounds ask s (a.from_tag_is ∙ sym c.as_slice.ensures)) ∙ c.if-is_strangers.false in
+    let enough : committed_count rounds ≤ section_count ask.sdp =
+    omega (arith, c.if-section_count-committed_count.false, c.section_count.ensures.count, c.committed_count.ensures, s.committed_count_is, count-heard c.args.sdp.now ask a.hears) in
+    let side = c.offerer-side.ensures config rounds ask s (a.from_tag_is ∙ sym c.as_slice-2.ensures) in
+    fault-misfits rounds ask known enough (sym (c.misfits.ensures config rounds ask s a.hears (sym a.options_are) side) ∙ c.if-misfits.true)
+
 pub returns-then-lacks_lines : goal.returns-then-lacks_lines
 returns-then-lacks_lines c = λ config rounds ask s a.
     let known : is_strangers rounds ask ≡ false = sym (c.is_strangers.ensures config rounds ask s (a.from_tag_is ∙ sym c.as_slice.ensures)) ∙ c.if-is_strangers.false in
     let enough : committed_count rounds ≤ section_count ask.sdp =
     omega (arith, c.if-section_count-committed_count.false, c.section_count.ensures.count, c.committed_count.ensures, s.committed_count_is, count-heard c.args.sdp.now ask a.hears) in
-    fault-lines rounds ask true known enough (sym (c.lacks_lines.ensures config rounds ask s a.hears) ∙ c.if-lacks_lines.true)
+    let side = c.offerer-side.ensures config rounds ask s (a.from_tag_is ∙ sym c.as_slice-2.ensures) in
+    let fits = sym (c.misfits.ensures config rounds ask s a.hears (sym a.options_are) side) ∙ c.if-misfits.false in
+    fault-lines rounds ask true known enough fits (sym (c.lacks_lines.ensures config rounds ask s a.hears) ∙ c.if-lacks_lines.true)
 
 pub returns : goal.returns
 returns c = λ config rounds ask s a.
     let known : is_strangers rounds ask ≡ false = sym (c.is_strangers.ensures config rounds ask s (a.from_tag_is ∙ sym c.as_slice.ensures)) ∙ c.if-is_strangers.false in
     let enough : committed_count rounds ≤ section_count ask.sdp =
     omega (arith, c.if-section_count-committed_count.false, c.section_count.ensures.count, c.committed_count.ensures, s.committed_count_is, count-heard c.args.sdp.now ask a.hears) in
-    fault-lines rounds ask false known enough (sym (c.lacks_lines.ensures config rounds ask s a.hears) ∙ c.if-lacks_lines.false)
+    let side = c.offerer-side.ensures config rounds ask s (a.from_tag_is ∙ sym c.as_slice-2.ensures) in
+    let fits = sym (c.misfits.ensures config rounds ask s a.hears (sym a.options_are) side) ∙ c.if-misfits.false in
+    fault-lines rounds ask false known enough fits (sym (c.lacks_lines.ensures config rounds ask s a.hears) ∙ c.if-lacks_lines.false)

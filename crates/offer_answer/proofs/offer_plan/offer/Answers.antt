@@ -9,11 +9,11 @@ returns-clause-answered c = λ rounds ask s a.
       c.in_default.ensures c.args.config.now rounds ask s a,
       record {
         demands = record {
-          pairs_are = c.in_ok-legs.ensures c.args.config.now rounds ask s a.hears side;
+          pairs_are = c.in_ok-legs.ensures c.args.config.now rounds ask s a.hears (sym a.options_are) side;
           keys_are = c.in_ok-key_places.ensures c.args.config.now rounds ask s a.hears (ap (λ o. o.transport) (sym a.options_are)) side;
           drops_are = c.dropped.ensures c.args.config.now rounds ask s a.hears;
         };
         next_for = c.in_ok-next.ensures.next c.args.config.now rounds ask s a side;
-        interface_is = refl;
+        config_is = refl;
       },
     )

@@ -9,7 +9,7 @@ pub loop-index-preserved : goal.loop-index-preserved
 loop-index-preserved c =
     let i : ℕ = c.loop-index.index in
     let n : ℕ = c.args.last.now.count in
-    let f : ℕ → SectionEdit = widest_at c.args.interface c.args.last.now in record {
+    let f : ℕ → SectionEdit = widest_at c.args.host c.args.last.now in record {
       list = map-pushed f c.loop-index.sections.list c.push.new.self.list c.widest_at.result i n c.loop-index-test.true c.widest_at.ensures.edit c.push.ensures.list ∙ c.loop-index.invariant.list;
       room = omega (arith, c.push.ensures.spare, c.loop-index.invariant.room);
       tags = below_more (λ k. KeysHaveTags (f k).crypto) i c.loop-index.invariant.tags
@@ -18,4 +18,4 @@ loop-index-preserved c =
 
 pub returns-clause-tags : goal.returns-clause-tags
 returns-clause-tags c =
-    tags-all (widest_at c.args.interface c.args.last.now) c.args.last.now.count (λ k below. c.loop-index.invariant.tags k (omega (arith, below, c.loop-index-test.false)))
+    tags-all (widest_at c.args.host c.args.last.now) c.args.last.now.count (λ k below. c.loop-index.invariant.tags k (omega (arith, below, c.loop-index-test.false)))

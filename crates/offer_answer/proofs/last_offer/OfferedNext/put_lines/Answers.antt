@@ -1,7 +1,7 @@
 use Rattle.std.proofs.Common.{slice_index_or, ap, ◌∙◌, refl}
 use Rattle.port_pool.specs.Signals.{other_side}
 use Rattle.offer_answer.specs.Dialogs.{leg_at, no_state}
-use Rattle.offer_answer.proofs.Nexts.{section-filled, port-filled}
+use Rattle.offer_answer.proofs.Nexts.{section-filled, port-filled, family-filled}
 use Rattle.offer_answer.proofs.last_offer.OfferedNext.put_lines.Goals as goal
 
 pub returns-clause-filled : goal.returns-clause-filled
@@ -17,6 +17,9 @@ returns-clause-filled c = λ config rounds ask ports keys n drawn. record {
   };
   ports_are = λ section side below active.
       port-filled config rounds ask ports keys section side (leg_at (slice_index_or c.args.self.now.sections section no_state) side)
+      ((n.sections_are section below).legs_are side) active;
+  families_are = λ section side below active.
+      family-filled config rounds ask ports keys section side (leg_at (slice_index_or c.args.self.now.sections section no_state) side)
       ((n.sections_are section below).legs_are side) active;
   sections_are = λ legs section leased below.
       section-filled config rounds ask ports legs keys section (slice_index_or c.args.self.now.sections section no_state) (n.sections_are section below) drawn leased;

@@ -21,7 +21,7 @@ returns-clause-filled c = λ config rounds ask p.
 pub returns-clause-offered : goal.returns-clause-offered
 returns-clause-offered c = λ config rounds ask p l.
     c.write.ensures.offered config rounds ask c.args.ports.now (numbered_keys c.args.first_key c.args.keys.now (demand rounds ask).keys)
-    (c.put.ensures.filled config rounds ask p.demands p.next_for) (ap (λ (plan : Plan). plan.interface) c.put.ensures.rest ∙ p.interface_is) l
+    (c.put.ensures.filled config rounds ask p.demands p.next_for) (ap (λ (plan : Plan). plan.config) c.put.ensures.rest ∙ p.config_is) l
 
 pub returns-clause-demands : goal.returns-clause-demands
 returns-clause-demands c = λ asked for.
