@@ -23,7 +23,7 @@ use Rattle.offer_answer.proofs.AlikePlans.{tag_alike, side_alike, protocol_alike
 use Rattle.call_board.specs.Acts as act
 use Rattle.call_board.specs.Acts.{Call, Act, Given, Control, Lease, BoardEntry}
 use Rattle.call_board.specs.Calls.{live, find_call, new_call, rounds, rounds_of_call, is_ending, first_moment, latest_moment}
-use Rattle.call_board.specs.Pairs.{free_in, fronts, is_short, next_lease, leased_new_legs, drawn_keys_from, next_generation, drawn, family_eq, pair_family}
+use Rattle.call_board.specs.Pairs.{free_in, fronts, is_short, next_lease, leased_new_legs, drawn_keys_from, next_generation, drawn}
 use Rattle.call_board.specs.Replies.{Described, Reported, Listed, Done, Fault, reply_datagram, reply_text}
 use Rattle.call_board.specs.Dialects.{is_json, written_in}
 use Rattle.call_board.specs.Reports.{report_tree, whole, moment_value, counts_tree, endpoint_value, leg_value, leg_report_at, tags_by, profile_text}
@@ -78,7 +78,7 @@ text_alike config body created last before others legs a = ap (written_in (is_js
 -- Offers.
 
 free_in_alike : (config : Config) (g h : List BoardEntry) → AlikeHistories config g h → free_in config g ≡ free_in config h
-free_in_alike config g h s = λ i family. filter (λ p. family_eq (pair_family config p) family) (s.free_is i)
+free_in_alike config g h s = λ i family. s.free_is family i
 
 legs_alike : (g h : List BoardEntry) (of : Call) (pairs : List ℕ) (legs : List NewLeg) → ((p : ℕ) → In p pairs → next_generation g p ≡ next_generation h p) →
     leased_new_legs g of pairs legs ≡ leased_new_legs h of pairs legs
@@ -162,7 +162,7 @@ module _ (config : Config) (g h : List BoardEntry) (s : AlikeHistories config g 
       let fault = or_else (ending_error (is_ending h of.number)) (plan.offer_fault (rounds h of.number) ask) in
       ap (λ (b : Bool). offer_unless config g given ask of false (rounds g of.number) (or_else (ending_error b) (plan.offer_fault (rounds g of.number) ask))) (ending_alike config g h id of s is)
       ∙ ap (λ (o : Option ErrorCode). offer_unless config g given ask of false (rounds g of.number) (or_else (ending_error (is_ending h of.number)) o))
-      (offer_fault_alike config (rounds g of.number) (rounds h of.number) ask a)
+      (offer_fault_alike config (rounds g of.number) (rounds h of.number) ask a few)
       ∙ unless_alike old given ask of false (rounds g of.number) (rounds h of.number) fault a few
 
   -- Answers and deletes.

@@ -4,12 +4,13 @@ use Rattle.std.specs.Prelude.{is_some}
 use Rattle.std.specs.Str.{bytes_eq}
 use Rattle.relay_outside.specs.declared.settings.Config.{Config}
 use Rattle.relay_outside.specs.declared.address.Addr.{Addr}
+use Rattle.relay_outside.specs.declared.address.Family.{Family}
 use Rattle.histories.specs.Words.{In, here, there, first}
 use Rattle.port_pool.specs.Ports.{pair_count}
 use Rattle.offer_answer.proofs.Alike.{Alike}
 use Rattle.call_board.specs.Acts.{Call, BoardEntry}
 use Rattle.call_board.specs.Calls.{begun, live, find_call, new_call, lowest_but, rounds, due_moment, is_ending}
-use Rattle.call_board.specs.Pairs.{free, next_generation, drawn}
+use Rattle.call_board.specs.Pairs.{free_in, next_generation, drawn}
 use Rattle.call_board.specs.KeptReplies.{kept_reply, keepings}
 use Rattle.call_board.specs.Views.{call_view, view_of}
 use Rattle.call_board.proofs.Calls.{found_live}
@@ -20,7 +21,7 @@ pub record AlikeHistories (config : Config) (g h : List BoardEntry) : Type 0 whe
   pub live_is : live g ≡ live h
   pub begun_is : length (begun g) ≡ length (begun h)
   pub drawn_is : length (drawn g) ≡ length (drawn h)
-  pub free_is : free config g ≡ free config h
+  pub free_is : (family : Family) → free_in config g family ≡ free_in config h family
   pub leases_are : (pair : ℕ) → pair < pair_count config → next_generation g pair ≡ next_generation h pair
   pub calls_are : (of : Call) → In of (live g) → AlikeCalls config (call_view g of) (call_view h of)
   pub kept_is : (source : Addr) (cookie : List ℕ) (now : ℕ) → kept_reply g source cookie now ≡ kept_reply h source cookie now

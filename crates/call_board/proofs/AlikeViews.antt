@@ -1,10 +1,12 @@
 -- Views of which a board keeps the same, and what an entry makes of them.
-use Rattle.std.proofs.Common.{◌≡◌, ◌∙◌, refl, sym, ap, subst, ℕ, zero, suc, ◌+◌, ◌<◌, Bool, true, false, cond, List, [], ◌∷◌, ◌++◌, map, length, take, drop, ◌==◌, Option, Some, None, append-nil}
+use Rattle.std.proofs.Common.{◌≡◌, ◌∙◌, refl, sym, ap, subst, ℕ, zero, suc, ◌+◌, ◌<◌, Bool, true, false, cond, List, [], ◌∷◌, ◌++◌, map, filter, not, length, ◌==◌, Option, Some, None, append-nil}
 use Rattle.std.specs.Prelude.{count_by, max}
 use Rattle.std.specs.List.{flat_map}
 use Rattle.relay_outside.specs.declared.settings.Config.{Config}
 use Rattle.histories.specs.Words.{has}
-use Rattle.port_pool.specs.Ports.{pair_count}
+use Rattle.std.proofs.lemmas.List.Elements.{filter-append}
+use Rattle.relay_outside.specs.declared.address.Family.{Family}
+use Rattle.port_pool.specs.Ports.{pair_count, pair_family, family_eq, pairs_of_family}
 use Rattle.port_pool.specs.declared.holder.Holder.{Holder}
 use Rattle.cookie_cache.specs.Keepings.{Keeping, moment_used}
 use Rattle.offer_answer.specs.Rounds as round
@@ -22,6 +24,7 @@ use Rattle.call_board.specs.Boards.{CallFor, CallsFor, BoardMatches}
 use Rattle.call_board.specs.Whole.{with_draws, with_reply, with_closed, with_more, with_first, with_due_call, with_ended, view_after}
 use Rattle.call_board.specs.Futures.{closed_pairs}
 use Rattle.call_board.proofs.CallsAfter.{cleared}
+use Rattle.call_board.proofs.Leased.{family_without}
 use Rattle.call_board.proofs.Entries.{ended_view, ended_are}
 use Rattle.call_board.proofs.AlikeKeepings.{AreKeepings, AlikeKeepings, keepings_of_one, stands_for_others, keepings_go_on}
 
@@ -45,7 +48,7 @@ pub record AlikeViews (config : Config) (v w : View) : Type 0 where
   pub begun_is : v.begun ≡ w.begun
   pub drawn_is : v.drawn ≡ w.drawn
   pub calls_are : AllAlike config v.calls w.calls
-  pub free_is : v.free ≡ w.free
+  pub free_is : (family : Family) → pairs_of_family config v.free family ≡ pairs_of_family config w.free family
   pub leases_are : (pair : ℕ) → pair < pair_count config → v.leases pair ≡ w.leases pair
   pub keepings_are : AlikeKeepings v.keepings w.keepings
 
@@ -78,7 +81,7 @@ views_of_one config board v w a b = record {
   begun_is = sym a.begun_is ∙ b.begun_is;
   drawn_is = sym a.drawn_is ∙ b.drawn_is;
   calls_are = calls_of_one config board.calls.list v.calls w.calls a.calls_for b.calls_for;
-  free_is = sym a.pool_for.free_is ∙ b.pool_for.free_is;
+  free_is = λ family. sym (a.pool_for.free_is family) ∙ b.pool_for.free_is family;
   leases_are = λ pair below. sym (a.pool_for.leases_are pair below) ∙ b.pool_for.leases_are pair below;
   keepings_are = keepings_of_one board.replies v.keepings w.keepings a.replies_for b.replies_for;
 }
@@ -126,8 +129,9 @@ shows_alike config board v w s a = record {
   };
   pool_for = record {
     first_is = a.pool_for.first_is;
+    per_is = a.pool_for.per_is;
     count_is = a.pool_for.count_is;
-    free_is = a.pool_for.free_is ∙ s.free_is;
+    free_is = λ family. a.pool_for.free_is family ∙ s.free_is family;
     leases_are = λ pair below. a.pool_for.leases_are pair below ∙ s.leases_are pair below;
   };
   replies_for = stands_for_others board.replies v.keepings w.keepings s.keepings_are a.replies_for;
@@ -158,18 +162,25 @@ draws_alike config v w (suc count) s = let more = draws_alike config v w count s
   keepings_are = more.keepings_are;
 }
 
-leases_alike : (config : Config) (v w : View) (count : ℕ) → AlikeViews config v w → AlikeViews config (with_leases v count) (with_leases w count)
-leases_alike config v w count s = record {
+leases_alike : (config : Config) (v w : View) (pairs : List ℕ) → AlikeViews config v w → AlikeViews config (with_leases v pairs) (with_leases w pairs)
+leases_alike config v w pairs s = record {
   moment_is = s.moment_is;
   begun_is = s.begun_is;
   drawn_is = s.drawn_is;
   calls_are = s.calls_are;
-  free_is = ap (drop count) s.free_is;
-  leases_are = λ pair below.
-      ap (λ n. n + count_by (λ p. p == pair) (take count v.free)) (s.leases_are pair below)
-      ∙ ap (λ free. w.leases pair + count_by (λ p. p == pair) (take count free)) s.free_is;
+  free_is = λ family.
+      family_without config v.free pairs family ∙ ap (filter (λ p. not (has pairs p))) (s.free_is family) ∙ sym (family_without config w.free pairs family);
+  leases_are = λ pair below. ap (λ n. n + count_by (λ p. p == pair) pairs) (s.leases_are pair below);
   keepings_are = s.keepings_are;
 }
+
+family_more : (config : Config) (free other pairs others : List ℕ) (family : Family) → pairs_of_family config free family ≡ pairs_of_family config other family → pairs ≡ others →
+    pairs_of_family config (free ++ pairs) family ≡ pairs_of_family config (other ++ others) family
+family_more config free other pairs others family same alike =
+    filter-append (λ p. family_eq (pair_family config p) family) free pairs
+    ∙ ap (λ ps. ps ++ pairs_of_family config pairs family) same
+    ∙ ap (λ ps. pairs_of_family config other family ++ pairs_of_family config ps family) alike
+    ∙ sym (filter-append (λ p. family_eq (pair_family config p) family) other others)
 
 returned_alike : (config : Config) (v w : View) (pairs others : List ℕ) → pairs ≡ others → AlikeViews config v w → AlikeViews config (with_returned v pairs) (with_returned w others)
 returned_alike config v w pairs others same s = record {
@@ -177,7 +188,7 @@ returned_alike config v w pairs others same s = record {
   begun_is = s.begun_is;
   drawn_is = s.drawn_is;
   calls_are = s.calls_are;
-  free_is = λ i. s.free_is i ++ same i;
+  free_is = λ family. family_more config v.free w.free pairs others family (s.free_is family) same;
   leases_are = s.leases_are;
   keepings_are = s.keepings_are;
 }
@@ -324,7 +335,9 @@ ended_alike config g h e calls v w same s =
       begun_is = s.begun_is;
       drawn_is = s.drawn_is;
       calls_are = cleared_alike config calls v.calls w.calls s.calls_are;
-      free_is = λ i. s.free_is i ++ same i;
+      free_is = λ family.
+          family_more config v.free w.free (map (λ (leg : Holder). leg.pair) (flat_map (closed_of g e) calls)) (map (λ (leg : Holder). leg.pair) (flat_map (closed_of h e) calls)) family
+          (s.free_is family) same;
       leases_are = s.leases_are;
       keepings_are = s.keepings_are;
     }))
@@ -365,20 +378,21 @@ module _ (config : Config) (board : Board) (g h : List BoardEntry) (now : ℕ) (
       (are_keepings config board (with_reply now c (ending v)) shown)
   turned_alike (act.Undone code leases draws) same shown =
       let pairs : List ℕ = map (λ (lease : Lease). lease.pair) leases in
-      let leased = λ (x : View). with_draws (with_leases (view_at_moment x now) (length leases)) (length draws) in
+      let leased = λ (x : View). with_draws (with_leases (view_at_moment x now) pairs) (length draws) in
       let drawn : AlikeViews config (leased v) (leased w) =
-      draws_alike config (with_leases (view_at_moment v now) (length leases)) (with_leases (view_at_moment w now) (length leases)) (length draws)
-      (leases_alike config (view_at_moment v now) (view_at_moment w now) (length leases) (moment_alike config v w now s)) in
+      draws_alike config (with_leases (view_at_moment v now) pairs) (with_leases (view_at_moment w now) pairs) (length draws)
+      (leases_alike config (view_at_moment v now) (view_at_moment w now) pairs (moment_alike config v w now s)) in
       reply_alike config (with_returned (leased v) pairs) (with_returned (leased w) pairs) now c (returned_alike config (leased v) (leased w) pairs pairs refl drawn)
       (are_keepings config board (with_reply now c (with_returned (leased v) pairs)) shown)
   turned_alike (act.Offered o) same shown =
       let e = turn now c (act.Offered o) in
       let made : Round = round.Offered o.ask o.legs o.keys in
-      let leased = λ (x : View). with_draws (with_leases (view_at_moment x now) (length o.legs)) (length o.keys) in
+      let pairs : List ℕ = map (λ (leg : Holder). leg.pair) o.legs in
+      let leased = λ (x : View). with_draws (with_leases (view_at_moment x now) pairs) (length o.keys) in
       let taken = λ (x : View). cond o.begins (with_first o.of made now (leased x)) (with_more o.of made now (leased x)) in
       let drawn : AlikeViews config (leased v) (leased w) =
-      draws_alike config (with_leases (view_at_moment v now) (length o.legs)) (with_leases (view_at_moment w now) (length o.legs)) (length o.keys)
-      (leases_alike config (view_at_moment v now) (view_at_moment w now) (length o.legs) (moment_alike config v w now s)) in
+      draws_alike config (with_leases (view_at_moment v now) pairs) (with_leases (view_at_moment w now) pairs) (length o.keys)
+      (leases_alike config (view_at_moment v now) (view_at_moment w now) pairs (moment_alike config v w now s)) in
       reply_alike config (with_closed g e o.of (taken v)) (with_closed h e o.of (taken w)) now c
       (returned_alike config (taken v) (taken w) (map (λ (leg : Holder). leg.pair) (closed_of g e o.of)) (map (λ (leg : Holder). leg.pair) (closed_of h e o.of)) (closed_one g h e o.of same)
       (taken_alike o o.begins (leased v) (leased w) drawn shown.calls_for))

@@ -35,7 +35,7 @@ use Rattle.call_board.specs.Acts as act
 use Rattle.call_board.specs.Acts.{Act, Given, Control, BoardEvent, Turn, Tick, Stop, BoardEntry, act}
 use Rattle.call_board.specs.Calls.{begun, begun_by_act, find_call, rounds_of_call}
 use Rattle.call_board.specs.Pairs.{all_leased, leased_by_act, drawn, draws_of_act}
-use Rattle.call_board.specs.Requests.{asked, asked_by, unless, command_in, description_error, sdp_error, code_if, v6_error}
+use Rattle.call_board.specs.Requests.{asked, asked_by, unless, command_in, description_error, sdp_error, code_if, v6_error, family_error}
 use Rattle.call_board.specs.Answers.{offer_ask}
 use Rattle.call_board.specs.Fits.{FitsAt, IsFitting, GivesFor, GivesUndone, demanded, demanded_by}
 use Rattle.call_board.specs.Views.{View, times_leased}
@@ -175,12 +175,17 @@ sdp_sound : (config : Config) (sdp : List ℕ) → sdp_error config sdp ≡ None
 unfolding sdp_error
 sdp_sound config sdp e = fault_none (fault_in (lines_of sdp)) (v6_error config.interface6 (v6_line_in (lines_of sdp))) e
 
+later_none : (a b : Option ErrorCode) → or_else a b ≡ None → b ≡ None
+later_none None b e = e
+later_none (Some code) b e = absurd (let f = e in cc)
+
 -- the description of an offer that is asked has no fault
 pub offer_sound : (config : Config) (too_long : Bool) (pairs : Option Entries) (id from_tag sdp : List ℕ) (options : Options) → asked config too_long pairs ≡ Ok (said.Offer id from_tag sdp options) →
     fault_in (lines_of sdp) ≡ None
 unfolding asked
 offer_sound config too_long pairs id from_tag sdp options is =
-    sdp_sound config sdp (asked_sound config (said.Offer id from_tag sdp options) (command_in too_long pairs) is)
+    sdp_sound config sdp (later_none (family_error options.family config.interface6) (sdp_error config sdp)
+    (asked_sound config (said.Offer id from_tag sdp options) (command_in too_long pairs) is))
 
 demand_case : (config : Config) (h : List BoardEntry) (c : Control) (r : Result Said ErrorCode) → asked config c.too_long c.pairs ≡ r → length (demanded_by h c r).keys ≤ 24
 demand_case config h c (Err code) is = omega arith

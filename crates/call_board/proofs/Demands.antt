@@ -6,12 +6,13 @@ use Rattle.std.proofs.lemmas.List.Sums.{sum_by-append}
 use Rattle.relay_outside.specs.declared.settings.Config.{Config}
 use Rattle.relay_outside.specs.declared.address.Family.{Family}
 use Rattle.relay_outside.specs.declared.address.Family.TheVariants.{V4, V6}
+use Rattle.port_pool.specs.Ports.{family_eq}
 use Rattle.port_pool.specs.declared.holder.Side.{Side}
 use Rattle.port_pool.specs.declared.holder.Holder.{Holder}
 use Rattle.port_pool.specs.Signals.{NewKey}
 use Rattle.offer_answer.specs.Rounds.{NewLeg, KeyPlace}
 use Rattle.call_board.specs.Acts.{Call, Offer, BoardEntry}
-use Rattle.call_board.specs.Pairs.{family_eq, first_of, without_front, fronts, is_short, is_short_of, free_in, leased_new_legs, drawn_keys_from}
+use Rattle.call_board.specs.Pairs.{first_of, without_front, fronts, is_short, is_short_of, free_in, leased_new_legs, drawn_keys_from}
 use Rattle.call_board.proofs.Told.{IsOffer}
 
 abbrev as_one : Bool → ℕ
@@ -46,7 +47,7 @@ next_case : (n : ℕ) (xs : List ℕ) (b : Bool) → as_one b + n ≤ length xs 
 next_case n xs true h = let rest = rest_length xs in omega (arith, rest)
 next_case n xs false h = omega arith
 
-enough_next : (lists : Family → List ℕ) (leg : NewLeg) (legs : List NewLeg) → AreEnough lists (leg ∷ legs) → AreEnough (without_front lists leg.family) legs
+pub enough_next : (lists : Family → List ℕ) (leg : NewLeg) (legs : List NewLeg) → AreEnough lists (leg ∷ legs) → AreEnough (without_front lists leg.family) legs
 enough_next lists leg legs enough family =
     next_case (count_of family legs) (lists family) (family_eq leg.family family)
     (subst (λ n. n ≤ length (lists family)) (count_next family leg legs) (enough family))

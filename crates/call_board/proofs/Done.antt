@@ -23,6 +23,7 @@ use Rattle.call_board.specs.Reports.{Report}
 use Rattle.call_board.specs.Answers.{Answering, Answered, failing, telling, offering, leased_pairs, offer_ask, answer_ask, offer_leased, offer_to, answer_to, deleting, delete_of, nothing_to_end, names_side, reported_legs, query_of, answering, answering_asked, answering_unless, spelled}
 use Rattle.call_board.specs.Fits.{FitsControl, GivesFor, ReadsRequest, asks_after, demanded, demanded_by, is_read, is_request_read}
 use Rattle.call_board.specs.Views.{view_of}
+use Rattle.call_board.specs.Boards.{fronts_for}
 use Rattle.call_board.specs.Plans.{PlansOffer, target}
 use Rattle.call_board.specs.declared.board_plan.BoardPlan.{BoardPlan}
 use Rattle.call_board.proofs.Dues.{IsAnswerDue, offer_leases}
@@ -249,10 +250,10 @@ offer_failed_due config h now c id ask code asks heard is = due_of_offer config 
 pub record IsLeasing (config : Config) (h : List BoardEntry) (c : Control) (id : List ℕ) (ask : OfferAsk) (of : Call) (begins : Bool) (before : List Round) (pairs : List ℕ) : Type 0 where
   pub is : offer_to config h c.given id ask (find_call h id) ≡ offer_leased config h c.given ask of begins before pairs
 
--- by the board's plan of it, for the call of the plan and the front of the free pairs
+-- by the board's plan of it, for the call of the plan and for each leg the front of its family's free pairs
 pub plan_leases : (config : Config) (h : List BoardEntry) (c : Control) (id : List ℕ) (ask : OfferAsk) (p : BoardPlan) → PlansOffer config (view_of config h) id ask (Ok p)
     → IsLeasing config h c id ask (target (view_of config h) id).of (target (view_of config h) id).begins (target (view_of config h) id).rounds
-    (take (length (plan.demand (target (view_of config h) id).rounds ask).pairs) (free config h))
+    (fronts_for config (view_of config h) (plan.demand (target (view_of config h) id).rounds ask).pairs)
 plan_leases config h c id ask p planned = record { is = offer_leases config h c.given id ask p planned }
 
 leased_due : (config : Config) (h : List BoardEntry) (now : ℕ) (c : Control) (id : List ℕ) (ask : OfferAsk) (of : Call) (begins : Bool) (before : List Round) (pairs : List ℕ) (failed drew : Bool)

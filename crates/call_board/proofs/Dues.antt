@@ -11,7 +11,7 @@ use Rattle.ng_command.specs.declared.command.AnswerIn.{AnswerIn}
 use Rattle.ng_reply.specs.declared.code.ErrorCode.{ErrorCode}
 use Rattle.ng_reply.specs.declared.code.ErrorCode.TheVariants.{E9, E13, E14}
 use Rattle.histories.specs.Words.{In, first, or_else}
-use Rattle.offer_answer.specs.Rounds.{Round, OfferAsk, AnswerAsk, NewLeg}
+use Rattle.offer_answer.specs.Rounds.{Round, OfferAsk, AnswerAsk, NewLeg, Demand}
 use Rattle.offer_answer.specs.Demands.{legs_for, new_active_sections}
 use Rattle.offer_answer.specs.Plan as plan
 use Rattle.offer_answer.specs.Plan.{demand}
@@ -19,11 +19,11 @@ use Rattle.offer_answer.specs.Answers.{AsksAnswer}
 use Rattle.call_board.specs.Acts as act
 use Rattle.call_board.specs.Acts.{Call, BoardEntry, Given}
 use Rattle.call_board.specs.Calls.{begun, live, find_call, new_call, rounds, is_ending, lowest_but}
-use Rattle.call_board.specs.Pairs.{family_eq, free, free_in, is_short, is_short_of, leased_new_legs}
+use Rattle.call_board.specs.Pairs.{free, free_in, is_short, is_short_of, leased_new_legs}
 use Rattle.call_board.specs.Replies.{Described}
 use Rattle.call_board.specs.Answers.{Answering, failing, ending_error, leased_pairs, offer_leased, offer_planned, offer_unless, offer_to, answer_unless, answer_to}
 use Rattle.call_board.specs.Views.{View, CallView, call_view, view_of, times_leased, is_of_id, call_of_id, with_calls, goes_on}
-use Rattle.call_board.specs.Boards.{lease_at, front_leases}
+use Rattle.call_board.specs.Boards.{lease_at, fronts_for, leases_at}
 use Rattle.call_board.specs.Plans.{Target, target, target_by, shortage, refusal, fault_or_shortage, board_code, BeginsFor, PlansOffer, PlansAnswer, AnswerPlanFor}
 use Rattle.call_board.specs.NextBoards.{IsNext, taken_in}
 use Rattle.call_board.specs.Whole.{holders_of_new_legs, with_first, with_more}
@@ -34,55 +34,13 @@ use Rattle.call_board.specs.declared.board_plan.NewCall.{NewCall}
 use Rattle.call_board.proofs.Lowest.{lowest_is, lowest_bound}
 use Rattle.call_board.proofs.Calls.{found_live}
 use Rattle.call_board.proofs.Demands.{count_of, count_next}
-use Rattle.call_board.proofs.FreeAfter.{AreV4, fronts_are, free_v4}
 use Rattle.call_board.proofs.Found.{found_by_id}
 
 -- The pairs of an offer.
 
-legs_v4 : (rounds : List Round) (ask : OfferAsk) (sections : List ℕ) → AreV4 (flat_map (legs_for rounds ask) sections)
-legs_v4 rounds ask [] = tt
-legs_v4 rounds ask (section ∷ sections) = (refl, (refl, legs_v4 rounds ask sections))
-
--- all legs that an offer demands pairs for are of IPv4
-pub demand_v4 : (rounds : List Round) (ask : OfferAsk) → AreV4 (demand rounds ask).pairs
-unfolding demand
-demand_v4 rounds ask = legs_v4 rounds ask (new_active_sections rounds ask)
-
--- it leases the front of the free pairs
-pub leased_are : (config : Config) (h : List BoardEntry) (rounds : List Round) (ask : OfferAsk) → leased_pairs config h (demand rounds ask) ≡ take (length (demand rounds ask).pairs) (free config h)
-leased_are config h rounds ask =
-    fronts_are (free_in config h) (demand rounds ask).pairs (demand_v4 rounds ask) ∙ ap (take (length (demand rounds ask).pairs)) (free_v4 config h)
-
-v4_count : (legs : List NewLeg) → AreV4 legs → count_of V4 legs ≡ length legs
-v4_count [] all = refl
-v4_count (leg ∷ legs) all =
-    let rest = v4_count legs all.1 in
-    let next = count_next V4 leg legs in
-    let here : cond (family_eq leg.family V4) 1 0 ≡ 1 = ap {B = ℕ} (λ f. cond (family_eq f V4) 1 0) all.0 in omega (arith, rest, next, here)
-
-v6_count : (legs : List NewLeg) → AreV4 legs → count_of V6 legs ≡ 0
-v6_count [] all = refl
-v6_count (leg ∷ legs) all =
-    let rest = v6_count legs all.1 in
-    let next = count_next V6 leg legs in
-    let here : cond (family_eq leg.family V6) 1 0 ≡ 0 = ap {B = ℕ} (λ f. cond (family_eq f V6) 1 0) all.0 in omega (arith, rest, next, here)
-
-not_below_none : (n : ℕ) → nat_lt n 0 ≡ false
-not_below_none n = grind (arith, nat_tests)
-
-or_false : (a b : Bool) → b ≡ false → (a || b) ≡ a
-or_false true b e = refl
-or_false false b e = e
-
--- pairs are short where fewer are free than the offer demands
-pub short_is : (config : Config) (h : List BoardEntry) (rounds : List Round) (ask : OfferAsk) →
-    is_short (free_in config h) (demand rounds ask).pairs ≡ nat_lt (length (free config h)) (length (demand rounds ask).pairs)
-short_is config h rounds ask =
-    let legs = (demand rounds ask).pairs in
-    or_false (is_short_of (free_in config h) legs V4) (is_short_of (free_in config h) legs V6)
-    (ap (nat_lt (length (free_in config h V6))) (v6_count legs (demand_v4 rounds ask)) ∙ not_below_none (length (free_in config h V6)))
-    ∙ ap (nat_lt (length (free_in config h V4))) (v4_count legs (demand_v4 rounds ask))
-    ∙ ap (λ (ps : List ℕ). nat_lt (length ps) (length legs)) (free_v4 config h)
+-- it leases for each leg the front of its family's free pairs
+pub leased_are : (config : Config) (h : List BoardEntry) (demanded : Demand) → leased_pairs config h demanded ≡ fronts_for config (view_of config h) demanded.pairs
+leased_are config h demanded = refl
 
 -- The call of an offer.
 
@@ -127,11 +85,10 @@ to_target config h given id ask =
 -- the reply to an offer without a fault, by what it lacks
 planned_by : (config : Config) (h : List BoardEntry) (given : Given) (ask : OfferAsk) (of : Call) (new : Bool) (before : List Round) → offer_planned config h given ask of new before
     ≡ cond (new && nat_le config.max_sessions (length (map (call_view h) (live h)))) (failing E14)
-    (cond (nat_lt (length (free config h)) (length (demand before ask).pairs)) (failing E13) (offer_leased config h given ask of new before (leased_pairs config h (demand before ask))))
+    (cond (is_short (free_in config h) (demand before ask).pairs) (failing E13) (offer_leased config h given ask of new before (leased_pairs config h (demand before ask))))
 planned_by config h given ask of new before =
     let due = offer_leased config h given ask of new before (leased_pairs config h (demand before ask)) in
     ap (λ n. cond (new && nat_le config.max_sessions n) (failing E14) (cond (is_short (free_in config h) (demand before ask).pairs) (failing E13) due)) (sym (length-map (live h) (call_view h)))
-    ∙ ap (λ b. cond (new && nat_le config.max_sessions (length (map (call_view h) (live h)))) (failing E14) (cond b (failing E13) due)) (short_is config h before ask)
 
 -- the code of a shortage, or what else is due
 abbrev due_or : Option ErrorCode → Answering → Answering
@@ -149,7 +106,7 @@ fault_case : (config : Config) (h : List BoardEntry) (given : Given) (ask : Offe
 fault_case config h given ask of new before (Some code) = refl
 fault_case config h given ask of new before None =
     planned_by config h given ask of new before
-    ∙ short_case (new && nat_le config.max_sessions (length (map (call_view h) (live h)))) (nat_lt (length (free config h)) (length (demand before ask).pairs))
+    ∙ short_case (new && nat_le config.max_sessions (length (map (call_view h) (live h)))) (is_short (free_in config h) (demand before ask).pairs)
     (offer_leased config h given ask of new before (leased_pairs config h (demand before ask)))
 
 -- an offer is refused as the board refuses it, or it leases its pairs
@@ -174,16 +131,15 @@ offer_fails config h given id ask fault code refused is =
     ∙ ap (λ (o : Option ErrorCode). due_or o (offer_leased config h given ask t.of t.begins t.rounds (leased_pairs config h (demand t.rounds ask))))
     (refused (known fault code is) ∙ is)
 
--- an offer that the board plans leases the front of the free pairs, for the call of its plan
+-- an offer that the board plans leases for each leg the front of its family's free pairs, for the call of its plan
 pub offer_leases : (config : Config) (h : List BoardEntry) (given : Given) (id : List ℕ) (ask : OfferAsk) (p : BoardPlan) → PlansOffer config (view_of config h) id ask (Ok p) →
     offer_to config h given id ask (find_call h id)
     ≡ offer_leased config h given ask (target (view_of config h) id).of (target (view_of config h) id).begins (target (view_of config h) id).rounds
-    (take (length (demand (target (view_of config h) id).rounds ask).pairs) (free config h))
+    (fronts_for config (view_of config h) (demand (target (view_of config h) id).rounds ask).pairs)
 offer_leases config h given id ask p planned =
     let t = target (view_of config h) id in
     due_by config h given id ask t refl
     ∙ ap (λ (o : Option ErrorCode). due_or o (offer_leased config h given ask t.of t.begins t.rounds (leased_pairs config h (demand t.rounds ask)))) planned.0
-    ∙ ap (offer_leased config h given ask t.of t.begins t.rounds) (leased_are config h t.rounds ask)
 
 -- What is due to an answer.
 
@@ -240,9 +196,9 @@ legs_by config h of (p ∷ pairs) (leg ∷ legs) =
     ap (λ rest. record { cell = of.cell; call = of.number; section = leg.section; side = leg.side; pair = p; generation = times_leased h p + 1 } ∷ rest) (legs_by config h of pairs legs)
 
 -- the new legs are made of the leases, leg by leg
-pub legs_leased_are : (config : Config) (h : List BoardEntry) (of : Call) (count : ℕ) (legs : List NewLeg) →
-    leased_new_legs h of (take count (free config h)) legs ≡ holders_of_new_legs of (front_leases config (view_of config h) count) legs
-legs_leased_are config h of count legs = legs_by config h of (take count (free config h)) legs
+pub legs_leased_are : (config : Config) (h : List BoardEntry) (of : Call) (pairs : List ℕ) (legs : List NewLeg) →
+    leased_new_legs h of pairs legs ≡ holders_of_new_legs of (leases_at config (view_of config h) pairs) legs
+legs_leased_are config h of pairs legs = legs_by config h of pairs legs
 
 -- Taking a plan in.
 
@@ -270,7 +226,7 @@ pub next_is : (config : Config) (h : List BoardEntry) (v : View) (id : List ℕ)
 next_is config h v id ask fine begun_is calls_are none =
     let short = no_fault (plan.offer_fault [] ask) (shortage config (view_of config h) true [] ask) fine in
     let room = below_limit config.max_sessions (length (map (call_view h) (live h)))
-    (has_room (nat_le config.max_sessions (length (map (call_view h) (live h)))) (nat_lt (length (free config h)) (length (demand [] ask).pairs)) short) in
+    (has_room (nat_le config.max_sessions (length (map (call_view h) (live h)))) (is_short (free_in config h) (demand [] ask).pairs) short) in
     let cells = map (λ (c : Call). c.cell) (live h) in
     let least = (lowest_is cells).positive in
     let most = lowest_bound cells in

@@ -6,7 +6,7 @@ use Rattle.std.proofs.lemmas.List.{map-append, length-map}
 use Rattle.std.proofs.lemmas.List.Sums.{sum_by-append}
 use Rattle.relay_outside.specs.declared.settings.Config.{Config}
 use Rattle.ng_reply.specs.declared.code.ErrorCode.{ErrorCode}
-use Rattle.histories.specs.Words.{In}
+use Rattle.histories.specs.Words.{In, has}
 use Rattle.histories.proofs.Lists.{equal, equal_if}
 use Rattle.cookie_cache.specs.Keepings.{Keeping, moment_used}
 use Rattle.cookie_cache.specs.Keepings as cache
@@ -32,7 +32,7 @@ use Rattle.call_board.proofs.Calls.{next_open, live_begun, begun_below}
 use Rattle.call_board.proofs.Cells.{live_step, still_live}
 use Rattle.call_board.proofs.Repeats.{repeat_alike}
 use Rattle.call_board.proofs.Idle.{is_idle, idle_changes_nothing, undone_changes}
-use Rattle.call_board.proofs.FreeAfter.{live_once, free_after, leases_front}
+use Rattle.call_board.proofs.FreeAfter.{live_once, free_without}
 use Rattle.call_board.proofs.CallsAfter.{Views, rounds_fresh, rounds_had, dues_fresh, call_after, call_begun, eq_swap, map_alike, changed_map, cleared, cleared_map}
 
 pub view_alike : (v w : View) → v.moment ≡ w.moment → v.begun ≡ w.begun → v.drawn ≡ w.drawn → v.calls ≡ w.calls → v.free ≡ w.free → v.leases ≡ w.leases → v.keepings ≡ w.keepings → v ≡ w
@@ -183,16 +183,13 @@ idle_turn config h now c (act.Answered a) ks idle is = absurd (let e = idle in c
 idle_turn config h now c (act.Deleted of) ks idle is = absurd (let e = idle in cc)
 
 -- how often each pair was leased
-leases_after : (config : Config) (h : List BoardEntry) (e : BoardEntry) (count : ℕ) → FitsBoard config h e → length (leased_by_act (act.act e)) ≡ count →
-    times_leased (e ∷ h) ≡ (with_leases (view_of config h) count).leases
-leases_after config h e count fits is = λ i pair. each pair i
+leases_after : (config : Config) (h : List BoardEntry) (e : BoardEntry) → times_leased (e ∷ h) ≡ (with_leases (view_of config h) (leased_by_act (act.act e))).leases
+leases_after config h e = λ i pair. each pair i
   where
-    each : (pair : ℕ) → times_leased (e ∷ h) pair ≡ (with_leases (view_of config h) count).leases pair
+    each : (pair : ℕ) → times_leased (e ∷ h) pair ≡ (with_leases (view_of config h) (leased_by_act (act.act e))).leases pair
     each pair =
         let sum = sum_by-append (λ (p : ℕ). cond (p == pair) 1 0) (leased_by_act (act.act e)) (all_leased h) in
-        let front : count_by (λ p. p == pair) (leased_by_act (act.act e)) ≡ count_by (λ p. p == pair) (take count (free config h)) =
-        ap (count_by (λ p. p == pair)) (leases_front config h e fits ∙ ap (λ n. take n (free config h)) is) in
-        omega (arith, sum, front)
+        omega (arith, sum)
 
 undone_turn : (config : Config) (h : List BoardEntry) (now : ℕ) (c : Control) (code : ErrorCode) (leases : List Lease) (draws : List (List ℕ)) → IsFitting config h →
     FitsBoard config h (turn now c (act.Undone code leases draws)) → board_last_moment h ≤ now →
@@ -200,18 +197,16 @@ undone_turn : (config : Config) (h : List BoardEntry) (now : ℕ) (c : Control) 
 undone_turn config h now c code leases draws old fits late =
     let e = turn now c (act.Undone code leases draws) in
     let pairs = map (λ (lease : Lease). lease.pair) leases in
-    let count : length pairs ≡ length leases = length-map leases (λ (lease : Lease). lease.pair) in
-    let all_leased = with_leases (view_at_moment (view_of config h) now) (length leases) in
+    let all_leased = with_leases (view_at_moment (view_of config h) now) pairs in
     let u = undone_changes config e h code leases draws (its_turn now c (act.Undone code leases draws)) (fits, old) in
     view_alike (view_of config (e ∷ h)) (with_reply now c (with_returned (more_drawn all_leased (length draws)) pairs)) refl (ap length (append-nil (begun h)))
     (length-append (drawn h) draws) (ap (map (call_view h)) u.same_live)
-    (free_after config h e old fits ∙ ap (λ n. drop n (free config h) ++ pairs) count)
-    (leases_after config h e (length leases) fits count) (kept_now h now c late)
+    (free_without config h e old fits)
+    (leases_after config h e) (kept_now h now c late)
     ∙ ap (λ v. with_reply now c (with_returned v pairs)) (sym (draws_are all_leased (length draws)))
 
-drop_none : (xs : List ℕ) → drop 0 xs ≡ xs
-drop_none [] = refl
-drop_none (x ∷ xs) = refl
+none_leased : (xs : List ℕ) → filter (λ p. not (has [] p)) xs ≡ xs
+none_leased xs = filter_whole (λ p. not (has [] p)) xs (λ p i. refl)
 
 -- what an act that closes legs of one call gives back
 closed_pairs : (h : List BoardEntry) (e : BoardEntry) (of : Call) → map pair_of (closed_of h e of ++ []) ++ [] ≡ map pair_of (closed_of h e of)
@@ -244,8 +239,8 @@ answered_turn config h now c a old fits late =
     let e = turn now c (act.Answered a) in
     view_alike (view_of config (e ∷ h)) (view_after h e (view_of config h)) refl (ap length (append-nil (begun h))) (ap length (append-nil (drawn h)))
     (ap (map (call_view (e ∷ h))) (live_step h e ∙ live_same h) ∙ on_again h e a.of (round.Answered a.ask) (live h) (answered_call h now c a) (live_once config h old))
-    (free_after config h e old fits
-    ∙ ap (λ (ps : List ℕ). ps ++ (map pair_of (closed_of h e a.of ++ []) ++ [])) (drop_none (free config h))
+    (free_without config h e old fits
+    ∙ ap (λ (ps : List ℕ). ps ++ (map pair_of (closed_of h e a.of ++ []) ++ [])) (none_leased (free config h))
     ∙ ap (λ (ps : List ℕ). free config h ++ ps) (closed_pairs h e a.of))
     refl (kept_now h now c late)
 
@@ -314,25 +309,23 @@ offer_begins config h now c o old is_new number =
 -- an offer, once it is said whether it began its call
 offer_with : (config : Config) (h : List BoardEntry) (now : ℕ) (c : Control) (o : Offer) (taken : View) → IsFitting config h → FitsBoard config h (turn now c (act.Offered o)) → board_last_moment h ≤ now →
     OfferCalls h (turn now c (act.Offered o)) o taken.begun taken.calls → taken.moment ≡ max now (board_last_moment h) → taken.drawn ≡ length (drawn h) + length o.keys →
-    taken.free ≡ drop (length o.legs) (free config h) → taken.leases ≡ (with_leases (view_of config h) (length o.legs)).leases → taken.keepings ≡ keepings h →
+    taken.free ≡ filter (λ p. not (has (map pair_of o.legs) p)) (free config h) → taken.leases ≡ (with_leases (view_of config h) (map pair_of o.legs)).leases → taken.keepings ≡ keepings h →
     view_of config (turn now c (act.Offered o) ∷ h) ≡ with_reply now c (with_closed h (turn now c (act.Offered o)) o.of taken)
 offer_with config h now c o taken old fits late calls moment_is drawn_is free_is leases_are keepings_are =
     let e = turn now c (act.Offered o) in
-    let legs : length (map pair_of o.legs) ≡ length o.legs = length-map o.legs pair_of in
     let keys : length (map (λ (key : NewKey). key.bytes) o.keys) ≡ length o.keys = length-map o.keys (λ (key : NewKey). key.bytes) in
     view_alike (view_of config (e ∷ h)) (with_reply now c (with_closed h e o.of taken)) (sym moment_is) calls.begun_is
     (length-append (drawn h) (map (λ (key : NewKey). key.bytes) o.keys) ∙ ap (λ n. length (drawn h) + n) keys ∙ sym drawn_is)
     calls.calls_are
-    (free_after config h e old fits
-    ∙ ap (λ (ps : List ℕ). drop (length (map pair_of o.legs)) (free config h) ++ ps) (closed_pairs h e o.of)
-    ∙ ap (λ n. drop n (free config h) ++ map pair_of (closed_of h e o.of)) legs
+    (free_without config h e old fits
+    ∙ ap (λ (ps : List ℕ). filter (λ p. not (has (map pair_of o.legs) p)) (free config h) ++ ps) (closed_pairs h e o.of)
     ∙ ap (λ (ps : List ℕ). ps ++ map pair_of (closed_of h e o.of)) (sym free_is))
-    (leases_after config h e (length o.legs) fits legs ∙ sym leases_are)
+    (leases_after config h e ∙ sym leases_are)
     (kept_now h now c late ∙ ap (λ ks. keeping c (moment_used ks now) ∷ ks) (sym keepings_are))
 
 -- the board with the offer's leases and draws
 abbrev leased_for : Config → List BoardEntry → ℕ → Offer → View
-leased_for config h now o = more_drawn (with_leases (view_at_moment (view_of config h) now) (length o.legs)) (length o.keys)
+leased_for config h now o = more_drawn (with_leases (view_at_moment (view_of config h) now) (map pair_of o.legs)) (length o.keys)
 
 abbrev taken_by : Bool → Offer → ℕ → View → View
 taken_by new o now v = cond new (with_first o.of (made_by o) now v) (with_more o.of (made_by o) now v)
@@ -356,7 +349,7 @@ offered_turn config h now c o old fits late =
     let shown = offer_told config h e o fits refl in
     offer_case config h now c o shown.id old fits late shown.call_is
     ∙ ap (λ v. with_reply now c (with_closed h e o.of (taken_by o.begins o now v)))
-    (sym (draws_are (with_leases (view_at_moment (view_of config h) now) (length o.legs)) (length o.keys)))
+    (sym (draws_are (with_leases (view_at_moment (view_of config h) now) (map pair_of o.legs)) (length o.keys)))
 
 -- Calls that are ending.
 
@@ -398,8 +391,8 @@ deleted_turn config h now c of old fits late =
     let e = turn now c (act.Deleted of) in
     view_alike (view_of config (e ∷ h)) (view_after h e (view_of config h)) refl (ap length (append-nil (begun h))) (ap length (append-nil (drawn h)))
     (ap (map (call_view h)) (live_step h e ∙ append-nil (still_live e h)) ∙ sym (cleared_map (call_view h) (of ∷ []) (live h) (sees h) (live_once config h old)))
-    (free_after config h e old fits
-    ∙ ap (λ (ps : List ℕ). ps ++ (map pair_of (closed_of h e of ++ []) ++ [])) (drop_none (free config h))
+    (free_without config h e old fits
+    ∙ ap (λ (ps : List ℕ). ps ++ (map pair_of (closed_of h e of ++ []) ++ [])) (none_leased (free config h))
     ∙ ap (λ (ps : List ℕ). free config h ++ ps) (closed_pairs h e of))
     refl (kept_now h now c late)
 
@@ -411,9 +404,9 @@ stopping now calls = record { moment = now; event = Stop calls }
 
 -- what calls that end give back
 ended_free : (config : Config) (h : List BoardEntry) (e : BoardEntry) (calls : List Call) →
-    drop 0 (free config h) ++ (map pair_of (flat_map (closed_of h e) calls) ++ []) ≡ free config h ++ map pair_of (flat_map (closed_of h e) calls)
+    filter (λ p. not (has [] p)) (free config h) ++ (map pair_of (flat_map (closed_of h e) calls) ++ []) ≡ free config h ++ map pair_of (flat_map (closed_of h e) calls)
 ended_free config h e calls =
-    ap (λ (ps : List ℕ). ps ++ (map pair_of (flat_map (closed_of h e) calls) ++ [])) (drop_none (free config h))
+    ap (λ (ps : List ℕ). ps ++ (map pair_of (flat_map (closed_of h e) calls) ++ [])) (none_leased (free config h))
     ∙ ap (λ (ps : List ℕ). free config h ++ ps) (append-nil (map pair_of (flat_map (closed_of h e) calls)))
 
 ticked : (config : Config) (h : List BoardEntry) (now : ℕ) (calls : List Call) → IsFitting config h → FitsBoard config h (ending now calls) →
@@ -422,7 +415,7 @@ ticked config h now calls old fits =
     let e = ending now calls in
     view_alike (view_of config (e ∷ h)) (ended_view h e calls (view_at_moment (view_of config h) now)) refl (ap length (append-nil (begun h))) (ap length (append-nil (drawn h)))
     (ap (map (call_view h)) (live_step h e ∙ append-nil (still_live e h)) ∙ sym (cleared_map (call_view h) calls (live h) (sees h) (live_once config h old)))
-    (free_after config h e old fits ∙ ended_free config h e calls) refl refl
+    (free_without config h e old fits ∙ ended_free config h e calls) refl refl
     ∙ sym (ended_are h e calls (view_at_moment (view_of config h) now))
 
 stopped : (config : Config) (h : List BoardEntry) (now : ℕ) (calls : List Call) → IsFitting config h → FitsBoard config h (stopping now calls) → now ≡ board_last_moment h →
@@ -431,7 +424,7 @@ stopped config h now calls old fits last =
     let e = stopping now calls in
     view_alike (view_of config (e ∷ h)) (ended_view h e calls (view_of config h)) (omega (arith, last)) (ap length (append-nil (begun h))) (ap length (append-nil (drawn h)))
     (ap (map (call_view h)) (live_step h e ∙ append-nil (still_live e h)) ∙ sym (cleared_map (call_view h) calls (live h) (sees h) (live_once config h old)))
-    (free_after config h e old fits ∙ ended_free config h e calls) refl refl
+    (free_without config h e old fits ∙ ended_free config h e calls) refl refl
     ∙ sym (ended_are h e calls (view_of config h))
 
 -- Any entry.

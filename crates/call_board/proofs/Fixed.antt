@@ -11,12 +11,12 @@ use Rattle.ng_command.specs.declared.command.Options.{Options}
 use Rattle.ng_command.specs.Meanings as said
 use Rattle.ng_command.specs.Meanings.{Said}
 use Rattle.ng_reply.specs.declared.code.ErrorCode.{ErrorCode}
-use Rattle.ng_reply.specs.declared.code.ErrorCode.TheVariants.{E8, E10, E11, E12, E13, E14, E17}
+use Rattle.ng_reply.specs.declared.code.ErrorCode.TheVariants.{E8, E10, E11, E12, E13, E14, E17, E20}
 use Rattle.sdes_lines.specs.declared.crypto_line.CryptoLine.{CryptoLine}
 use Rattle.offer_answer.specs.Rounds.{Round, OfferAsk, AnswerAsk}
 use Rattle.offer_answer.specs.Sides.{MadeOffer, last_offer, is_some_sides}
 use Rattle.offer_answer.specs.Sections.{active_sections, all_sections, section_count, committed_count}
-use Rattle.offer_answer.specs.Faults.{is_strangers, lacks_line, may_answer, takes_no_line, fault_of_answer_to}
+use Rattle.offer_answer.specs.Faults.{is_strangers, lacks_line, may_answer, takes_no_line, fault_of_answer_to, misfits_offerer, misfits_answerer}
 use Rattle.offer_answer.specs.Plan.{offer_fault, answer_fault}
 use Rattle.offer_answer.specs.Plan as plan
 use Rattle.call_board.specs.Acts as act
@@ -116,14 +116,15 @@ planned_heard config h given ask of begins before false false =
     leased_heard config h given ask of begins before (leased_pairs config h (plan.demand before ask)) (list_any not given.opens) given.draw_failed
 
 -- the faults that stand before the choice
-offer_alike : (config : Config) (h : List BoardEntry) (given : Given) (ask other : OfferAsk) (of : Call) (begins : Bool) (before : List Round) (stranger fewer lacks lacks_too : Bool)
-    → is_request_read (offer_unless config h given ask of begins before (cond stranger (Some E10) (cond fewer (Some E12) (cond lacks (Some E8) None)))).act ≡ false
-    → offer_unless config h given other of begins before (cond stranger (Some E10) (cond fewer (Some E12) (cond lacks_too (Some E8) None)))
-    ≡ offer_unless config h given ask of begins before (cond stranger (Some E10) (cond fewer (Some E12) (cond lacks (Some E8) None)))
-offer_alike config h given ask other of begins before true fewer lacks lacks_too unheard = refl
-offer_alike config h given ask other of begins before false true lacks lacks_too unheard = refl
-offer_alike config h given ask other of begins before false false true lacks_too unheard = absurd (let e : true ≡ false = unheard in cc)
-offer_alike config h given ask other of begins before false false false lacks_too unheard =
+offer_alike : (config : Config) (h : List BoardEntry) (given : Given) (ask other : OfferAsk) (of : Call) (begins : Bool) (before : List Round) (stranger fewer differs lacks lacks_too : Bool)
+    → is_request_read (offer_unless config h given ask of begins before (cond stranger (Some E10) (cond fewer (Some E12) (cond differs (Some E20) (cond lacks (Some E8) None))))).act ≡ false
+    → offer_unless config h given other of begins before (cond stranger (Some E10) (cond fewer (Some E12) (cond differs (Some E20) (cond lacks_too (Some E8) None))))
+    ≡ offer_unless config h given ask of begins before (cond stranger (Some E10) (cond fewer (Some E12) (cond differs (Some E20) (cond lacks (Some E8) None))))
+offer_alike config h given ask other of begins before true fewer differs lacks lacks_too unheard = refl
+offer_alike config h given ask other of begins before false true differs lacks lacks_too unheard = refl
+offer_alike config h given ask other of begins before false false true lacks lacks_too unheard = refl
+offer_alike config h given ask other of begins before false false false true lacks_too unheard = absurd (let e : true ≡ false = unheard in cc)
+offer_alike config h given ask other of begins before false false false false lacks_too unheard =
     absurd (let e = unheard in
     let f = planned_heard config h given ask of begins before (begins && nat_le config.max_sessions (length (live h))) (is_short (free_in config h) (plan.demand before ask).pairs) in
     let clash = sym e ∙ f in cc)
@@ -136,6 +137,7 @@ unfolding offer_fault
 offer_same config h given from_tag sdp options chosen others of begins before unheard =
     offer_alike config h given (offer_ask from_tag sdp options chosen) (offer_ask from_tag sdp options others) of begins before
     (is_strangers before (offer_ask from_tag sdp options chosen)) (nat_lt (section_count sdp) (committed_count before))
+    (list_any (misfits_offerer before (offer_ask from_tag sdp options chosen)) (active_sections sdp))
     (list_any (lacks_line (offer_ask from_tag sdp options chosen)) (active_sections sdp)) (list_any (lacks_line (offer_ask from_tag sdp options others)) (active_sections sdp)) unheard
 
 ending_same : (config : Config) (h : List BoardEntry) (given : Given) (from_tag sdp : List ℕ) (options : Options) (chosen others : List (Option CryptoLine)) (of : Call) (before : List Round) (ending : Bool)
@@ -152,36 +154,38 @@ offers_same config h given id from_tag sdp options chosen others None unheard = 
 offers_same config h given id from_tag sdp options chosen others (Some of) unheard =
     ending_same config h given from_tag sdp options chosen others of (rounds h of.number) (is_ending h of.number) unheard
 
-answer_alike : (config : Config) (ask other : AnswerAsk) (of : Call) (before : List Round) (wrong fewer takes_none takes_none_too : Bool)
-    → is_request_read (answer_unless config ask of before (cond wrong (Some E11) (cond fewer (Some E12) (cond takes_none (Some E8) None)))).act ≡ false
-    → answer_unless config other of before (cond wrong (Some E11) (cond fewer (Some E12) (cond takes_none_too (Some E8) None)))
-    ≡ answer_unless config ask of before (cond wrong (Some E11) (cond fewer (Some E12) (cond takes_none (Some E8) None)))
-answer_alike config ask other of before true fewer takes_none takes_none_too unheard = refl
-answer_alike config ask other of before false true takes_none takes_none_too unheard = refl
-answer_alike config ask other of before false false true takes_none_too unheard = absurd (let e : true ≡ false = unheard in cc)
-answer_alike config ask other of before false false false takes_none_too unheard = absurd (let e : true ≡ false = unheard in cc)
+answer_alike : (config : Config) (ask other : AnswerAsk) (of : Call) (before : List Round) (wrong fewer differs takes_none takes_none_too : Bool)
+    → is_request_read (answer_unless config ask of before (cond wrong (Some E11) (cond fewer (Some E12) (cond differs (Some E20) (cond takes_none (Some E8) None))))).act ≡ false
+    → answer_unless config other of before (cond wrong (Some E11) (cond fewer (Some E12) (cond differs (Some E20) (cond takes_none_too (Some E8) None))))
+    ≡ answer_unless config ask of before (cond wrong (Some E11) (cond fewer (Some E12) (cond differs (Some E20) (cond takes_none (Some E8) None))))
+answer_alike config ask other of before true fewer differs takes_none takes_none_too unheard = refl
+answer_alike config ask other of before false true differs takes_none takes_none_too unheard = refl
+answer_alike config ask other of before false false true takes_none takes_none_too unheard = refl
+answer_alike config ask other of before false false false true takes_none_too unheard = absurd (let e : true ≡ false = unheard in cc)
+answer_alike config ask other of before false false false false takes_none_too unheard = absurd (let e : true ≡ false = unheard in cc)
 
-abbrev answer_fault_by : Bool → Option MadeOffer → AnswerAsk → Option ErrorCode
-answer_fault_by unknown made ask = cond unknown (Some E10) (elim made [ None ↦ Some E10 | Some offer ↦ fault_of_answer_to offer ask ])
+abbrev answer_fault_by : List Round → Bool → Option MadeOffer → AnswerAsk → Option ErrorCode
+answer_fault_by before unknown made ask = cond unknown (Some E10) (elim made [ None ↦ Some E10 | Some offer ↦ fault_of_answer_to before offer ask ])
 
 answer_same : (config : Config) (from_tag to_tag sdp : List ℕ) (options : Options) (chosen others : List (Option CryptoLine)) (of : Call) (before : List Round)
     (unknown : Bool) (made : Option MadeOffer)
-    → is_request_read (answer_unless config (answer_ask from_tag to_tag sdp options chosen) of before (answer_fault_by unknown made (answer_ask from_tag to_tag sdp options chosen))).act ≡ false
-    → answer_unless config (answer_ask from_tag to_tag sdp options others) of before (answer_fault_by unknown made (answer_ask from_tag to_tag sdp options others))
-    ≡ answer_unless config (answer_ask from_tag to_tag sdp options chosen) of before (answer_fault_by unknown made (answer_ask from_tag to_tag sdp options chosen))
+    → is_request_read (answer_unless config (answer_ask from_tag to_tag sdp options chosen) of before (answer_fault_by before unknown made (answer_ask from_tag to_tag sdp options chosen))).act ≡ false
+    → answer_unless config (answer_ask from_tag to_tag sdp options others) of before (answer_fault_by before unknown made (answer_ask from_tag to_tag sdp options others))
+    ≡ answer_unless config (answer_ask from_tag to_tag sdp options chosen) of before (answer_fault_by before unknown made (answer_ask from_tag to_tag sdp options chosen))
 answer_same config from_tag to_tag sdp options chosen others of before true made unheard = refl
 answer_same config from_tag to_tag sdp options chosen others of before false None unheard = refl
 answer_same config from_tag to_tag sdp options chosen others of before false (Some offer) unheard =
     answer_alike config (answer_ask from_tag to_tag sdp options chosen) (answer_ask from_tag to_tag sdp options others) of before
     (not (bytes_eq from_tag offer.ask.from_tag)) (not (section_count sdp == section_count offer.ask.sdp))
+    (list_any (misfits_answerer before offer (answer_ask from_tag to_tag sdp options chosen)) (active_sections sdp))
     (list_any (takes_no_line offer (answer_ask from_tag to_tag sdp options chosen)) (all_sections sdp))
     (list_any (takes_no_line offer (answer_ask from_tag to_tag sdp options others)) (all_sections sdp)) unheard
 
 ending_answer_same : (config : Config) (from_tag to_tag sdp : List ℕ) (options : Options) (chosen others : List (Option CryptoLine)) (of : Call) (before : List Round)
     (unknown : Bool) (made : Option MadeOffer) (ending : Bool)
-    → is_request_read (answer_unless config (answer_ask from_tag to_tag sdp options chosen) of before (or_else (ending_error ending) (answer_fault_by unknown made (answer_ask from_tag to_tag sdp options chosen)))).act ≡ false
-    → answer_unless config (answer_ask from_tag to_tag sdp options others) of before (or_else (ending_error ending) (answer_fault_by unknown made (answer_ask from_tag to_tag sdp options others)))
-    ≡ answer_unless config (answer_ask from_tag to_tag sdp options chosen) of before (or_else (ending_error ending) (answer_fault_by unknown made (answer_ask from_tag to_tag sdp options chosen)))
+    → is_request_read (answer_unless config (answer_ask from_tag to_tag sdp options chosen) of before (or_else (ending_error ending) (answer_fault_by before unknown made (answer_ask from_tag to_tag sdp options chosen)))).act ≡ false
+    → answer_unless config (answer_ask from_tag to_tag sdp options others) of before (or_else (ending_error ending) (answer_fault_by before unknown made (answer_ask from_tag to_tag sdp options others)))
+    ≡ answer_unless config (answer_ask from_tag to_tag sdp options chosen) of before (or_else (ending_error ending) (answer_fault_by before unknown made (answer_ask from_tag to_tag sdp options chosen)))
 ending_answer_same config from_tag to_tag sdp options chosen others of before unknown made true unheard = refl
 ending_answer_same config from_tag to_tag sdp options chosen others of before unknown made false unheard =
     answer_same config from_tag to_tag sdp options chosen others of before unknown made unheard

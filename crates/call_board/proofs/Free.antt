@@ -6,12 +6,12 @@ use Rattle.relay_outside.specs.declared.address.Family.{Family}
 use Rattle.relay_outside.specs.declared.address.Family.TheVariants.{V4, V6}
 use Rattle.histories.specs.Words.{In, here, there, has, last_once, numbers}
 use Rattle.histories.proofs.Lists.{in_left, in_right, in_append, filtered, maps, mapped, it_has}
-use Rattle.port_pool.specs.Ports.{pair_count}
+use Rattle.port_pool.specs.Ports.{pair_count, pair_family, family_eq, pairs_of_family}
 use Rattle.port_pool.specs.declared.holder.Holder.{Holder}
 use Rattle.offer_answer.specs.Rounds.{NewLeg}
 use Rattle.call_board.specs.Acts as act
 use Rattle.call_board.specs.Acts.{Call, Lease, Offer, Act, BoardEntry, act}
-use Rattle.call_board.specs.Pairs.{held, legs_of_act, closed, all_leased, leased_by_act, returned, undone_pairs, free, free_in, pair_family, family_eq, first_of, without_front, fronts, next_lease, leased_new_legs, closes_leg}
+use Rattle.call_board.specs.Pairs.{held, legs_of_act, closed, all_leased, leased_by_act, returned, undone_pairs, free, free_in, first_of, without_front, fronts, next_lease, leased_new_legs, closes_leg}
 use Rattle.call_board.specs.Fits.{FitsBoard, IsFitting}
 use Rattle.call_board.proofs.Once.{Once, once_equal, once_append, once_some, once_filtered, once_numbers, in_numbers, once_last, last_in}
 use Rattle.call_board.proofs.Told.{Tells}
@@ -115,7 +115,7 @@ record IsFront (lists : Family → List ℕ) (p : ℕ) : Type 0 where
   family : Family
   is_in : In p (lists family)
 
-in_first : (p : ℕ) (xs : List ℕ) → In p (first_of xs) → In p xs
+pub in_first : (p : ℕ) (xs : List ℕ) → In p (first_of xs) → In p xs
 in_first p [] i = elim i [ ]
 in_first p (x ∷ xs) (here e) = here e
 in_first p (x ∷ xs) (there i) = elim i [ ]
@@ -143,9 +143,9 @@ front_in lists (leg ∷ legs) p i =
     (in_append (first_of (lists leg.family)) (fronts (without_front lists leg.family) legs) i)
 
 -- each family's list has each number once, and no number stands in two
-record AreApart (lists : Family → List ℕ) : Type 0 where
-  each : (family : Family) → Once (lists family)
-  apart : (f g : Family) (p : ℕ) → In p (lists f) → In p (lists g) → f ≡ g
+pub record AreApart (lists : Family → List ℕ) : Type 0 where
+  pub each : (family : Family) → Once (lists family)
+  pub apart : (f g : Family) (p : ℕ) → In p (lists f) → In p (lists g) → f ≡ g
 
 once_rest : (xs : List ℕ) → Once xs → Once (drop 1 xs)
 once_rest [] once = tt
@@ -155,7 +155,7 @@ once_without : (xs : List ℕ) (b : Bool) → Once xs → Once (cond b (drop 1 x
 once_without xs true once = once_rest xs once
 once_without xs false once = once
 
-apart_without : (lists : Family → List ℕ) (taken : Family) → AreApart lists → AreApart (without_front lists taken)
+pub apart_without : (lists : Family → List ℕ) (taken : Family) → AreApart lists → AreApart (without_front lists taken)
 apart_without lists taken a = record {
   each = λ family. once_without (lists family) (family_eq taken family) (a.each family);
   apart = λ f g p i j. a.apart f g p (in_without lists taken f p i) (in_without lists taken g p j);
@@ -180,31 +180,39 @@ first_apart lists taken p a i front =
     let at : In p (without_front lists taken taken) = subst (λ f. In p (without_front lists taken f)) (sym same) front.is_in in
     first_not_rest p (lists taken) (a.each taken) i (subst (λ b. In p (cond b (drop 1 (lists taken)) (lists taken))) (eq_families taken) at)
 
-fronts_once : (lists : Family → List ℕ) (legs : List NewLeg) → AreApart lists → Once (fronts lists legs)
+pub fronts_once : (lists : Family → List ℕ) (legs : List NewLeg) → AreApart lists → Once (fronts lists legs)
 fronts_once lists [] a = tt
 fronts_once lists (leg ∷ legs) a =
     once_append (first_of (lists leg.family)) (fronts (without_front lists leg.family) legs) (once_first (lists leg.family))
     (fronts_once (without_front lists leg.family) legs (apart_without lists leg.family a))
     (λ p i j. first_apart lists leg.family p a i (front_in (without_front lists leg.family) legs p j))
 
-family_if : (f g : Family) → family_eq f g ≡ true → f ≡ g
+pub family_if : (f g : Family) → family_eq f g ≡ true → f ≡ g
 family_if V4 V4 h = refl
 family_if V6 V6 h = refl
 family_if V4 V6 h = absurd (let e = h in cc)
 family_if V6 V4 h = absurd (let e = h in cc)
 
-families_apart : (config : Config) (h : List BoardEntry) → AreApart (free_in config h)
-families_apart config h = record {
-  each = λ family. once_some (λ p. family_eq (pair_family config p) family) (free config h) (free_once config h);
+-- the pairs of each family, where each stands once
+pub pairs_apart : (config : Config) (pairs : List ℕ) → Once pairs → AreApart (pairs_of_family config pairs)
+pairs_apart config pairs once = record {
+  each = λ family. once_some (λ p. family_eq (pair_family config p) family) pairs once;
   apart = λ f g p i j.
-      sym (family_if (pair_family config p) f (filtered (λ q. family_eq (pair_family config q) f) (free config h) i).1)
-      ∙ family_if (pair_family config p) g (filtered (λ q. family_eq (pair_family config q) g) (free config h) j).1;
+      sym (family_if (pair_family config p) f (filtered (λ q. family_eq (pair_family config q) f) pairs i).1)
+      ∙ family_if (pair_family config p) g (filtered (λ q. family_eq (pair_family config q) g) pairs j).1;
 }
+
+pub families_apart : (config : Config) (h : List BoardEntry) → AreApart (free_in config h)
+families_apart config h = pairs_apart config (free config h) (free_once config h)
+
+-- a front of some pairs' families is one of these pairs
+pub front_among : (config : Config) (pairs : List ℕ) (legs : List NewLeg) (p : ℕ) → In p (fronts (pairs_of_family config pairs) legs) → In p pairs
+front_among config pairs legs p i = let f = front_in (pairs_of_family config pairs) legs p i in
+    (filtered (λ q. family_eq (pair_family config q) f.family) pairs f.is_in).0
 
 -- a front of the free pairs is free
 pub front_free : (config : Config) (h : List BoardEntry) (legs : List NewLeg) (p : ℕ) → In p (fronts (free_in config h) legs) → In p (free config h)
-front_free config h legs p i = let f = front_in (free_in config h) legs p i in
-    (filtered (λ q. family_eq (pair_family config q) f.family) (free config h) f.is_in).0
+front_free config h legs p i = front_among config (free config h) legs p i
 
 -- What an entry leases was free.
 

@@ -1,12 +1,10 @@
--- Which pairs are free after an entry, in their order: those after the ones that it leased, then those that it gave back.
+-- Which pairs are free after an entry, in their order: those that it did not lease, then those that it gave back.
 use Rattle.std.proofs.Common.{◌≡◌, ◌∙◌, refl, sym, ap, subst, ℕ, zero, suc, ◌+◌, ◌⊎◌, inl, inr, List, [], ◌∷◌, ◌++◌, map, filter, take, drop, length, Bool, true, false, cond, not, arith, append_assoc}
 use Rattle.std.specs.Prelude.{◌&&◌, ◌||◌}
 use Rattle.std.specs.List.{flat_map}
 use Rattle.std.proofs.lemmas.List.{map-append}
 use Rattle.std.proofs.lemmas.List.Elements.{filter-append}
 use Rattle.relay_outside.specs.declared.settings.Config.{Config}
-use Rattle.relay_outside.specs.declared.address.Family.{Family}
-use Rattle.relay_outside.specs.declared.address.Family.TheVariants.{V4, V6}
 use Rattle.histories.specs.Words.{In, here, there, has, last_once, numbers}
 use Rattle.histories.proofs.Lists.{in_left, in_right, in_append, maps, mapped, spread, spreads, it_has, has_it}
 use Rattle.port_pool.specs.Ports.{pair_count}
@@ -15,7 +13,7 @@ use Rattle.offer_answer.specs.Rounds.{NewLeg}
 use Rattle.call_board.specs.Acts as act
 use Rattle.call_board.specs.Acts.{Call, Lease, Offer, Act, BoardEvent, Turn, Tick, Stop, BoardEntry, act}
 use Rattle.call_board.specs.Calls.{live, ended_by_act}
-use Rattle.call_board.specs.Pairs.{held, legs_of_act, closes_leg, closed, closed_of, calls_in, signalled_by, all_leased, leased_by_act, returned, undone_pairs, free, free_in, first_of, without_front, fronts, is_short, family_eq, next_lease, leased_new_legs}
+use Rattle.call_board.specs.Pairs.{held, legs_of_act, closes_leg, closed, closed_of, calls_in, signalled_by, all_leased, leased_by_act, returned, undone_pairs, free, free_in, fronts, next_lease, leased_new_legs}
 use Rattle.call_board.specs.Fits.{FitsBoard, FitsAt, IsFitting}
 use Rattle.call_board.proofs.Once.{Once, once_append, once_filtered, once_numbers}
 use Rattle.call_board.proofs.Sieves.{filter_both, filter_alike, filter_whole, has_append, is_out, last_append, last_same, without_taken}
@@ -23,8 +21,7 @@ use Rattle.call_board.proofs.Told.{Tells}
 use Rattle.call_board.proofs.Tells.{tells}
 use Rattle.call_board.proofs.Calls.{begun_numbers}
 use Rattle.call_board.proofs.Held.{held_split, held_stays, closed_held, closed_of_held, closes_held}
-use Rattle.call_board.proofs.Free.{free_once, free_not_held, legs_leased, undone_leased, leased_free, held_once, held_apart}
-use Rattle.call_board.proofs.Demands.{count_of, count_next, enough_of, fronts_length}
+use Rattle.call_board.proofs.Free.{free_once, fronts_once, families_apart, new_legs_once, free_not_held, legs_leased, undone_leased, leased_free, held_once, held_apart}
 
 abbrev pair_of : Holder → ℕ
 pair_of leg = leg.pair
@@ -104,90 +101,6 @@ pub pairs_leased : (h : List BoardEntry) (pairs : List ℕ) → map (λ (lease :
 pairs_leased h [] = refl
 pairs_leased h (p ∷ pairs) = ap (λ ps. p ∷ ps) (pairs_leased h pairs)
 
--- all of these legs are of IPv4
-abbrev pub AreV4 : List NewLeg → Type 0
-AreV4 [] = Unit {0}
-AreV4 (leg ∷ legs) = (leg.family ≡ V4) × AreV4 legs
-
-front_next : (n : ℕ) (xs : List ℕ) → first_of xs ++ take n (drop 1 xs) ≡ take (suc n) xs
-front_next zero [] = refl
-front_next zero (x ∷ []) = refl
-front_next zero (x ∷ y ∷ xs) = refl
-front_next (suc n) [] = refl
-front_next (suc n) (x ∷ xs) = refl
-
-none_taken : (xs : List ℕ) → [] ≡ take 0 xs
-none_taken [] = refl
-none_taken (x ∷ xs) = refl
-
--- the fronts for legs of IPv4 are the front of its list
-pub fronts_are : (lists : Family → List ℕ) (legs : List NewLeg) → AreV4 legs → fronts lists legs ≡ take (length legs) (lists V4)
-fronts_are lists [] all = none_taken (lists V4)
-fronts_are lists (leg ∷ legs) all =
-    ap (λ (f : Family). first_of (lists f) ++ fronts (without_front lists f) legs) all.0
-    ∙ ap (λ (ps : List ℕ). first_of (lists V4) ++ ps) (fronts_are (without_front lists V4) legs all.1)
-    ∙ front_next (length legs) (lists V4)
-
-family_case : (f : Family) (legs : List NewLeg) (n : ℕ) → cond (family_eq f V6) 1 0 + n ≡ 0 → (f ≡ V4) × (n ≡ 0)
-family_case V4 legs n none = (refl, omega (arith, none))
-family_case V6 legs n none = absurd (omega (arith, none))
-
-none_v6 : (legs : List NewLeg) → count_of V6 legs ≡ 0 → AreV4 legs
-none_v6 [] none = tt
-none_v6 (leg ∷ legs) none =
-    let here = family_case leg.family legs (count_of V6 legs) (sym (count_next V6 leg legs) ∙ none) in (here.0, none_v6 legs here.1)
-
-pub free_v4 : (config : Config) (h : List BoardEntry) → free_in config h V4 ≡ free config h
-free_v4 config h = filter_whole _ (free config h) (λ p i. refl)
-
-none_of_v6 : (ps : List ℕ) → filter (λ p. family_eq V4 V6) ps ≡ []
-none_of_v6 [] = refl
-none_of_v6 (p ∷ ps) = none_of_v6 ps
-
-enough_v4 : (config : Config) (h : List BoardEntry) (legs : List NewLeg) → is_short (free_in config h) legs ≡ false → AreV4 legs
-enough_v4 config h legs enough =
-    let room = enough_of (free_in config h) legs enough V6 in
-    let none : length (free_in config h V6) ≡ 0 = ap length (none_of_v6 (free config h)) in
-    none_v6 legs (omega (arith, room, none))
-
-front_of_free : (config : Config) (h : List BoardEntry) (legs : List NewLeg) → is_short (free_in config h) legs ≡ false →
-    (fronts (free_in config h) legs ≡ take (length legs) (free config h)) × (length (fronts (free_in config h) legs) ≡ length legs)
-front_of_free config h legs enough = (
-  fronts_are (free_in config h) legs (enough_v4 config h legs enough) ∙ ap (take (length legs)) (free_v4 config h),
-  fronts_length (free_in config h) legs (enough_of (free_in config h) legs enough),
-)
-
-abbrev IsFront : Config → List BoardEntry → List ℕ → Type 0
-IsFront config h pairs = pairs ≡ take (length pairs) (free config h)
-
-as_front : (config : Config) (h : List BoardEntry) (legs : List NewLeg) (pairs : List ℕ) → is_short (free_in config h) legs ≡ false → pairs ≡ fronts (free_in config h) legs →
-    IsFront config h pairs
-as_front config h legs pairs enough is =
-    let front = front_of_free config h legs enough in
-    is ∙ front.0 ∙ ap (λ n. take n (free config h)) (sym (ap length is ∙ front.1))
-
-front_case : (config : Config) (h : List BoardEntry) (e : BoardEntry) (a : Act) → Tells config h e a → IsFront config h (leased_by_act a)
-front_case config h e (act.Offered o) shown =
-    as_front config h shown.demand.pairs (map pair_of o.legs) shown.enough
-    (ap (map pair_of) shown.legs_are
-    ∙ pairs_of_new h o.of (fronts (free_in config h) shown.demand.pairs) shown.demand.pairs (front_of_free config h shown.demand.pairs shown.enough).1)
-front_case config h e (act.Undone code leases draws) shown =
-    as_front config h shown.demand.pairs (map (λ (lease : Lease). lease.pair) leases) shown.enough
-    (ap (map (λ (lease : Lease). lease.pair)) shown.leases_are ∙ pairs_leased h (fronts (free_in config h) shown.demand.pairs))
-front_case config h e act.Repeated shown = none_taken (free config h)
-front_case config h e act.OutOfMemory shown = none_taken (free config h)
-front_case config h e (act.Failed code) shown = none_taken (free config h)
-front_case config h e (act.Answered a) shown = none_taken (free config h)
-front_case config h e (act.Deleted of) shown = none_taken (free config h)
-front_case config h e (act.Queried of) shown = none_taken (free config h)
-front_case config h e act.Told shown = none_taken (free config h)
-front_case config h e (act.Delayed of s) shown = none_taken (free config h)
-
--- an entry leases the front of the free pairs
-pub leases_front : (config : Config) (h : List BoardEntry) (e : BoardEntry) → FitsBoard config h e →
-    leased_by_act (act e) ≡ take (length (leased_by_act (act e))) (free config h)
-leases_front config h e fits = front_case config h e (act e) (tells config h e fits)
-
 -- What an entry gives back is held no longer, and was held before or leased by the entry.
 
 undone_once : (a : Act) → Once (leased_by_act a) → Once (undone_pairs a)
@@ -215,8 +128,23 @@ once_taken zero (x ∷ xs) once = tt
 once_taken (suc k) [] once = tt
 once_taken (suc k) (x ∷ xs) once = (λ i. once.0 (taken_in x k xs i), once_taken k xs once.1)
 
+leases_once_by : (config : Config) (h : List BoardEntry) (e : BoardEntry) (a : Act) → FitsBoard config h e → act e ≡ a → Tells config h e a → Once (leased_by_act a)
+leases_once_by config h e (act.Offered o) fits is shown = new_legs_once config h e o fits is
+leases_once_by config h e (act.Undone code leases draws) fits is shown =
+    subst Once (sym (ap (map (λ (lease : Lease). lease.pair)) shown.leases_are ∙ pairs_leased h (fronts (free_in config h) shown.demand.pairs)))
+    (fronts_once (free_in config h) shown.demand.pairs (families_apart config h))
+leases_once_by config h e act.Repeated fits is shown = tt
+leases_once_by config h e act.OutOfMemory fits is shown = tt
+leases_once_by config h e (act.Failed code) fits is shown = tt
+leases_once_by config h e (act.Answered a) fits is shown = tt
+leases_once_by config h e (act.Deleted of) fits is shown = tt
+leases_once_by config h e (act.Queried of) fits is shown = tt
+leases_once_by config h e act.Told fits is shown = tt
+leases_once_by config h e (act.Delayed of s) fits is shown = tt
+
+-- an entry leases each pair once
 pub leases_once : (config : Config) (h : List BoardEntry) (e : BoardEntry) → FitsBoard config h e → Once (leased_by_act (act e))
-leases_once config h e fits = subst Once (sym (leases_front config h e fits)) (once_taken (length (leased_by_act (act e))) (free config h) (free_once config h))
+leases_once config h e fits = leases_once_by config h e (act e) fits refl (tells config h e fits)
 
 closed_and_undone : (config : Config) (h : List BoardEntry) (e : BoardEntry) (p : ℕ) → FitsBoard config h e → In p (map pair_of (closed h e)) → In p (undone_pairs (act e)) → ⊥
 closed_and_undone config h e p fits i j =
@@ -384,12 +312,3 @@ free_without config h e old fits =
     ∙ ap (λ (ps : List ℕ). filter (not_leased e) never ++ ps) (back_after config h e old fits)
     ∙ sym (append_assoc (filter (not_leased e) never) (filter (not_leased e) (back h)) (given_by h e))
     ∙ ap (λ (ps : List ℕ). ps ++ given_by h e) (sym (filter-append (not_leased e) never (back h)))
-
--- those after the ones that it leased, then those that it gave back
-pub free_after : (config : Config) (h : List BoardEntry) (e : BoardEntry) → IsFitting config h → FitsBoard config h e →
-    free config (e ∷ h) ≡ drop (length (leased_by_act (act e))) (free config h) ++ given_by h e
-free_after config h e old fits =
-    free_without config h e old fits
-    ∙ ap (λ (ps : List ℕ). ps ++ given_by h e)
-    (ap (λ (ps : List ℕ). filter (λ p. not (has ps p)) (free config h)) (leases_front config h e fits)
-    ∙ without_taken (length (leased_by_act (act e))) (free config h) (free_once config h))

@@ -1,11 +1,14 @@
 -- Leases that are given back one after the other.
-use Rattle.std.proofs.Common.{◌≡◌, ◌∙◌, refl, ap, sym, subst, ℕ, Bool, true, false, cond, List, [], ◌∷◌, ◌++◌, length, append_assoc, append-nil, arith}
+use Rattle.std.proofs.Common.{◌≡◌, ◌∙◌, refl, ap, sym, subst, ℕ, Bool, true, false, cond, List, [], ◌∷◌, ◌++◌, ◌<◌, length, nat_lt, slice_index_or, append_assoc, append-nil, arith}
 use Rattle.std.specs.Prelude.{◌==◌}
 use Rattle.relay_outside.specs.declared.settings.Config.{Config}
 use Rattle.histories.specs.Words.{has}
 use Rattle.histories.proofs.Lists.{equal, equal_if}
-use Rattle.port_pool.specs.Pools.{Pairs, after_return}
+use Rattle.relay_outside.specs.declared.address.Family.{Family}
+use Rattle.relay_outside.specs.declared.address.Family.TheVariants.{V4, V6}
+use Rattle.port_pool.specs.Pools.{Pairs, after_return, with_free, free_pairs, family_in}
 use Rattle.port_pool.specs.declared.pairs.Lease.{Lease}
+use Rattle.port_pool.proofs.Standing.{with_free_per, with_free_generations}
 use Rattle.call_board.specs.declared.board.Board.{Board}
 use Rattle.call_board.specs.Views.{View, with_returned}
 use Rattle.call_board.specs.Boards.{BoardMatches, AreOut, pairs_in}
@@ -35,14 +38,26 @@ later p q qs e = go (q == p) refl
     go true is = absurd (let f : true ≡ false = sym (ap (λ (b : Bool). cond b true (has qs p)) is) ∙ e in cc)
     go false is = sym (ap (λ (b : Bool). cond b true (has qs p)) is) ∙ e
 
+-- a pair is not in its family's queue, also after the return of another
+still_out : (pool : Pairs) (p q : ℕ) → has (free_pairs pool (family_in pool q)) q ≡ false → (p == q) ≡ false → has (free_pairs (after_return pool p) (family_in (after_return pool p) q)) q ≡ false
+still_out pool p q out new =
+    let pairs = free_pairs pool (family_in pool p) ++ p ∷ [] in
+    subst (λ per. has (free_pairs (after_return pool p) (cond (nat_lt q per) V4 V6)) q ≡ false) (sym (with_free_per pool (family_in pool p) pairs)) (go (family_in pool p) (family_in pool q) out)
+  where
+    go : (f g : Family) → has (free_pairs pool g) q ≡ false → has (free_pairs (with_free pool f (free_pairs pool f ++ p ∷ [])) g) q ≡ false
+    go V4 V4 h = has-behind pool.free4 p q h new
+    go V6 V6 h = has-behind pool.free6 p q h new
+    go V4 V6 h = h
+    go V6 V4 h = h
+
 -- the other leases are out as before when a pair was given back
 pub out_after : (pool : Pairs) (pair : ℕ) (leases : List Lease) → AreOut pool leases → has (pairs_in leases) pair ≡ false → AreOut (after_return pool pair) leases
 out_after pool pair [] out new = _
 out_after pool pair (lease ∷ leases) out new = (
   record {
-    of_pool = out.0.of_pool;
-    not_free = has-behind pool.free pair lease.pair out.0.not_free (differs pair lease.pair (pairs_in leases) new);
-    last = out.0.last;
+    of_pool = subst (λ gs. lease.pair < length gs) (sym (with_free_generations pool (family_in pool pair) (free_pairs pool (family_in pool pair) ++ pair ∷ []))) out.0.of_pool;
+    not_free = still_out pool pair lease.pair out.0.not_free (differs pair lease.pair (pairs_in leases) new);
+    last = ap (λ gs. slice_index_or gs lease.pair 0) (with_free_generations pool (family_in pool pair) (free_pairs pool (family_in pool pair) ++ pair ∷ [])) ∙ out.0.last;
   },
   out.1,
   out_after pool pair leases out.2 (later pair lease.pair (pairs_in leases) new),

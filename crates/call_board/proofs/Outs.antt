@@ -1,13 +1,14 @@
 -- Which leases may be given back after an entry's changes: those of the legs that it closes, and those of an offer that is undone.
-use Rattle.std.proofs.Common.{◌≡◌, ◌∙◌, refl, sym, ap, subst, ℕ, zero, suc, ◌+◌, ◌<◌, ◌⊎◌, inl, inr, List, [], ◌∷◌, ◌++◌, map, filter, take, drop, Bool, true, false, cond, ◌==◌, arith}
+use Rattle.std.proofs.Common.{◌≡◌, ◌∙◌, refl, sym, ap, subst, ℕ, zero, suc, ◌+◌, ◌<◌, ◌⊎◌, inl, inr, List, [], ◌∷◌, ◌++◌, map, filter, not, Bool, true, false, cond, ◌==◌, arith}
 use Rattle.std.specs.Prelude.{count_by, ◌&&◌}
 use Rattle.std.specs.List.{flat_map}
 use Rattle.std.proofs.lemmas.List.Sums.{sum_by-append}
 use Rattle.relay_outside.specs.declared.settings.Config.{Config}
 use Rattle.histories.specs.Words.{In, here, there, has}
-use Rattle.histories.proofs.Lists.{in_append, maps, it_has, equal_if}
-use Rattle.port_pool.specs.Ports.{pair_count}
-use Rattle.port_pool.specs.Pools.{AreFree}
+use Rattle.histories.proofs.Lists.{in_append, maps, it_has, equal_if, filtered}
+use Rattle.relay_outside.specs.declared.address.Family.{Family}
+use Rattle.port_pool.specs.Ports.{pair_count, pair_family, family_eq, pairs_of_family}
+use Rattle.port_pool.specs.Pools.{AreFree, family_in}
 use Rattle.port_pool.specs.declared.holder.Holder.{Holder}
 use Rattle.port_pool.specs.declared.pairs.Lease.{Lease}
 use Rattle.call_board.specs.declared.board.Board.{Board}
@@ -26,7 +27,7 @@ use Rattle.call_board.proofs.Held.{held_split, closed_of_held}
 use Rattle.call_board.proofs.Leases.{leg_generation, counted as present}
 use Rattle.call_board.proofs.Leased.{count-none}
 use Rattle.call_board.proofs.Free.{legs_leased, leased_free, free_once, free_below, free_not_held, held_once, held_below}
-use Rattle.call_board.proofs.FreeAfter.{leases_once, taken_in, closed_apart}
+use Rattle.call_board.proofs.FreeAfter.{leases_once, closed_apart}
 use Rattle.call_board.proofs.Bounds.{once_count}
 use Rattle.call_board.proofs.Given.{has-behind, differs, later}
 use Rattle.call_board.proofs.CallsAfter.{eq_swap}
@@ -34,10 +35,17 @@ use Rattle.call_board.proofs.Entries.{ended_are}
 
 -- From what the board keeps to the board.
 
+-- what is not free is not among the free ones of a family
+out_of_family : (config : Config) (free : List ℕ) (pair : ℕ) (family : Family) → has free pair ≡ false → has (pairs_of_family config free family) pair ≡ false
+out_of_family config free pair family out =
+    is_out pair (pairs_of_family config free family)
+    (λ i. let among : has free pair ≡ true = it_has pair free (filtered (λ p. family_eq (pair_family config p) family) free i).0 in let wrong : true ≡ false = sym among ∙ out in cc)
+
 out_by : (config : Config) (board : Board) (v : View) (lease : Lease) → BoardMatches config board v → MayReturn config v lease → IsOut board.pool lease
 out_by config board v lease s may = record {
   of_pool = let count = s.pool_for.count_is in let below = may.of_range in omega (arith, count, below);
-  not_free = ap (λ (ps : List ℕ). has ps lease.pair) s.pool_for.free_is ∙ may.not_free;
+  not_free = ap (λ (ps : List ℕ). has ps lease.pair) (s.pool_for.free_is (family_in board.pool lease.pair))
+      ∙ out_of_family config v.free lease.pair (family_in board.pool lease.pair) may.not_free;
   last = s.pool_for.leases_are lease.pair may.of_range ∙ may.last;
 }
 
@@ -133,23 +141,18 @@ legs_return config h v (leg ∷ legs) fits held_ once = (
 closed_pairs_once : (config : Config) (h : List BoardEntry) (e : BoardEntry) (of : Call) → IsFitting config h → Once (map pair_of (closed_of h e of))
 closed_pairs_once config h e of fits = once_filtered pair_of (λ (leg : Holder). (leg.call == of.number) && closes_leg e leg) (held h) (held_once config h fits)
 
-dropped_in : (p k : ℕ) (xs : List ℕ) → In p (drop k xs) → In p xs
-dropped_in p zero [] i = i
-dropped_in p zero (x ∷ xs) i = i
-dropped_in p (suc k) [] i = i
-dropped_in p (suc k) (x ∷ xs) i = there (dropped_in p k xs i)
-
--- those of the legs that an offer drops may be given back, after it leased `count` pairs
-pub dropped_return : (config : Config) (h : List BoardEntry) (e : BoardEntry) (of : Call) (v : View) (count : ℕ) → IsFitting config h → v.free ≡ drop count (free config h) →
-    v.leases ≡ (with_leases (view_of config h) count).leases → MayReturnAll config v (map (leg_lease config) (closed_of h e of))
-dropped_return config h e of v count fits free_is leases_are =
+-- those of the legs that an offer drops may be given back, after it leased free pairs
+pub dropped_return : (config : Config) (h : List BoardEntry) (e : BoardEntry) (of : Call) (v : View) (pairs : List ℕ) → IsFitting config h →
+    ((p : ℕ) → In p pairs → In p (free config h)) → v.free ≡ (with_leases (view_of config h) pairs).free →
+    v.leases ≡ (with_leases (view_of config h) pairs).leases → MayReturnAll config v (map (leg_lease config) (closed_of h e of))
+dropped_return config h e of v pairs fits were_free free_is leases_are =
     legs_return config h v (closed_of h e of) fits (record {
       are_held = λ a i. (closed_of_held h e of a i).0;
-      not_free = λ a i j. free_not_held config h a.pair a (dropped_in a.pair count (free config h) (subst (λ (ps : List ℕ). In a.pair ps) free_is j)) (closed_of_held h e of a i).0 refl;
+      not_free = λ a i j. free_not_held config h a.pair a (filtered (λ p. not (has pairs p)) (free config h) (subst (λ (ps : List ℕ). In a.pair ps) free_is j)).0 (closed_of_held h e of a i).0 refl;
       same_leases = λ a i.
-          let out = λ (j : In a.pair (take count (free config h))). free_not_held config h a.pair a (taken_in a.pair count (free config h) j) (closed_of_held h e of a i).0 refl in
-          let none = count-none a.pair (take count (free config h)) (is_out a.pair (take count (free config h)) out) in
-          let same : v.leases a.pair ≡ times_leased h a.pair + count_by (λ p. p == a.pair) (take count (free config h)) = ap (λ (f : ℕ → ℕ). f a.pair) leases_are in
+          let out = λ (j : In a.pair pairs). free_not_held config h a.pair a (were_free a.pair j) (closed_of_held h e of a i).0 refl in
+          let none = count-none a.pair pairs (is_out a.pair pairs out) in
+          let same : v.leases a.pair ≡ times_leased h a.pair + count_by (λ p. p == a.pair) pairs = ap (λ (f : ℕ → ℕ). f a.pair) leases_are in
           omega (arith, none, same);
     }) (closed_pairs_once config h e of fits)
 
@@ -172,28 +175,9 @@ ended_return config h e gone of v fits free_is leases_are out =
       same_leases = λ a i. ap (λ (w : View). w.leases a.pair) (ended_are h e gone v) ∙ ap (λ (f : ℕ → ℕ). f a.pair) leases_are;
     }) (closed_pairs_once config h e of fits)
 
--- An offer that is undone.
-
-apart_taken : (p k : ℕ) (xs : List ℕ) → Once xs → In p (take k xs) → In p (drop k xs) → ⊥
-apart_taken p zero [] once i j = elim i [ ]
-apart_taken p zero (x ∷ xs) once i j = elim i [ ]
-apart_taken p (suc k) [] once i j = elim i [ ]
-apart_taken p (suc k) (x ∷ xs) once (here e) j = once.0 (subst (λ q. In q xs) e (dropped_in p k xs j))
-apart_taken p (suc k) (x ∷ xs) once (there i) j = apart_taken p k xs once.1 i j
-
 pub lease_pairs : (config : Config) (f : ℕ → ℕ) (pairs : List ℕ) → pairs_in (map (lease_at config f) pairs) ≡ pairs
 lease_pairs config f [] = refl
 lease_pairs config f (p ∷ pairs) = ap (λ (ps : List ℕ). p ∷ ps) (lease_pairs config f pairs)
-
--- leases of pairs of the range that aren't free, each the last one
-leases_return : (config : Config) (v : View) (f : ℕ → ℕ) (pairs : List ℕ) → Once pairs → ((p : ℕ) → In p pairs → p < pair_count config) → ((p : ℕ) → In p pairs → In p v.free → ⊥) →
-    ((p : ℕ) → In p pairs → v.leases p ≡ f p + 1) → MayReturnAll config v (map (lease_at config f) pairs)
-leases_return config v f [] once below out last = tt
-leases_return config v f (p ∷ pairs) once below out last = (
-  record { of_range = below p (here refl); not_free = is_out p v.free (out p (here refl)); last = last p (here refl) },
-  ap (λ (ps : List ℕ). has ps p) (lease_pairs config f pairs) ∙ is_out p pairs once.0,
-  leases_return config v f pairs once.1 (λ q i. below q (there i)) (λ q i. out q (there i)) (λ q i. last q (there i)),
-)
 
 -- What is free.
 

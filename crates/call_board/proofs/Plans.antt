@@ -1,18 +1,22 @@
 -- The reply to an offer, by its plan and by what it lacks.
 use Rattle.std.proofs.Common.{◌≡◌, ◌≢◌, ◌∙◌, refl, ap, sym, ℕ, ◌+◌, ◌-◌, ◌<◌, Bool, true, false, not, List, length, map, ◌⊎◌, inl, inr, Option, Some, None, arith, get_or, if◌then◌else◌}
-use Rattle.std.specs.Prelude.{◌&&◌, nat_le, nat_lt, position, is_some, Err}
+use Rattle.std.specs.Prelude.{◌&&◌, ◌||◌, nat_le, nat_lt, position, is_some, count_by, Err}
 use Rattle.std.specs.List.{position_or_len}
 use Rattle.std.proofs.lemmas.List.{length-map}
 use Rattle.std.proofs.lemmas.List.Sums.{position_or_len_is}
 use Rattle.std.proofs.lemmas.Bool.Decides.{nat_tests}
+use Rattle.relay_outside.specs.declared.address.Family.{Family}
+use Rattle.relay_outside.specs.declared.address.Family.TheVariants.{V4, V6}
 use Rattle.relay_outside.specs.declared.settings.Config.{Config}
 use Rattle.ng_reply.specs.declared.code.ErrorCode.{ErrorCode}
 use Rattle.ng_reply.specs.declared.code.ErrorCode.TheVariants.{E13, E14, E19}
 use Rattle.histories.specs.Words.{In, has, or_else}
 use Rattle.histories.proofs.Lists.{it_has, has_it}
-use Rattle.offer_answer.specs.Rounds.{Round, OfferAsk, AnswerAsk, Demand}
+use Rattle.port_pool.specs.Ports.{family_eq, pairs_of_family}
+use Rattle.port_pool.specs.Pools.{free_pairs}
+use Rattle.offer_answer.specs.Rounds.{Round, OfferAsk, AnswerAsk, NewLeg, Demand}
 use Rattle.offer_answer.specs.Plan as plan
-use Rattle.offer_answer.specs.Offers.{PlanFor, pairs_demanded, leg_asked}
+use Rattle.offer_answer.specs.Offers.{PlanFor, legs_demanded}
 use Rattle.offer_answer.specs.Plans.{OfferAnswered, AnswerAnswered}
 use Rattle.offer_answer.specs.declared.plan.Plan.{Plan}
 use Rattle.offer_answer.specs.declared.fault.OaFault.{OaFault}
@@ -20,6 +24,7 @@ use Rattle.offer_answer.specs.declared.fault.OaFault.TheVariants as oa
 use Rattle.call_board.specs.declared.board.Board.{Board}
 use Rattle.call_board.specs.declared.fault.BoardFault.TheVariants as faults
 use Rattle.call_board.specs.Calls.{lowest_but}
+use Rattle.call_board.specs.Pairs.{is_short, is_short_of}
 use Rattle.call_board.specs.Views.{View, CallView}
 use Rattle.call_board.specs.Boards.{BoardMatches}
 use Rattle.call_board.specs.Plans.{board_fault, board_code, shortage, fault_or_shortage, refusal, answer_refusal, target_by}
@@ -36,21 +41,25 @@ refused_by config v begins rounds ask oa.OtherSide answered n =
     ap (λ (o : Option ErrorCode). or_else o (shortage config v begins rounds ask)) (answered (λ e. let f : oa.OtherSide ≡ oa.OutOfMemory = e in cc))
 refused_by config v begins rounds ask oa.MediaCount answered n =
     ap (λ (o : Option ErrorCode). or_else o (shortage config v begins rounds ask)) (answered (λ e. let f : oa.MediaCount ≡ oa.OutOfMemory = e in cc))
+refused_by config v begins rounds ask oa.Family answered n =
+    ap (λ (o : Option ErrorCode). or_else o (shortage config v begins rounds ask)) (answered (λ e. let f : oa.Family ≡ oa.OutOfMemory = e in cc))
 refused_by config v begins rounds ask oa.NoCrypto answered n =
     ap (λ (o : Option ErrorCode). or_else o (shortage config v begins rounds ask)) (answered (λ e. let f : oa.NoCrypto ≡ oa.OutOfMemory = e in cc))
 refused_by config v begins rounds ask oa.OutOfMemory answered n = absurd (n refl)
 
 -- without a fault, what is short is the answer
 refusal_is : (config : Config) (v : View) (begins : Bool) (rounds : List Round) (ask : OfferAsk) (full short : Bool) → plan.offer_fault rounds ask ≡ None →
-    (begins && nat_le config.max_sessions (length v.calls)) ≡ full → nat_lt (length v.free) (length (plan.demand rounds ask).pairs) ≡ short →
+    (begins && nat_le config.max_sessions (length v.calls)) ≡ full → is_short (pairs_of_family config v.free) (plan.demand rounds ask).pairs ≡ short →
     fault_or_shortage config v begins rounds ask ≡ (if full then Some E14 else if short then Some E13 else None)
-refusal_is config v begins rounds ask full short fine is_full is_short =
+refusal_is config v begins rounds ask full short fine is_full lacks =
     ap (λ (o : Option ErrorCode). or_else o (shortage config v begins rounds ask)) fine
-    ∙ ap (λ (b : Bool). if b then Some E14 else if nat_lt (length v.free) (length (plan.demand rounds ask).pairs) then Some E13 else None) is_full
-    ∙ ap (λ (b : Bool). if full then Some E14 else if b then Some E13 else None) is_short
+    ∙ ap (λ (b : Bool). if b then Some E14 else if is_short (pairs_of_family config v.free) (plan.demand rounds ask).pairs then Some E13 else None) is_full
+    ∙ ap (λ (b : Bool). if full then Some E14 else if b then Some E13 else None) lacks
 
-pairs_asked : (p : Plan) (asked : Demand) → PlanFor p asked → pairs_demanded p ≡ length asked.pairs
-pairs_asked p asked for = sym (length-map p.legs.items leg_asked) ∙ ap length for.pairs_are
+short_alike : (some others : Family → List ℕ) (legs : List NewLeg) → ((family : Family) → some family ≡ others family) → is_short some legs ≡ is_short others legs
+short_alike some others legs same =
+    ap (λ (pairs : List ℕ). nat_lt (length pairs) (count_by (λ (leg : NewLeg). family_eq leg.family V4) legs) || is_short_of some legs V6) (same V4)
+    ∙ ap (λ (pairs : List ℕ). is_short_of others legs V4 || nat_lt (length pairs) (count_by (λ (leg : NewLeg). family_eq leg.family V6) legs)) (same V6)
 
 -- the board's tests, and what they say of what it keeps
 is_full_by : (config : Config) (board : Board) (v : View) (b : Bool) → BoardMatches config board v → nat_le board.config.max_sessions (length board.calls.list) ≡ b →
@@ -60,15 +69,15 @@ is_full_by config board v b s e =
     ∙ sym (ap (λ n. nat_le board.config.max_sessions n) (calls_count config board.calls.list v.calls s.calls_for)) ∙ e
 
 lacks_by : (config : Config) (board : Board) (v : View) (p : Plan) (asked : Demand) (b : Bool) → BoardMatches config board v → PlanFor p asked →
-    nat_lt (length board.pool.free) (pairs_demanded p) ≡ b → nat_lt (length v.free) (length asked.pairs) ≡ b
+    is_short (free_pairs board.pool) (legs_demanded p) ≡ b → is_short (pairs_of_family config v.free) asked.pairs ≡ b
 lacks_by config board v p asked b s for e =
-    sym (ap (λ (pairs : List ℕ). nat_lt (length pairs) (length asked.pairs)) s.pool_for.free_is)
-    ∙ sym (ap (λ n. nat_lt (length board.pool.free) n) (pairs_asked p asked for)) ∙ e
+    sym (short_alike (free_pairs board.pool) (pairs_of_family config v.free) asked.pairs s.pool_for.free_is)
+    ∙ ap (is_short (free_pairs board.pool)) (sym for.pairs_are) ∙ e
 
 pub answers_full : (config : Config) (board : Board) (v : View) (rounds : List Round) (ask : OfferAsk) → BoardMatches config board v → plan.offer_fault rounds ask ≡ None →
     nat_le board.config.max_sessions (length board.calls.list) ≡ true → fault_or_shortage config v true rounds ask ≡ Some E14
 answers_full config board v rounds ask s fine full =
-    refusal_is config v true rounds ask true (nat_lt (length v.free) (length (plan.demand rounds ask).pairs)) fine (is_full_by config board v true s full) refl
+    refusal_is config v true rounds ask true (is_short (pairs_of_family config v.free) (plan.demand rounds ask).pairs) fine (is_full_by config board v true s full) refl
 
 both_false : (begins full : Bool) → (begins ≡ false) ⊎ (full ≡ false) → (begins && full) ≡ false
 both_false false full o = refl
@@ -78,7 +87,7 @@ both_false true full (inr e) = e
 pub answers_short : (config : Config) (board : Board) (v : View) (begins : Bool) (rounds : List Round) (ask : OfferAsk) (p : Plan) → BoardMatches config board v →
     (plan.offer_fault rounds ask ≡ None) × PlanFor p (plan.demand rounds ask) →
     (begins ≡ false) ⊎ (nat_le board.config.max_sessions (length board.calls.list) ≡ false) →
-    nat_lt (length board.pool.free) (pairs_demanded p) ≡ true → fault_or_shortage config v begins rounds ask ≡ Some E13
+    is_short (free_pairs board.pool) (legs_demanded p) ≡ true → fault_or_shortage config v begins rounds ask ≡ Some E13
 answers_short config board v begins rounds ask p s made room short =
     refusal_is config v begins rounds ask false true made.0
     (both_false begins (nat_le config.max_sessions (length v.calls)) (room_by room)) (lacks_by config board v p (plan.demand rounds ask) true s made.1 short)
@@ -90,7 +99,7 @@ answers_short config board v begins rounds ask p s made room short =
 pub answers_none : (config : Config) (board : Board) (v : View) (begins : Bool) (rounds : List Round) (ask : OfferAsk) (p : Plan) → BoardMatches config board v →
     (plan.offer_fault rounds ask ≡ None) × PlanFor p (plan.demand rounds ask) →
     (begins ≡ false) ⊎ (nat_le board.config.max_sessions (length board.calls.list) ≡ false) →
-    nat_lt (length board.pool.free) (pairs_demanded p) ≡ false → fault_or_shortage config v begins rounds ask ≡ None
+    is_short (free_pairs board.pool) (legs_demanded p) ≡ false → fault_or_shortage config v begins rounds ask ≡ None
 answers_none config board v begins rounds ask p s made room short =
     refusal_is config v begins rounds ask false false made.0
     (both_false begins (nat_le config.max_sessions (length v.calls)) (room_by room)) (lacks_by config board v p (plan.demand rounds ask) false s made.1 short)
@@ -184,5 +193,6 @@ pub answer_refused_by : (rounds : List Round) (ask : AnswerAsk) (lines : List (L
 answer_refused_by rounds ask lines config oa.UnknownTag answered n = answered (λ e. let f : oa.UnknownTag ≡ oa.OutOfMemory = e in cc)
 answer_refused_by rounds ask lines config oa.OtherSide answered n = answered (λ e. let f : oa.OtherSide ≡ oa.OutOfMemory = e in cc)
 answer_refused_by rounds ask lines config oa.MediaCount answered n = answered (λ e. let f : oa.MediaCount ≡ oa.OutOfMemory = e in cc)
+answer_refused_by rounds ask lines config oa.Family answered n = answered (λ e. let f : oa.Family ≡ oa.OutOfMemory = e in cc)
 answer_refused_by rounds ask lines config oa.NoCrypto answered n = answered (λ e. let f : oa.NoCrypto ≡ oa.OutOfMemory = e in cc)
 answer_refused_by rounds ask lines config oa.OutOfMemory answered n = absurd (n refl)

@@ -27,6 +27,7 @@ no_options = record {
   replace_session = false;
   transport = None;
   source = None;
+  family = None;
 }
 
 abbrev leg : Side → ℕ → Holder

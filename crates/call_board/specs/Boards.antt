@@ -1,17 +1,19 @@
 -- What a board stands for.
-use Rattle.std.specs.Prelude.{◌≡◌, ◌<◌, ◌≤◌, ◌+◌, ◌==◌, ℕ, Bool, true, false, List, [], ◌∷◌, length, map, take, Some, slice_index_or}
+use Rattle.std.specs.Prelude.{◌≡◌, ◌<◌, ◌≤◌, ◌+◌, ◌==◌, ℕ, Bool, true, false, List, [], ◌∷◌, length, map, Some, slice_index_or}
 use Rattle.std.specs.List.{list_any}
 use Rattle.relay_outside.specs.declared.settings.Config.{Config}
 use Rattle.histories.specs.Words.{has}
-use Rattle.port_pool.specs.Ports.{pair_port}
+use Rattle.port_pool.specs.Ports.{pair_port, pair_family, pairs_of_family}
 use Rattle.port_pool.specs.Pools as pools
-use Rattle.port_pool.specs.Pools.{Pairs, generation}
+use Rattle.port_pool.specs.Pools.{Pairs, generation, free_pairs, family_in}
 use Rattle.port_pool.specs.declared.pairs.Lease.{Lease}
 use Rattle.cookie_cache.specs.Caches as caches
+use Rattle.offer_answer.specs.Rounds.{NewLeg}
 use Rattle.offer_answer.specs.Dialogs.{DialogFor}
 use Rattle.call_board.specs.declared.live_call.LiveCall.{LiveCall}
 use Rattle.call_board.specs.declared.board.Board.{Board}
 use Rattle.call_board.specs.Acts.{BoardEntry}
+use Rattle.call_board.specs.Pairs.{fronts}
 use Rattle.call_board.specs.Views.{CallView, View, view_of, call_numbered}
 
 -- what is kept of a live call
@@ -62,16 +64,20 @@ pub record CallMatches (config : Config) (v : View) (number : ℕ) (call : LiveC
 
 -- the next lease of a pair that was leased so often
 abbrev pub lease_at : Config → (ℕ → ℕ) → ℕ → Lease
-lease_at config leases pair = record { pair = pair; rtp_port = pair_port config pair; generation = leases pair + 1 }
+lease_at config leases pair = record { pair = pair; family = pair_family config pair; rtp_port = pair_port config pair; generation = leases pair + 1 }
 
--- the leases of that many pairs, from the front of the free ones
-abbrev pub front_leases : Config → View → ℕ → List Lease
-front_leases config v count = map (lease_at config v.leases) (take count v.free)
+-- for each of these legs the pair of its family that has been free for longest
+abbrev pub fronts_for : Config → View → List NewLeg → List ℕ
+fronts_for config v legs = fronts (pairs_of_family config v.free) legs
+
+-- the leases of these pairs, in order
+abbrev pub leases_at : Config → View → List ℕ → List Lease
+leases_at config v pairs = map (lease_at config v.leases) pairs
 
 -- the lease is the last one of a pair of the pool's, which isn't free
 pub record IsOut (pool : Pairs) (lease : Lease) : Type 0 where
   pub of_pool : lease.pair < length pool.generations
-  pub not_free : has pool.free lease.pair ≡ false
+  pub not_free : has (free_pairs pool (family_in pool lease.pair)) lease.pair ≡ false
   pub last : generation pool lease.pair ≡ lease.generation
 
 abbrev pub pairs_in : List Lease → List ℕ

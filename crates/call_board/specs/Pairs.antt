@@ -5,7 +5,7 @@ use Rattle.relay_outside.specs.declared.settings.Config.{Config}
 use Rattle.relay_outside.specs.declared.address.Family.{Family}
 use Rattle.relay_outside.specs.declared.address.Family.TheVariants.{V4, V6}
 use Rattle.histories.specs.Words.{In, has, last_once, numbers}
-use Rattle.port_pool.specs.Ports.{pair_count}
+use Rattle.port_pool.specs.Ports.{pair_count, family_eq, pairs_of_family}
 use Rattle.port_pool.specs.declared.holder.Holder.{Holder}
 use Rattle.port_pool.specs.Signals.{NewKey, is_rejected}
 use Rattle.offer_answer.specs.Rounds.{NewLeg, KeyPlace}
@@ -82,19 +82,9 @@ free config h =
     filter (λ p. not (has (all_leased h) p)) (numbers 0 (pair_count config))
     ++ filter (λ p. not (has (map (λ leg. leg.pair) (held h)) p)) (last_once (returned h))
 
--- the family of the addresses that a pair's ports are opened at
-abbrev pub pair_family : Config → ℕ → Family
-pair_family config pair = V4
-
-abbrev pub family_eq : Family → Family → Bool
-family_eq V4 V4 = true
-family_eq V6 V6 = true
-family_eq V4 V6 = false
-family_eq V6 V4 = false
-
 -- the free pairs of a family
 abbrev pub free_in : Config → List BoardEntry → Family → List ℕ
-free_in config h family = filter (λ p. family_eq (pair_family config p) family) (free config h)
+free_in config h family = pairs_of_family config (free config h) family
 
 -- Leases.
 

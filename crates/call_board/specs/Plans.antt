@@ -1,14 +1,16 @@
 -- What the board plans, by what it keeps.
-use Rattle.std.specs.Prelude.{◌≡◌, ◌≢◌, ◌<◌, ◌≤◌, ℕ, Bool, true, false, ◌&&◌, List, [], map, length, nat_lt, nat_le, Option, Some, None, is_some, Result, Ok, Err, if◌then◌else◌}
+use Rattle.std.specs.Prelude.{◌≡◌, ◌≢◌, ◌<◌, ◌≤◌, ℕ, Bool, true, false, ◌&&◌, List, [], map, length, nat_le, Option, Some, None, is_some, Result, Ok, Err, if◌then◌else◌}
 use Rattle.relay_outside.specs.declared.settings.Config.{Config}
 use Rattle.ng_reply.specs.declared.code.ErrorCode.{ErrorCode}
-use Rattle.ng_reply.specs.declared.code.ErrorCode.TheVariants.{E8, E9, E10, E11, E12, E13, E14, E19}
+use Rattle.ng_reply.specs.declared.code.ErrorCode.TheVariants.{E8, E9, E10, E11, E12, E13, E14, E19, E20}
 use Rattle.histories.specs.Words.{or_else}
+use Rattle.port_pool.specs.Ports.{pairs_of_family}
+use Rattle.port_pool.specs.Pools.{free_pairs}
 use Rattle.port_pool.specs.LeaseLists.{LeaseList}
 use Rattle.offer_answer.specs.Rounds.{Round, OfferAsk, AnswerAsk}
 use Rattle.offer_answer.specs.Plan as plan
 use Rattle.offer_answer.specs.Dialogs.{DialogFor, Awaits}
-use Rattle.offer_answer.specs.Offers.{pairs_demanded}
+use Rattle.offer_answer.specs.Offers.{pairs_demanded, legs_demanded}
 use Rattle.offer_answer.specs.Plans.{OfferPlan, AnswerPlan}
 use Rattle.offer_answer.specs.Answers.{AsksAnswer}
 use Rattle.ng_command.specs.declared.command.AnswerIn.{AnswerIn}
@@ -22,6 +24,7 @@ use Rattle.call_board.specs.declared.board.Board.{Board}
 use Rattle.call_board.specs.Acts.{Call}
 use Rattle.call_board.specs.Calls.{lowest_but}
 use Rattle.call_board.specs.Answers.{ending_error}
+use Rattle.call_board.specs.Pairs.{is_short}
 use Rattle.call_board.specs.Views.{CallView, View, call_of_id}
 
 -- the error code of a fault
@@ -30,6 +33,7 @@ board_code faults.UnknownCall = Some E9
 board_code faults.UnknownTag = Some E10
 board_code faults.OtherSide = Some E11
 board_code faults.MediaCount = Some E12
+board_code faults.Family = Some E20
 board_code faults.NoCrypto = Some E8
 board_code faults.SessionLimit = Some E14
 board_code faults.NoPair = Some E13
@@ -41,14 +45,15 @@ abbrev pub board_fault : OaFault → BoardFault
 board_fault oa.UnknownTag = faults.UnknownTag
 board_fault oa.OtherSide = faults.OtherSide
 board_fault oa.MediaCount = faults.MediaCount
+board_fault oa.Family = faults.Family
 board_fault oa.NoCrypto = faults.NoCrypto
 board_fault oa.OutOfMemory = faults.OutOfMemory
 
--- the shortage of an offer without a fault: of sessions, where it begins a call, and then of pairs
+-- the shortage of an offer without a fault: of sessions, where it begins a call, and then of pairs of a family
 abbrev pub shortage : Config → View → Bool → List Round → OfferAsk → Option ErrorCode
 shortage config v begins rounds ask =
     if begins && nat_le config.max_sessions (length v.calls) then Some E14
-    else if nat_lt (length v.free) (length (plan.demand rounds ask).pairs) then Some E13
+    else if is_short (pairs_of_family config v.free) (plan.demand rounds ask).pairs then Some E13
     else None
 
 -- the first fault or shortage of an offer after these rounds
@@ -119,7 +124,7 @@ CallRoom board (Some new) = 0 < board.calls.spare
 pub record HasRoomForPlan (board : Board) (p : BoardPlan) : Type 0 where
   pub leases : RoomFor (pairs_demanded p.plan) p.leases
   pub call : CallRoom board p.begun
-  pub pairs : pairs_demanded p.plan ≤ length board.pool.free
+  pub pairs : is_short (free_pairs board.pool) (legs_demanded p.plan) ≡ false
 
 -- the plan once its leases were handed out
 abbrev pub leased : BoardPlan → BoardPlan

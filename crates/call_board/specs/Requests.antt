@@ -1,11 +1,13 @@
 -- What a control datagram asks: its command, or the first error that its bytes alone have.
 use Rattle.std.specs.Prelude.{ℕ, Bool, true, false, List, Option, Some, None, Result, Ok, Err}
+use Rattle.relay_outside.specs.declared.address.Family.{Family}
+use Rattle.relay_outside.specs.declared.address.Family.TheVariants.{V4, V6}
 use Rattle.relay_outside.specs.declared.address.Ip.{Ip}
 use Rattle.relay_outside.specs.declared.settings.Config.{Config}
 use Rattle.ng_bencode.specs.Tree.{Dict, Entries}
 use Rattle.ng_command.specs.declared.fault.CommandFault.{CommandFault}
 use Rattle.ng_command.specs.declared.fault.CommandFault.TheVariants as fault
-use Rattle.ng_command.specs.declared.fault.KeyName.TheVariants.{Tls}
+use Rattle.ng_command.specs.declared.fault.KeyName.TheVariants.{AddressFamily, Tls}
 use Rattle.ng_command.specs.Meanings.{Said, Ping, Offer, Answer, Delete, Query, Listing}
 use Rattle.ng_command.specs.Bodies.{said_or_fault}
 use Rattle.ng_reply.specs.declared.code.ErrorCode.{ErrorCode}
@@ -68,10 +70,21 @@ v6_error None (Some n) = Some (E7 (part.Line n))
 unfoldable pub sdp_error : Config → List ℕ → Option ErrorCode
 sdp_error config text = or_else (code_if (fault_in (lines_of text))) (v6_error config.interface6 (v6_line_in (lines_of text)))
 
--- the error of a command's description, where it has one
+-- the error of the `address family` of an offer: version 6 can't be had where there is no address of it to relay at
+abbrev pub family_error : Option Family → Option Ip → Option ErrorCode
+family_error None address = None
+family_error (Some V4) address = None
+family_error (Some V6) (Some address) = None
+family_error (Some V6) None = Some (E5 AddressFamily)
+
+-- the error of a description that comes with this `address family`: that of the family is the first
+abbrev pub sdp_error_for : Config → Option Family → List ℕ → Option ErrorCode
+sdp_error_for config family text = or_else (family_error family config.interface6) (sdp_error config text)
+
+-- the error of a command's description, where it has one; an answer asks for no family
 abbrev pub description_error : Config → Said → Option ErrorCode
 description_error config Ping = None
-description_error config (Offer call_id from_tag sdp options) = sdp_error config sdp
+description_error config (Offer call_id from_tag sdp options) = sdp_error_for config options.family sdp
 description_error config (Answer call_id from_tag to_tag sdp options) = sdp_error config sdp
 description_error config (Delete call_id from_tag fatal seconds) = None
 description_error config (Query call_id) = None

@@ -1,8 +1,8 @@
 -- What the board keeps of its history.
-use Rattle.std.specs.Prelude.{ℕ, ◌+◌, ◌==◌, max, Bool, List, [], ◌∷◌, ◌++◌, map, length, drop, take, filter, count_by, Option, Some, if◌then◌else◌}
+use Rattle.std.specs.Prelude.{ℕ, ◌+◌, ◌==◌, max, Bool, not, List, [], ◌∷◌, ◌++◌, map, length, filter, count_by, Option, Some, if◌then◌else◌}
 use Rattle.std.specs.Str.{bytes_eq}
 use Rattle.relay_outside.specs.declared.settings.Config.{Config}
-use Rattle.histories.specs.Words.{first, greatest}
+use Rattle.histories.specs.Words.{first, greatest, has}
 use Rattle.cookie_cache.specs.Keepings.{Keeping}
 use Rattle.offer_answer.specs.Rounds.{Round}
 use Rattle.call_board.specs.Acts.{Call, BoardEntry}
@@ -73,15 +73,15 @@ abbrev pub with_new_call : View → CallView → View
 with_new_call v c =
     record { moment = v.moment; begun = v.begun + 1; drawn = v.drawn; calls = v.calls ++ c ∷ []; free = v.free; leases = v.leases; keepings = v.keepings }
 
--- that many pairs were leased
-abbrev pub with_leases : View → ℕ → View
-with_leases v count = record {
+-- these pairs were leased
+abbrev pub with_leases : View → List ℕ → View
+with_leases v pairs = record {
   moment = v.moment;
   begun = v.begun;
   drawn = v.drawn;
   calls = v.calls;
-  free = drop count v.free;
-  leases = λ pair. v.leases pair + count_by (λ p. p == pair) (take count v.free);
+  free = filter (λ p. not (has pairs p)) v.free;
+  leases = λ pair. v.leases pair + count_by (λ p. p == pair) pairs;
   keepings = v.keepings;
 }
 

@@ -65,14 +65,14 @@ after_reply e c v = with_reply e.moment c v
 -- an offer that was undone leased its pairs and drew its keys, and gave the pairs back
 abbrev pub after_undone : BoardEntry → Control → List Lease → List (List ℕ) → View → View
 after_undone e c leases draws v =
-    let leased = with_draws (with_leases v (length leases)) (length draws) in
+    let leased = with_draws (with_leases v (map (λ lease. lease.pair) leases)) (length draws) in
     with_reply e.moment c (with_returned leased (map (λ lease. lease.pair) leases))
 
 -- an accepted offer leased its pairs and drew its keys, was taken in, and gave back the pairs that it dropped
 abbrev pub after_offer : List BoardEntry → BoardEntry → Control → Offer → View → View
 after_offer h e c o v =
     let made : Round = round.Offered o.ask o.legs o.keys in
-    let leased = with_draws (with_leases v (length o.legs)) (length o.keys) in
+    let leased = with_draws (with_leases v (map (λ leg. leg.pair) o.legs)) (length o.keys) in
     let taken = if o.begins then with_first o.of made e.moment leased else with_more o.of made e.moment leased in
     with_reply e.moment c (with_closed h e o.of taken)
 

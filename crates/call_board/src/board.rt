@@ -9,7 +9,7 @@ use indexmap::IndexMap;
 use ng_bencode::Text;
 use offer_answer::Dialog;
 use port_pool::{Lease, Pool, Side};
-use relay_outside::{Addr, Config, OutOfMemory};
+use relay_outside::{Addr, Config, Family, OutOfMemory};
 use sdp_text::Proto;
 use std::alloc::Global;
 
@@ -45,7 +45,8 @@ impl Board {
     ghost use Rattle.cookie_cache.specs.Caches.{HasSparePlace};
     ghost use Rattle.indexmap.specs.IndexMap.{keys, values};
     ghost use Rattle.histories.specs.Words.{has};
-    ghost use Rattle.port_pool.specs.Pools.{generation};
+    ghost use Rattle.port_pool.specs.Ports.{pairs_of_family};
+    ghost use Rattle.port_pool.specs.Pools.{generation, free_pairs, family_in};
     ghost use Rattle.offer_answer.specs.Dialogs.{DialogFor};
     ghost use Rattle.offer_answer.specs.Plan as plan;
     ghost use Rattle.call_board.specs.Views.{View, CallView, view_at_moment, with_keeping, one_drawn, with_returned, without_call, call_of_id, call_numbered};
@@ -55,7 +56,12 @@ impl Board {
     pub fn new(alloc: Global, config: &Config) -> Result<Board, OutOfMemory>
         ensures { IfOk result (λ board. BoardFor config.now board []) }
     {
-        let pool = Pool::new(alloc, config.port_min, config.port_max)?;
+        let pool = Pool::new(
+            alloc,
+            config.port_min,
+            config.port_max,
+            config.interface6.is_some(),
+        )?;
         let replies = CookieCache::new(alloc)?;
         let taken = Vec::from_elem(alloc, false, config.max_sessions as usize)?;
         Ok(Board {
@@ -143,11 +149,11 @@ impl Board {
         Some(self.calls.at(place).number)
     }
 
-    /// Takes a lease back: its pair waits after all others that are free. It takes no memory. The lease is the last one of
+    /// Takes a lease back: its pair waits after all others of its family that are free. It takes no memory. The lease is the last one of
     /// a pair of the board's that isn't free.
     pub fn give_back(&mut self, lease: Lease)
         requires of_pool { lease.pair < length self.old.pool.generations }
-        requires not_free { has self.old.pool.free lease.pair ≡ false }
+        requires not_free { has (free_pairs self.old.pool (family_in self.old.pool lease.pair)) lease.pair ≡ false }
         requires last { generation self.old.pool lease.pair ≡ lease.generation }
         ensures returned { (config : Config) (v : View) → BoardMatches config self.old v → BoardMatches config self.new (with_returned v (lease.pair ∷ [])) }
         ensures calls { KeepsCalls self.old self.new }
@@ -156,11 +162,11 @@ impl Board {
         self.pool.give_back(lease);
     }
 
-    /// How many pairs are free.
-    pub fn free_count(&self) -> usize
-        ensures { (config : Config) (v : View) → BoardMatches config self.now v → result ≡ length v.free }
+    /// How many pairs of a family are free.
+    pub fn free_count(&self, family: Family) -> usize
+        ensures { (config : Config) (v : View) → BoardMatches config self.now v → result ≡ length (pairs_of_family config v.free family) }
     {
-        self.pool.free_count()
+        self.pool.free_count(family)
     }
 
     /// The live calls, each under the bytes of its call-id, in order of creation.

@@ -21,11 +21,13 @@ pub enum BoardFault {
     OtherSide,
     /// The number of sections isn't that of the offer, or less than that of the last committed one.
     MediaCount,
+    /// An address of an active section is of another family than its side's leg, or its addresses are of two.
+    Family,
     /// A section with SRTP has no crypto line that can be used (RFC 4568).
     NoCrypto,
     /// As many calls are live as may be.
     SessionLimit,
-    /// Fewer port pairs are free than the offer demands.
+    /// Of some family fewer port pairs are free than the offer demands.
     NoPair,
     /// Out of memory.
     OutOfMemory,
@@ -39,6 +41,7 @@ impl From<OaFault> for BoardFault {
             OaFault::UnknownTag => BoardFault::UnknownTag,
             OaFault::OtherSide => BoardFault::OtherSide,
             OaFault::MediaCount => BoardFault::MediaCount,
+            OaFault::Family => BoardFault::Family,
             OaFault::NoCrypto => BoardFault::NoCrypto,
             OaFault::OutOfMemory => BoardFault::OutOfMemory,
         }

@@ -1,12 +1,15 @@
 //! What the board plans for an offer.
 
-ghost use Rattle.std.specs.Prelude.{◌≡◌, ◌≢◌, ◌+◌, ℕ, [], List, length, nat_lt, nat_le, Option, Some, None, Ok, Err, IfOk, IfSome, OnOk, not, map, position, unwrap_or, slice_index_or, ◌<◌, if◌then◌else◌};
+ghost use Rattle.std.specs.Prelude.{◌≡◌, ◌≢◌, ◌+◌, ℕ, [], List, length, count_by, nat_lt, nat_le, Option, Some, None, Ok, Err, IfOk, IfSome, OnOk, not, map, position, unwrap_or, slice_index_or, ◌<◌, if◌then◌else◌};
 ghost use Rattle.std.specs.Str.{bytes_eq};
 ghost use Rattle.relay_outside.specs.declared.settings.Config.{Config};
 ghost use Rattle.offer_answer.specs.Rounds.{Round, OfferAsk};
 ghost use Rattle.offer_answer.specs.Widths.{WritesFrom};
-ghost use Rattle.offer_answer.specs.Offers.{AsksOffer, pairs_demanded};
+ghost use Rattle.port_pool.specs.Ports.{family_eq};
+ghost use Rattle.port_pool.specs.Pools.{free_pairs};
+ghost use Rattle.offer_answer.specs.Offers.{AsksOffer, pairs_demanded, legs_demanded};
 ghost use Rattle.call_board.specs.Calls.{lowest_but};
+ghost use Rattle.call_board.specs.Pairs.{is_short, is_short_of};
 ghost use Rattle.call_board.specs.Views.{View, CallView};
 ghost use Rattle.call_board.specs.Boards.{BoardMatches, KeepsReplies};
 ghost use Rattle.call_board.specs.Plans.{RoomFor, PlansOffer, PlansFor, HasRoomForPlan, NewFor, target_by};
@@ -18,7 +21,7 @@ use ng_bencode::Text;
 use ng_command::OfferIn;
 use offer_answer::{Dialog, Plan, offer};
 use port_pool::Leases;
-use relay_outside::OutOfMemory;
+use relay_outside::{Family, OutOfMemory};
 use sdp_text::Sdp;
 use std::alloc::Global;
 
@@ -47,6 +50,19 @@ pub(crate) fn new_call(
     Ok(NewCall { id, key, dialog })
 }
 
+/// How many pairs of a family the plan demands.
+fn pairs_of(plan: &Plan, family: Family) -> usize
+    ensures { result ≡ count_by (λ leg. family_eq leg.family family) (legs_demanded plan.now) }
+{
+    let mut count = 0;
+    for index in 0..plan.pairs() {
+        if plan.pair_family(index) == family {
+            count += 1;
+        }
+    }
+    count
+}
+
 /// The place of the first cell that isn't taken.
 fn first_free(taken: &[bool]) -> Option<usize>
     ensures place { result ≡ position not taken.now }
@@ -67,11 +83,18 @@ fn cell_at(place: usize, count: u32) -> Option<u32>
 }
 
 impl Board {
-    /// Whether fewer pairs are free than the plan demands.
-    fn lacks_pairs(&self, plan: &Plan) -> bool
-        ensures { result ≡ nat_lt (length self.now.pool.free) (pairs_demanded plan.now) }
+    /// Whether fewer pairs of a family are free than the plan demands of it.
+    fn lacks_pairs_of(&self, plan: &Plan, family: Family) -> bool
+        ensures { result ≡ is_short_of (free_pairs self.now.pool) (legs_demanded plan.now) family }
     {
-        self.pool.free_count() < plan.pairs()
+        self.pool.free_count(family) < pairs_of(plan, family)
+    }
+
+    /// Whether of some family fewer pairs are free than the plan demands.
+    fn lacks_pairs(&self, plan: &Plan) -> bool
+        ensures { result ≡ is_short (free_pairs self.now.pool) (legs_demanded plan.now) }
+    {
+        self.lacks_pairs_of(plan, Family::V4) || self.lacks_pairs_of(plan, Family::V6)
     }
 
     /// Whether as many calls are live as may be.
@@ -176,8 +199,8 @@ impl Board {
 
     /// The plan of an offer, or its first fault. It takes all memory that the offer needs of the board, and leases nothing.
     ///
-    /// `Ending`: its call is ending. `SessionLimit`: the offer would begin a call while as many are live as may be. `NoPair`: fewer pairs are free than two
-    /// for each new active section. A plan that was not leased may be dropped: the board is as before.
+    /// `Ending`: its call is ending. `SessionLimit`: the offer would begin a call while as many are live as may be. `NoPair`: of some family
+    /// fewer pairs are free than new active sections have legs of it. A plan that was not leased may be dropped: the board is as before.
     pub fn plan_offer(
         &mut self,
         alloc: Global,

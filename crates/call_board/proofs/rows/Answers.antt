@@ -2,7 +2,7 @@
 use Rattle.std.proofs.Common.{◌≡◌, ap, List, [], ◌∷◌, true, false, cond, Some, None, Err, refl}
 use Rattle.std.specs.Prelude.{codes}
 use Rattle.relay_outside.specs.declared.address.Family.TheVariants.{V6}
-use Rattle.port_pool.specs.Ports.{pair_count}
+use Rattle.port_pool.specs.Ports.{range_pairs, pair_count}
 use Rattle.ng_command.specs.Meanings as said
 use Rattle.ng_reply.specs.declared.code.ErrorCode.TheVariants.{E3, E9, E10, E13, E14, E15, E16, E17, E19}
 use Rattle.port_pool.specs.declared.holder.Side.TheVariants.{B}
@@ -146,7 +146,7 @@ numbered_on before = refl
 
 -- a leg gets a pair of its own family alone
 other_family : leased_pairs config [] (record { pairs = record { section = 0; side = B; family = V6 } ∷ []; keys = []; dropped = [] }) ≡ []
-unfolding pair_count
+unfolding pair_count range_pairs
 other_family = refl
 
 -- Ticks name live calls, in the order of their beginning.

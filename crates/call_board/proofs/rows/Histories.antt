@@ -36,6 +36,7 @@ options = record {
   replace_session = false;
   transport = None;
   source = None;
+  family = None;
 }
 
 abbrev pub ask_to : List ℕ → OfferAsk

@@ -4,7 +4,7 @@ use Rattle.relay_outside.specs.declared.address.Family.{Family}
 use Rattle.relay_outside.specs.declared.address.Family.TheVariants.{V4, V6}
 use Rattle.ng_reply.specs.declared.code.ErrorCode.TheVariants.{E15, E16}
 use Rattle.histories.specs.Words.{here}
-use Rattle.port_pool.specs.Ports.{pair_count}
+use Rattle.port_pool.specs.Ports.{range_pairs, pair_count}
 use Rattle.port_pool.specs.declared.holder.Holder.{Holder}
 use Rattle.port_pool.specs.declared.holder.Side.TheVariants.{A, B}
 use Rattle.port_pool.specs.declared.signal.SectionSignal.TheVariants.{Reject}
@@ -17,7 +17,7 @@ use Rattle.call_board.proofs.rows.Histories.{config, did, tick, stop, history_of
 -- Leases, from the lowest pair on.
 
 nothing_leased : free config [] ≡ 0 ∷ 1 ∷ 2 ∷ 3 ∷ []
-unfolding pair_count
+unfolding pair_count range_pairs
 nothing_leased = refl
 
 -- the first call has pairs 0 and 1
@@ -29,11 +29,11 @@ abbrev last_two : BoardEntry
 last_two = begins c2 (leg c2 0 B 2 1 ∷ leg c2 0 A 3 1 ∷ [])
 
 two_left : free config (history_of (first_two ∷ [])) ≡ 2 ∷ 3 ∷ []
-unfolding pair_count
+unfolding pair_count range_pairs
 two_left = refl
 
 none_left : free config (history_of (first_two ∷ last_two ∷ [])) ≡ []
-unfolding pair_count
+unfolding pair_count range_pairs
 none_left = refl
 
 held_in_order : held (history_of (first_two ∷ last_two ∷ [])) ≡ leg c1 0 B 0 1 ∷ leg c1 0 A 1 1 ∷ leg c2 0 B 2 1 ∷ leg c2 0 A 3 1 ∷ []
@@ -47,11 +47,11 @@ one_pair_twice once = once.0 (here refl)
 -- Returns: after the pairs that were never leased, in the order of the last return.
 
 returned_last : free config (history_of (first_two ∷ deletes c1 ∷ [])) ≡ 2 ∷ 3 ∷ 0 ∷ 1 ∷ []
-unfolding pair_count
+unfolding pair_count range_pairs
 returned_last = refl
 
 in_order_of_return : free config (history_of (first_two ∷ last_two ∷ deletes c2 ∷ deletes c1 ∷ [])) ≡ 2 ∷ 3 ∷ 0 ∷ 1 ∷ []
-unfolding pair_count
+unfolding pair_count range_pairs
 in_order_of_return = refl
 
 -- the pairs 2 and 3 come again with the next call and are given back once more: then they stand last
@@ -59,16 +59,16 @@ abbrev taken_again : List BoardEntry
 taken_again = first_two ∷ last_two ∷ deletes c2 ∷ deletes c1 ∷ begins c3 (leg c3 0 B 2 2 ∷ leg c3 0 A 3 2 ∷ []) ∷ []
 
 held_again : free config (history_of taken_again) ≡ 0 ∷ 1 ∷ []
-unfolding pair_count
+unfolding pair_count range_pairs
 held_again = refl
 
 by_last_return : free config (deletes c3 ∷ history_of taken_again) ≡ 0 ∷ 1 ∷ 2 ∷ 3 ∷ []
-unfolding pair_count
+unfolding pair_count range_pairs
 by_last_return = refl
 
 -- the last pair was never leased, so that it comes before those that were given back
 never_leased_first : free config (history_of (begins c1 (leg c1 0 B 0 1 ∷ leg c1 0 A 1 1 ∷ leg c1 1 B 2 1 ∷ []) ∷ deletes c1 ∷ [])) ≡ 3 ∷ 0 ∷ 1 ∷ 2 ∷ []
-unfolding pair_count
+unfolding pair_count range_pairs
 never_leased_first = refl
 
 -- Sections: an offer's drop and an answer's rejection close the legs of that section of that call.
@@ -80,14 +80,14 @@ dropped : held (history_of (two_sections ∷ offers c1 [] (0 ∷ []) ∷ [])) �
 dropped = refl
 
 dropped_pairs : free config (history_of (two_sections ∷ offers c1 [] (0 ∷ []) ∷ [])) ≡ 0 ∷ 1 ∷ []
-unfolding pair_count
+unfolding pair_count range_pairs
 dropped_pairs = refl
 
 rejected : held (history_of (two_sections ∷ answers c1 (Reject ∷ []) ∷ [])) ≡ leg c1 1 B 2 1 ∷ leg c1 1 A 3 1 ∷ []
 rejected = refl
 
 rejected_pairs : free config (history_of (two_sections ∷ answers c1 (Reject ∷ Reject ∷ []) ∷ [])) ≡ 0 ∷ 1 ∷ 2 ∷ 3 ∷ []
-unfolding pair_count
+unfolding pair_count range_pairs
 rejected_pairs = refl
 
 -- a call's drop leaves the legs of other calls
@@ -110,11 +110,11 @@ closed_by_stop : closed (history_of interleaved) (stop (c1 ∷ c2 ∷ [])) ≡ l
 closed_by_stop = refl
 
 returned_by_stop : free config (stop (c1 ∷ c2 ∷ []) ∷ history_of interleaved) ≡ 0 ∷ 1 ∷ 3 ∷ 2 ∷ []
-unfolding pair_count
+unfolding pair_count range_pairs
 returned_by_stop = refl
 
 returned_by_tick : free config (tick (c2 ∷ []) ∷ history_of interleaved) ≡ 2 ∷ []
-unfolding pair_count
+unfolding pair_count range_pairs
 returned_by_tick = refl
 
 -- dropped sections close in lease order, not in the order of the sections
@@ -129,11 +129,11 @@ closes_nothing = refl
 
 -- the pairs go to the end of the queue
 undone_by_ports : free config (history_of (did (act.Undone E15 (lease 0 1 ∷ lease 1 1 ∷ []) []) ∷ [])) ≡ 2 ∷ 3 ∷ 0 ∷ 1 ∷ []
-unfolding pair_count
+unfolding pair_count range_pairs
 undone_by_ports = refl
 
 undone_by_keys : free config (history_of (first_two ∷ deletes c1 ∷ did (act.Undone E16 (lease 2 1 ∷ lease 3 1 ∷ []) []) ∷ [])) ≡ 0 ∷ 1 ∷ 2 ∷ 3 ∷ []
-unfolding pair_count
+unfolding pair_count range_pairs
 undone_by_keys = refl
 
 -- nothing is held by them
@@ -167,20 +167,20 @@ abbrev four : List NewLeg
 four = wants 0 V4 ∷ wants 1 V4 ∷ wants 2 V4 ∷ wants 3 V4 ∷ []
 
 fronts_in_order : fronts (free_in config (history_of (first_two ∷ deletes c1 ∷ []))) (wants 0 V4 ∷ wants 1 V4 ∷ wants 2 V4 ∷ []) ≡ 2 ∷ 3 ∷ 0 ∷ []
-unfolding pair_count
+unfolding pair_count range_pairs
 fronts_in_order = refl
 
 enough : is_short (free_in config []) four ≡ false
-unfolding pair_count
+unfolding pair_count range_pairs
 enough = refl
 
 one_too_many : is_short (free_in config []) (wants 4 V4 ∷ four) ≡ true
-unfolding pair_count
+unfolding pair_count range_pairs
 one_too_many = refl
 
 -- where no leg is new, no pair is wanted
 wants_none : is_short (free_in config (history_of (first_two ∷ last_two ∷ []))) [] ≡ false
-unfolding pair_count
+unfolding pair_count range_pairs
 wants_none = refl
 
 -- each family has its own list
@@ -195,7 +195,7 @@ short_of_one_family : is_short two_lists (wants 0 V6 ∷ wants 1 V6 ∷ wants 2 
 short_of_one_family = refl
 
 no_address_of_version_6 : free_in config [] V6 ≡ []
-unfolding pair_count
+unfolding pair_count range_pairs
 no_address_of_version_6 = refl
 
 legs_of_offer : leased_new_legs (history_of (first_two ∷ deletes c1 ∷ [])) c2 (2 ∷ 0 ∷ []) (wants 0 V4 ∷ wants 5 V4 ∷ []) ≡ leg c2 0 B 2 1 ∷ leg c2 5 B 0 2 ∷ []

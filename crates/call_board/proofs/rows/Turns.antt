@@ -13,7 +13,7 @@ use Rattle.sdp_edit.specs.Places.{line_place}
 use Rattle.sdp_edit.specs.Texts.{with_end, connection_text, media_text, origin_text}
 use Rattle.sdp_edit.specs.EditedText.{edited_from, edited_line, image_text, added_connection, added_keys, key_lines}
 use Rattle.cookie_cache.specs.Keepings as cache
-use Rattle.port_pool.specs.Ports.{pair_count}
+use Rattle.port_pool.specs.Ports.{range_pairs, pair_count}
 use Rattle.port_pool.specs.declared.holder.Side.TheVariants.{A, B}
 use Rattle.offer_answer.specs.Rounds.{OfferAsk}
 use Rattle.offer_answer.specs.Keys.{chosen_in}
@@ -29,7 +29,7 @@ use Rattle.call_board.proofs.rows.Histories.{config, from_port, given, options, 
 
 -- what is opened so that a turn computes
 unfoldable pub turns : Unit {0}
-unfolding asked sdp_error reply_text pair_count cache.kept OfferRead offer_fault demand offer_text is_side digits is_removed is_feedback image_of line_place with_end connection_text media_text origin_text edited_from edited_line image_text added_connection added_keys key_lines
+unfolding asked sdp_error reply_text pair_count range_pairs cache.kept OfferRead offer_fault demand offer_text is_side digits is_removed is_feedback image_of line_place with_end connection_text media_text origin_text edited_from edited_line image_text added_connection added_keys key_lines
 turns = tt
 
 abbrev pub at : ℕ → Control → BoardEntry
