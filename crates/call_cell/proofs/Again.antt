@@ -135,6 +135,7 @@ can_come_again {O} config cell h k signal call keys dropped for again can new =
     (stood (added signal) (legs (since_end k)) dropped leg i none) in
     record {
       sections = can.sections;
+      families = can.families;
       ports = can.ports;
       differ = can.differ;
       new_lease = λ leg other i j. can.new_lease leg other i (in_legs other j);

@@ -98,6 +98,7 @@ cell_expires {O} config old h now moment due for is answer =
                 pair = l.pair;
                 generation = l.generation;
                 signal = l.signal;
+                family = l.family;
                 port = l.port;
                 receiving = l.receiving;
                 sending = l.sending;

@@ -1,5 +1,6 @@
 -- What a relay does, by cases: it refuses the packet, loses it after it was taken, or makes its one send.
 use Rattle.std.proofs.Common.{◌≡◌, refl, ℕ, List, Bool, true, false, cond, Option, Some, None, Result, Ok, Err}
+use Rattle.relay_outside.specs.declared.address.Family.{Family}
 use Rattle.relay_outside.specs.declared.settings.Config.{Config}
 use Rattle.rtp_packet.specs.declared.head.Half.{Half}
 use Rattle.rtp_packet.specs.declared.head.Half.TheVariants.{Rtp, Rtcp}
@@ -45,7 +46,7 @@ sending_of h p other signal bytes =
 
 -- the cause is no failed send
 abbrev pub IsNoFault : Lost → Type 0
-IsNoFault cause = (port : ℕ) → cause ≡ lost.SendFault port → ⊥
+IsNoFault cause = (family : Family) (port : ℕ) → cause ≡ lost.SendFault family port → ⊥
 
 pub data Does (config : Config) (h : List CellEntry) (p : Receipt) (ok : Bool) (d : Deed) : Type 0 where
   refuses : (cause : Refused) → d ≡ refused_deed (kind h p) cause → Does config h p ok d
@@ -56,46 +57,46 @@ pub data Does (config : Config) (h : List CellEntry) (p : Receipt) (ok : Bool) (
 -- nothing is held back as a send that failed
 
 lost_by_none : (cause : ProtectFault) → IsNoFault (lost_by cause)
-lost_by_none TooOld port q = let e = q in cc
-lost_by_none IndexUsed port q = let e = q in cc
-lost_by_none TooManySources port q = let e = q in cc
-lost_by_none KeySpent port q = let e = q in cc
+lost_by_none TooOld family port q = let e = q in cc
+lost_by_none IndexUsed family port q = let e = q in cc
+lost_by_none TooManySources family port q = let e = q in cc
+lost_by_none KeySpent family port q = let e = q in cc
 
 rtp_never : (number : ℕ) (r : Result srtp_out.Wrapped ProtectFault) (cause : Lost) → wrapped_rtp number r ≡ Held cause → IsNoFault cause
-rtp_never number (Ok packet) cause q port e = let f = q in cc
-rtp_never number (Err fault) cause q port e = lost_by_none fault port (let f = q in cc)
+rtp_never number (Ok packet) cause q family port e = let f = q in cc
+rtp_never number (Err fault) cause q family port e = lost_by_none fault family port (let f = q in cc)
 
 rtcp_never : (number : ℕ) (r : Result srtcp_out.Wrapped ProtectFault) (cause : Lost) → wrapped_rtcp number r ≡ Held cause → IsNoFault cause
-rtcp_never number (Ok packet) cause q port e = let f = q in cc
-rtcp_never number (Err fault) cause q port e = lost_by_none fault port (let f = q in cc)
+rtcp_never number (Ok packet) cause q family port e = let f = q in cc
+rtcp_never number (Err fault) cause q family port e = lost_by_none fault family port (let f = q in cc)
 
 under_never : (key : NewKey) (notes : List Note) (half : Half) (plain : List ℕ) (cause : Lost)
     → wrapped_under key notes half plain ≡ Held cause → IsNoFault cause
 unfolding wrapped_under
-under_never key notes Rtp plain cause q port e = rtp_never key.number (srtp_out.wrapping key.bytes key.suite notes plain) cause q port e
-under_never key notes Rtcp plain cause q port e = rtcp_never key.number (srtcp_out.rtcp_wrapping key.bytes notes plain) cause q port e
+under_never key notes Rtp plain cause q family port e = rtp_never key.number (srtp_out.wrapping key.bytes key.suite notes plain) cause q family port e
+under_never key notes Rtcp plain cause q family port e = rtcp_never key.number (srtcp_out.rtcp_wrapping key.bytes notes plain) cause q family port e
 
 with_never : (key : Option NewKey) (notes : List Note) (half : Half) (plain : List ℕ) (cause : Lost)
     → wrapped_with key notes half plain ≡ Held cause → IsNoFault cause
-with_never None notes half plain cause q port e = let f = q in cc
-with_never (Some key) notes half plain cause q port e = under_never key notes half plain cause q port e
+with_never None notes half plain cause q family port e = let f = q in cc
+with_never (Some key) notes half plain cause q family port e = under_never key notes half plain cause q family port e
 
 numbered_never : (h : List CellEntry) (number : Option ℕ) (half : Half) (plain : List ℕ) (cause : Lost)
     → wrapped_numbered h number half plain ≡ Held cause → IsNoFault cause
-numbered_never h None half plain cause q port e = let f = q in cc
-numbered_never h (Some number) half plain cause q port e = with_never (key_numbered h number) (protected h number) half plain cause q port e
+numbered_never h None half plain cause q family port e = let f = q in cc
+numbered_never h (Some number) half plain cause q family port e = with_never (key_numbered h number) (protected h number) half plain cause q family port e
 
 towards_case : (h : List CellEntry) (number : Option ℕ) (half : Half) (plain : List ℕ) (cause : Lost) (hold : Bool)
     → cond hold (Held lost.Hold) (wrapped_numbered h number half plain) ≡ Held cause → IsNoFault cause
-towards_case h number half plain cause true q port e = let f = q in cc
-towards_case h number half plain cause false q port e = numbered_never h number half plain cause q port e
+towards_case h number half plain cause true q family port e = let f = q in cc
+towards_case h number half plain cause false q family port e = numbered_never h number half plain cause q family port e
 
 towards_never : (h : List CellEntry) (s : LegSignal) (half : Half) (plain : List ℕ) (cause : Lost)
     → wrapped_towards h s half plain ≡ Held cause → IsNoFault cause
-towards_never h s half plain cause q port e = towards_case h s.outbound half plain cause s.hold q port e
+towards_never h s half plain cause q family port e = towards_case h s.outbound half plain cause s.hold q family port e
 
 hold_is_none : IsNoFault lost.Hold
-hold_is_none port q = let e = q in cc
+hold_is_none family port q = let e = q in cc
 
 -- the cases
 

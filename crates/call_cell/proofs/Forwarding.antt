@@ -16,6 +16,7 @@ use Rattle.port_pool.specs.Signals.{NewKey}
 use Rattle.endpoint_learn.specs.declared.learner.Learner.{Learner}
 use Rattle.call_cell.specs.Parts.{learner_in, endpoint_of}
 use Rattle.call_cell.specs.LegHistories.{in_force_with}
+use Rattle.call_cell.specs.declared.outcome.LocalPort.{LocalPort}
 use Rattle.call_cell.specs.declared.outcome.Lost.{Lost}
 use Rattle.call_cell.specs.declared.outcome.Lost.TheVariants as lost
 use Rattle.call_cell.specs.declared.outcome.Outcome.{Outcome}
@@ -26,24 +27,24 @@ use Rattle.call_cell.specs.declared.counts.Counts.{Counts}
 use Rattle.call_cell.specs.Protection.{Departure, Held, Leaves}
 use Rattle.call_cell.specs.Counts.{more_sent}
 use Rattle.call_cell.specs.Parts.{boxed_in, OutboundIn, ProtectsTo, ForwardsTo, SendsBy, SameEnds, SameKeys, ends_of, other_half, noted_under, wrapped_by, wrapped_for, send_answer}
-use Rattle.call_cell.specs.LegHistories.{LegForwards, LegForwardsBy, with_send, port_by, outcome_of, send_outcome, sent_ok}
+use Rattle.call_cell.specs.LegHistories.{LegForwards, LegForwardsBy, with_send, leased_port, outcome_of, send_outcome, sent_ok}
 
 -- A refusal.
 
 held_case : {O : Type 0} (log : O → EndLog OutCall) (faults : O → ℕ) (leg : Holder) (keys : ℕ → Option NewKey) (notes : ℕ → List Note) (half : Half)
-    (port : ℕ) (to : Addr) (old new : Sending O) (buf : List ℕ) (cause : Lost) (w : Departure) → ProtectsTo w leg keys notes old new buf (Err cause)
-    → ForwardsTo log faults w leg keys notes half port to old new buf (Err cause)
-held_case log faults leg keys notes half port to old new buf cause (Held other) does = does
-held_case log faults leg keys notes half port to old new buf cause (Leaves shield bytes) does = absurd (let f = does.answer in cc)
+    (from : LocalPort) (to : Addr) (old new : Sending O) (buf : List ℕ) (cause : Lost) (w : Departure) → ProtectsTo w leg keys notes old new buf (Err cause)
+    → ForwardsTo log faults w leg keys notes half from to old new buf (Err cause)
+held_case log faults leg keys notes half from to old new buf cause (Held other) does = does
+held_case log faults leg keys notes half from to old new buf cause (Leaves shield bytes) does = absurd (let f = does.answer in cc)
 
 pub held : {O : Type 0} (log : O → EndLog OutCall) (faults : O → ℕ) (leg : Holder) (keys : ℕ → Option NewKey) (notes : ℕ → List Note) (s : LegSignal)
-    (half : Half) (bytes : List ℕ) (port : ℕ) (to : Addr) (old new : Sending O) (buf : List ℕ) (cause : Lost) → s.hold ≡ false
+    (half : Half) (bytes : List ℕ) (from : LocalPort) (to : Addr) (old new : Sending O) (buf : List ℕ) (cause : Lost) → s.hold ≡ false
     → ProtectsTo (wrapped_by keys notes s.outbound half bytes) leg keys notes old new buf (Err cause)
-    → ForwardsTo log faults (wrapped_for keys notes s half bytes) leg keys notes half port to old new buf (Err cause)
-held {O} log faults leg keys notes s half bytes port to old new buf cause free does =
+    → ForwardsTo log faults (wrapped_for keys notes s half bytes) leg keys notes half from to old new buf (Err cause)
+held {O} log faults leg keys notes s half bytes from to old new buf cause free does =
     let P : Bool → Type 0 = λ (b : Bool).
-    ForwardsTo {O = O} log faults (if b then Held lost.Hold else wrapped_by keys notes s.outbound half bytes) leg keys notes half port to old new buf (Err cause) in
-    subst P (sym free) (held_case log faults leg keys notes half port to old new buf cause (wrapped_by keys notes s.outbound half bytes) does)
+    ForwardsTo {O = O} log faults (if b then Held lost.Hold else wrapped_by keys notes s.outbound half bytes) leg keys notes half from to old new buf (Err cause) in
+    subst P (sym free) (held_case log faults leg keys notes half from to old new buf cause (wrapped_by keys notes s.outbound half bytes) does)
 
 -- A send.
 
@@ -62,28 +63,28 @@ sends_from {O} log faults half to bytes ok old mid new same sends =
       other = sends.other ∙ same_end (other_half half) old mid same;
     }
 
-answered : (port size : ℕ) (done : Bool) → is_ok (send_answer port size done) ≡ done
-answered port size true = refl
-answered port size false = refl
+answered : (from : LocalPort) (size : ℕ) (done : Bool) → is_ok (send_answer from size done) ≡ done
+answered from size true = refl
+answered from size false = refl
 
 same_size : (size n : ℕ) → ◌≡◌ {A = Result ℕ Lost} (Ok size) (Ok n) → size ≡ n
 same_size size n q = let f = q in cc
 
 sent_case : {O : Type 0} (log : O → EndLog OutCall) (faults : O → ℕ) (leg : Holder) (keys : ℕ → Option NewKey) (notes : ℕ → List Note) (half : Half)
-    (port : ℕ) (to : Addr) (old mid new : Sending O) (buf : List ℕ) (size : ℕ) (done : Bool) (result : Result ℕ Lost) (w : Departure)
+    (from : LocalPort) (to : Addr) (old mid new : Sending O) (buf : List ℕ) (size : ℕ) (done : Bool) (result : Result ℕ Lost) (w : Departure)
     → ProtectsTo w leg keys notes old mid buf (Ok size) → SameEnds old mid → SameKeys mid new → SendsBy log faults half to (take size buf) done mid new
-    → result ≡ send_answer port size done → ForwardsTo log faults w leg keys notes half port to old new buf result
-sent_case log faults leg keys notes half port to old mid new buf size done result (Held cause) does ends same sends is = absurd (let f = does.answer in cc)
-sent_case {O} log faults leg keys notes half port to old mid new buf size done result (Leaves shield bytes) does ends same sends is =
+    → result ≡ send_answer from size done → ForwardsTo log faults w leg keys notes half from to old new buf result
+sent_case log faults leg keys notes half from to old mid new buf size done result (Held cause) does ends same sends is = absurd (let f = does.answer in cc)
+sent_case {O} log faults leg keys notes half from to old mid new buf size done result (Leaves shield bytes) does ends same sends is =
     let many : size ≡ length bytes = same_size size (length bytes) does.answer in
-    let ok : done ≡ is_ok result = sym (answered port size done) ∙ ap (λ (r : Result ℕ Lost). is_ok r) (sym is) in
+    let ok : done ≡ is_ok result = sym (answered from size done) ∙ ap (λ (r : Result ℕ Lost). is_ok r) (sym is) in
     let front : take size buf ≡ bytes = ap (λ (n : ℕ). take n buf) many ∙ does.buffer in
     let sent : SendsBy log faults half to bytes (is_ok result) old new
     = subst (λ (l : List ℕ). SendsBy log faults half to l (is_ok result) old new) front
     (subst (λ (b : Bool). SendsBy log faults half to (take size buf) b old new) ok
     (sends_from log faults half to (take size buf) done old mid new ends sends)) in
     record {
-      answer = is ∙ ap (λ (n : ℕ). send_answer port n done) many ∙ ap (λ (b : Bool). send_answer port (length bytes) b) ok;
+      answer = is ∙ ap (λ (n : ℕ). send_answer from n done) many ∙ ap (λ (b : Bool). send_answer from (length bytes) b) ok;
       buffer = does.buffer;
       under = does.under;
       keeps = record {
@@ -94,42 +95,42 @@ sent_case {O} log faults leg keys notes half port to old mid new buf size done r
     }
 
 pub sent : {O : Type 0} (log : O → EndLog OutCall) (faults : O → ℕ) (leg : Holder) (keys : ℕ → Option NewKey) (notes : ℕ → List Note) (s : LegSignal)
-    (half : Half) (bytes : List ℕ) (port : ℕ) (to : Addr) (old mid new : Sending O) (buf : List ℕ) (size : ℕ) (done : Bool) (result : Result ℕ Lost) → s.hold ≡ false
+    (half : Half) (bytes : List ℕ) (from : LocalPort) (to : Addr) (old mid new : Sending O) (buf : List ℕ) (size : ℕ) (done : Bool) (result : Result ℕ Lost) → s.hold ≡ false
     → ProtectsTo (wrapped_by keys notes s.outbound half bytes) leg keys notes old mid buf (Ok size) → SameEnds old mid → SameKeys mid new
-    → SendsBy log faults half to (take size buf) done mid new → result ≡ send_answer port size done
-    → ForwardsTo log faults (wrapped_for keys notes s half bytes) leg keys notes half port to old new buf result
-sent {O} log faults leg keys notes s half bytes port to old mid new buf size done result free does ends same sends is =
+    → SendsBy log faults half to (take size buf) done mid new → result ≡ send_answer from size done
+    → ForwardsTo log faults (wrapped_for keys notes s half bytes) leg keys notes half from to old new buf result
+sent {O} log faults leg keys notes s half bytes from to old mid new buf size done result free does ends same sends is =
     let P : Bool → Type 0 = λ (b : Bool).
-    ForwardsTo {O = O} log faults (if b then Held lost.Hold else wrapped_by keys notes s.outbound half bytes) leg keys notes half port to old new buf result in
+    ForwardsTo {O = O} log faults (if b then Held lost.Hold else wrapped_by keys notes s.outbound half bytes) leg keys notes half from to old new buf result in
     subst P (sym free)
-    (sent_case log faults leg keys notes half port to old mid new buf size done result (wrapped_by keys notes s.outbound half bytes) does ends same sends is)
+    (sent_case log faults leg keys notes half from to old mid new buf size done result (wrapped_by keys notes s.outbound half bytes) does ends same sends is)
 
 -- A leg.
 
-by_answer : (port : ℕ) (to : Addr) (size : ℕ) (ok : Bool) → outcome_of port to (send_answer port size ok) ≡ send_outcome port to size ok
-by_answer port to size true = refl
-by_answer port to size false = refl
+by_answer : (from : LocalPort) (to : Addr) (size : ℕ) (ok : Bool) → outcome_of from to (send_answer from size ok) ≡ send_outcome from to size ok
+by_answer from to size true = refl
+by_answer from to size false = refl
 
-ok_of : (port : ℕ) (to : Addr) (size : ℕ) (ok : Bool) → sent_ok (send_outcome port to size ok) ≡ ok
-ok_of port to size true = refl
-ok_of port to size false = refl
+ok_of : (from : LocalPort) (to : Addr) (size : ℕ) (ok : Bool) → sent_ok (send_outcome from to size ok) ≡ ok
+ok_of from to size true = refl
+ok_of from to size false = refl
 
-leg_case : {O : Type 0} (log : O → EndLog OutCall) (faults : O → ℕ) (keys : ℕ → Option NewKey) (notes : ℕ → List Note) (half : Half) (port : ℕ)
-    (to : Addr) (old : Leg O) (new : Sending O) (buf : List ℕ) (sent : Result ℕ Lost) (result : Outcome) → port ≡ port_by half old.lease.rtp_port
-    → result ≡ outcome_of port to sent → (w : Departure) → ForwardsTo log faults w old.holder keys notes half port to old.sending new buf sent
+leg_case : {O : Type 0} (log : O → EndLog OutCall) (faults : O → ℕ) (keys : ℕ → Option NewKey) (notes : ℕ → List Note) (half : Half) (from : LocalPort)
+    (to : Addr) (old : Leg O) (new : Sending O) (buf : List ℕ) (sent : Result ℕ Lost) (result : Outcome) → from ≡ leased_port half old.lease
+    → result ≡ outcome_of from to sent → (w : Departure) → ForwardsTo log faults w old.holder keys notes half from to old.sending new buf sent
     → LegForwards log faults w keys notes half to old (with_send half (is_ok sent) old new) buf result
-leg_case {O} log faults keys notes half port to old new buf sent result port_is is (Held cause) does =
+leg_case {O} log faults keys notes half from to old new buf sent result from_is is (Held cause) does =
     record {
-      answer = is ∙ ap (λ (r : Result ℕ Lost). outcome_of port to r) does.answer;
+      answer = is ∙ ap (λ (r : Result ℕ Lost). outcome_of from to r) does.answer;
       leg = ap (λ (r : Result ℕ Lost). with_send half (is_ok r) old new) does.answer
           ∙ ap (λ (x : Sending O). with_send half false old x) does.contexts;
     }
-leg_case {O} log faults keys notes half port to old new buf sent result port_is is (Leaves shield bytes) does =
-    let whole : result ≡ send_outcome port to (length bytes) (is_ok sent)
-    = is ∙ ap (λ (r : Result ℕ Lost). outcome_of port to r) does.answer ∙ by_answer port to (length bytes) (is_ok sent) in
-    let ok : is_ok sent ≡ sent_ok result = sym (ap (λ (o : Outcome). sent_ok o) whole ∙ ok_of port to (length bytes) (is_ok sent)) in
+leg_case {O} log faults keys notes half from to old new buf sent result from_is is (Leaves shield bytes) does =
+    let whole : result ≡ send_outcome from to (length bytes) (is_ok sent)
+    = is ∙ ap (λ (r : Result ℕ Lost). outcome_of from to r) does.answer ∙ by_answer from to (length bytes) (is_ok sent) in
+    let ok : is_ok sent ≡ sent_ok result = sym (ap (λ (o : Outcome). sent_ok o) whole ∙ ok_of from to (length bytes) (is_ok sent)) in
     record {
-      answer = whole ∙ ap (λ (b : Bool). send_outcome port to (length bytes) b) ok ∙ ap (λ (n : ℕ). send_outcome n to (length bytes) (sent_ok result)) port_is;
+      answer = whole ∙ ap (λ (b : Bool). send_outcome from to (length bytes) b) ok ∙ ap (λ (a : LocalPort). send_outcome a to (length bytes) (sent_ok result)) from_is;
       buffer = does.buffer;
       under = does.under;
       sending = does.keeps;
@@ -142,16 +143,16 @@ leg_over old sending counts =
     record { holder = old.holder; lease = old.lease; signal = old.signal; receiving = old.receiving; sending = sending; counts = counts }
 
 pub leg_forwards : {O : Type 0} (log : O → EndLog OutCall) (faults : O → ℕ) (keys : ℕ → Option NewKey) (notes : ℕ → List Note) (half : Half)
-    (learner : Learner) (plain : List ℕ) (s : LegSignal) (to : Addr) (port : ℕ) (old : Leg O) (new : Sending O) (counts : Counts) (buf : List ℕ)
-    (sent : Result ℕ Lost) (result : Outcome) → in_force_with old.signal (learner_in half old.receiving) ≡ Some (s, learner) → to ≡ endpoint_of learner → port ≡ port_by half old.lease.rtp_port
-    → counts ≡ more_sent half (is_ok sent) old.counts → result ≡ outcome_of port to sent
-    → ForwardsTo log faults (wrapped_for keys notes s half plain) old.holder keys notes half port to old.sending new buf sent
+    (learner : Learner) (plain : List ℕ) (s : LegSignal) (to : Addr) (from : LocalPort) (old : Leg O) (new : Sending O) (counts : Counts) (buf : List ℕ)
+    (sent : Result ℕ Lost) (result : Outcome) → in_force_with old.signal (learner_in half old.receiving) ≡ Some (s, learner) → to ≡ endpoint_of learner → from ≡ leased_port half old.lease
+    → counts ≡ more_sent half (is_ok sent) old.counts → result ≡ outcome_of from to sent
+    → ForwardsTo log faults (wrapped_for keys notes s half plain) old.holder keys notes half from to old.sending new buf sent
     → LegForwardsBy log faults (in_force_with old.signal (learner_in half old.receiving)) keys notes half plain old (leg_over old new counts) buf result
-leg_forwards {O} log faults keys notes half learner plain s to port old new counts buf sent result signal to_is port_is counted is does =
+leg_forwards {O} log faults keys notes half learner plain s to from old new counts buf sent result signal to_is from_is counted is does =
     let P : Option (LegSignal × Learner) → Type 0 = λ (o : Option (LegSignal × Learner)). LegForwardsBy {O = O} log faults o keys notes half plain old (leg_over old new counts) buf result in
     let Q : Counts → Type 0 = λ (c : Counts). LegForwards {O = O} log faults (wrapped_for keys notes s half plain) keys notes half (endpoint_of learner) old (leg_over old new c) buf result in
     let R : Addr → Type 0 = λ (a : Addr). LegForwards {O = O} log faults (wrapped_for keys notes s half plain) keys notes half a old (with_send half (is_ok sent) old new) buf result in
     subst P (sym signal)
     (subst Q (sym counted)
     (subst R to_is
-    (leg_case log faults keys notes half port to old new buf sent result port_is is (wrapped_for keys notes s half plain) does)))
+    (leg_case log faults keys notes half from to old new buf sent result from_is is (wrapped_for keys notes s half plain) does)))

@@ -35,12 +35,12 @@ none_failed (Some sending) = tt
 -- a relay whose outcome is no failed send made none that failed
 answered : (config : Config) (h : List CellEntry) (p : Receipt) (result : Outcome) → result ≡ (deed config h p (sent_ok result)).outcome
     → IsSendAnswered (deed config h p (sent_ok result)).sending (sent_ok result)
-answered config h p (outcomes.Lost (lost.SendFault port)) q =
-    let f = send_failed config h p false port (sym q) in
+answered config h p (outcomes.Lost (lost.SendFault family port)) q =
+    let f = send_failed config h p false family port (sym q) in
     subst (λ (o : Option Sending). IsSendAnswered o false) (sym f.is_sending) tt
 answered config h p (outcomes.Lost cause) q = none_failed (deed config h p true).sending
 answered config h p (outcomes.Refused cause) q = none_failed (deed config h p true).sending
-answered config h p (outcomes.Sent port to len) q = none_failed (deed config h p true).sending
+answered config h p (outcomes.Sent family port to len) q = none_failed (deed config h p true).sending
 
 max_swap : (m n : ℕ) → max m n ≡ max n m
 max_swap m n = omega arith

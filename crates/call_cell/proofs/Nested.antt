@@ -223,6 +223,7 @@ can_come_same {O} config h k signal number keys dropped s can =
     = λ leg. ap (λ (l : List NewKey). filter (is_for_leg leg) (keys ++ cond (list_any (same_leg leg) (added signal)) [] l)) (s.since_are leg) in
     record {
       sections = can.sections;
+      families = can.families;
       ports = can.ports;
       differ = can.differ;
       new_lease = λ leg other i j. can.new_lease leg other i (in_legs other j);

@@ -133,7 +133,7 @@ offered {O} config m call signal keys dropped h old kept joined new before after
     leg_begins config m call (added signal) signal.keys.items keys dropped h came leg
     (any_true (same_leg leg.holder) leg.holder (added signal) (is_added leg i) (same_itself leg.holder))
     (can.one_each leg.holder (in_right (filter (λ (x : Holder). not (has dropped x.section)) (legs h)) (added signal) (is_added leg i)))
-    (can.sections leg i) (can.ports leg i) (prep.fresh leg i) in
+    (can.sections leg i) (can.families leg i) (can.ports leg i) (prep.fresh leg i) in
     let each_joined : (leg : Leg O) → In leg joined → LegStandsFor config (e ∷ h) (f leg) = λ leg i.
     elim (in_append kept signal.legs.items (subst (λ (l : List (Leg O)). In leg l) joins i)) [
       | inl one ↦ kept_leg leg one

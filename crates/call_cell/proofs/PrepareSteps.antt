@@ -13,7 +13,7 @@ use Rattle.srtp_sources.proofs.Knowing.{equal, equal_if}
 use Rattle.histories.specs.Words.{In, here, there, first, or_else}
 use Rattle.histories.proofs.Lists.{filtered, keeps, in_left, in_right, in_append, any_is_in}
 use Rattle.port_pool.specs.declared.holder.Side.{Side}
-use Rattle.port_pool.specs.Ports.{half_port}
+use Rattle.port_pool.specs.Ports.{pair_family, half_port}
 use Rattle.port_pool.specs.declared.holder.Holder.{Holder}
 use Rattle.port_pool.specs.declared.signal.LegSignal.{LegSignal}
 use Rattle.port_pool.specs.Signals.{NewKey, same_leg, side_eq, suite_eq}
@@ -343,6 +343,7 @@ leg_stays {O} config m call legs prepared keys dropped h came leg stays one for 
       pair = for.pair;
       generation = for.generation;
       signal = for.signal ∙ sym (prepare_in_force m call legs keys dropped h leg.holder stays);
+      family = for.family;
       port = for.port;
       receiving = record {
         learned = λ half. for.receiving.learned half ∙ ap (λ (o : Option Addr). learner_of half leg.signal o) (sym (prepare_learned m call legs keys dropped h leg.holder half stays));
@@ -361,9 +362,10 @@ leg_stays {O} config m call legs prepared keys dropped h came leg stays one for 
 pub leg_begins : {O : Type 0} (config : Config) (m call : ℕ) (legs : List Holder) (prepared : List PreparedKey) (keys : List NewKey) (dropped : List ℕ) (h : List CellEntry)
     → Came config m call legs prepared keys dropped h → (leg : Leg O) → list_any (same_leg leg.holder) legs ≡ true
     → OnePerSuite (keys_for (prepare_entry m call legs keys dropped ∷ h) leg.holder) → leg.holder.section < 8
+    → leg.lease.family ≡ pair_family config leg.holder.pair
     → ((half : Half) → port_by half leg.lease.rtp_port ≡ half_port config leg.holder.pair half) → IsFreshLeg leg
     → LegStandsFor config (prepare_entry m call legs keys dropped ∷ h) (with_keys prepared leg)
-leg_begins {O} config m call legs prepared keys dropped h came leg new one small port fresh =
+leg_begins {O} config m call legs prepared keys dropped h came leg new one small family port fresh =
     let are = keys_new m call legs keys dropped h leg.holder new in
     let held = held_so config m call legs prepared keys dropped h came leg [] are (λ suite. ap key_number_in (fresh.keyless suite)) in
     subst (λ (l : Leg O). LegStandsFor config (prepare_entry m call legs keys dropped ∷ h) l) (sym (sending_only prepared leg))
@@ -371,6 +373,7 @@ leg_begins {O} config m call legs prepared keys dropped h came leg new one small
       pair = fresh.pair;
       generation = fresh.generation;
       signal = fresh.signal ∙ sym (new_leg_unanswered m call legs keys dropped h leg.holder new);
+      family = family;
       port = port;
       receiving = record {
         learned = λ half. fresh.receiving.learned half ∙ ap (λ (o : Option LegSignal). learner_of half o (learned (prepare_entry m call legs keys dropped ∷ h) leg.holder half)) (sym fresh.signal);

@@ -1,9 +1,10 @@
 -- What a relay that made a send did, and when a relay makes one.
 use Rattle.std.proofs.Common.{◌≡◌, refl, ap, subst, sym, ◌∙◌, ℕ, List, Bool, true, false, Option, Some, None, length}
 use Rattle.relay_outside.specs.declared.address.Addr.{Addr}
+use Rattle.relay_outside.specs.declared.address.Family.{Family}
 use Rattle.relay_outside.specs.declared.settings.Config.{Config}
 use Rattle.histories.specs.Words.{In}
-use Rattle.port_pool.specs.Ports.{half_port}
+use Rattle.port_pool.specs.Ports.{pair_family, half_port}
 use Rattle.port_pool.specs.declared.holder.Holder.{Holder}
 use Rattle.port_pool.specs.declared.signal.LegSignal.{LegSignal}
 use Rattle.port_pool.specs.Signals.{same_leg}
@@ -89,65 +90,68 @@ pub outcome_of_send : (config : Config) (h : List CellEntry) (p : Receipt) (ok :
 outcome_of_send config h p ok w q = outcome_case config h p ok w (deed config h p ok) (does config h p ok) q
 
 -- a packet that was sent
-pub record IsSent (config : Config) (d : Deed) (port : ℕ) (to : Addr) (len : ℕ) : Type 0 where
+pub record IsSent (config : Config) (d : Deed) (family : Family) (port : ℕ) (to : Addr) (len : ℕ) : Type 0 where
   pub sending : Sending
   pub is_sending : d.sending ≡ Some sending
   pub to_is : sending.to ≡ to
   pub len_is : length sending.bytes ≡ len
+  pub family_is : family ≡ pair_family config sending.pair
   pub port_is : port ≡ half_port config sending.pair sending.half
 
-sent_by : (config : Config) (d : Deed) (w : Sending) (ok : Bool) (port : ℕ) (to : Addr) (len : ℕ) → d.sending ≡ Some w
-    → sent_outcome config w ok ≡ outcomes.Sent port to len → IsSent config d port to len
-sent_by config d w true port to len q e = record {
+sent_by : (config : Config) (d : Deed) (w : Sending) (ok : Bool) (family : Family) (port : ℕ) (to : Addr) (len : ℕ) → d.sending ≡ Some w
+    → sent_outcome config w ok ≡ outcomes.Sent family port to len → IsSent config d family port to len
+sent_by config d w true family port to len q e = record {
   sending = w;
   is_sending = q;
   to_is = let f = e in cc;
   len_is = let f = e in cc;
+  family_is = let f = e in cc;
   port_is = let f = e in cc;
 }
-sent_by config d w false port to len q e = absurd (let f = e in cc)
+sent_by config d w false family port to len q e = absurd (let f = e in cc)
 
-sent_case : (config : Config) (h : List CellEntry) (p : Receipt) (ok : Bool) (port : ℕ) (to : Addr) (len : ℕ) (d : Deed) → Does config h p ok d
-    → d.outcome ≡ outcomes.Sent port to len → IsSent config d port to len
-sent_case config h p ok port to len d (refuses cause e) q = absurd (let f = ap (λ (x : Deed). x.outcome) e in cc)
-sent_case config h p ok port to len d (loses t cause n e) q = absurd (let f = ap (λ (x : Deed). x.outcome) e in cc)
-sent_case config h p ok port to len d (leaves t l e) q =
-    sent_by config d (sending_of h p l.other l.signal l.bytes) ok port to len (ap (λ (x : Deed). x.sending) e)
+sent_case : (config : Config) (h : List CellEntry) (p : Receipt) (ok : Bool) (family : Family) (port : ℕ) (to : Addr) (len : ℕ) (d : Deed) → Does config h p ok d
+    → d.outcome ≡ outcomes.Sent family port to len → IsSent config d family port to len
+sent_case config h p ok family port to len d (refuses cause e) q = absurd (let f = ap (λ (x : Deed). x.outcome) e in cc)
+sent_case config h p ok family port to len d (loses t cause n e) q = absurd (let f = ap (λ (x : Deed). x.outcome) e in cc)
+sent_case config h p ok family port to len d (leaves t l e) q =
+    sent_by config d (sending_of h p l.other l.signal l.bytes) ok family port to len (ap (λ (x : Deed). x.sending) e)
     (sym (ap (λ (x : Deed). x.outcome) e) ∙ q)
 
-pub sent : (config : Config) (h : List CellEntry) (p : Receipt) (ok : Bool) (port : ℕ) (to : Addr) (len : ℕ)
-    → (deed config h p ok).outcome ≡ outcomes.Sent port to len → IsSent config (deed config h p ok) port to len
-sent config h p ok port to len q = sent_case config h p ok port to len (deed config h p ok) (does config h p ok) q
+pub sent : (config : Config) (h : List CellEntry) (p : Receipt) (ok : Bool) (family : Family) (port : ℕ) (to : Addr) (len : ℕ)
+    → (deed config h p ok).outcome ≡ outcomes.Sent family port to len → IsSent config (deed config h p ok) family port to len
+sent config h p ok family port to len q = sent_case config h p ok family port to len (deed config h p ok) (does config h p ok) q
 
--- What its one send is with the outcome SendFault: by that port.
-pub record HasFailed (config : Config) (d : Deed) (port : ℕ) : Type 0 where
+-- What its one send is with the outcome SendFault: by that port, of that family.
+pub record HasFailed (config : Config) (d : Deed) (family : Family) (port : ℕ) : Type 0 where
   pub sending : Sending
   pub is_sending : d.sending ≡ Some sending
+  pub family_is : family ≡ pair_family config sending.pair
   pub port_is : port ≡ half_port config sending.pair sending.half
 
-failed_by : (config : Config) (d : Deed) (w : Sending) (ok : Bool) (port : ℕ) → d.sending ≡ Some w → sent_outcome config w ok ≡ outcomes.Lost (lost.SendFault port)
-    → HasFailed config d port
-failed_by config d w true port q e = absurd (let f = e in cc)
-failed_by config d w false port q e = record { sending = w; is_sending = q; port_is = let f = e in cc }
+failed_by : (config : Config) (d : Deed) (w : Sending) (ok : Bool) (family : Family) (port : ℕ) → d.sending ≡ Some w → sent_outcome config w ok ≡ outcomes.Lost (lost.SendFault family port)
+    → HasFailed config d family port
+failed_by config d w true family port q e = absurd (let f = e in cc)
+failed_by config d w false family port q e = record { sending = w; is_sending = q; family_is = let f = e in cc; port_is = let f = e in cc }
 
-failed_case : (config : Config) (h : List CellEntry) (p : Receipt) (ok : Bool) (port : ℕ) (d : Deed) → Does config h p ok d
-    → d.outcome ≡ outcomes.Lost (lost.SendFault port) → HasFailed config d port
-failed_case config h p ok port d (refuses cause e) q = absurd (let f = ap (λ (x : Deed). x.outcome) e in cc)
-failed_case config h p ok port d (loses t cause n e) q = absurd (n port (let f = ap (λ (x : Deed). x.outcome) e in cc))
-failed_case config h p ok port d (leaves t l e) q =
-    failed_by config d (sending_of h p l.other l.signal l.bytes) ok port (ap (λ (x : Deed). x.sending) e)
+failed_case : (config : Config) (h : List CellEntry) (p : Receipt) (ok : Bool) (family : Family) (port : ℕ) (d : Deed) → Does config h p ok d
+    → d.outcome ≡ outcomes.Lost (lost.SendFault family port) → HasFailed config d family port
+failed_case config h p ok family port d (refuses cause e) q = absurd (let f = ap (λ (x : Deed). x.outcome) e in cc)
+failed_case config h p ok family port d (loses t cause n e) q = absurd (n family port (let f = ap (λ (x : Deed). x.outcome) e in cc))
+failed_case config h p ok family port d (leaves t l e) q =
+    failed_by config d (sending_of h p l.other l.signal l.bytes) ok family port (ap (λ (x : Deed). x.sending) e)
     (sym (ap (λ (x : Deed). x.outcome) e) ∙ q)
 
-pub send_failed : (config : Config) (h : List CellEntry) (p : Receipt) (ok : Bool) (port : ℕ)
-    → (deed config h p ok).outcome ≡ outcomes.Lost (lost.SendFault port) → HasFailed config (deed config h p ok) port
-send_failed config h p ok port q = failed_case config h p ok port (deed config h p ok) (does config h p ok) q
+pub send_failed : (config : Config) (h : List CellEntry) (p : Receipt) (ok : Bool) (family : Family) (port : ℕ)
+    → (deed config h p ok).outcome ≡ outcomes.Lost (lost.SendFault family port) → HasFailed config (deed config h p ok) family port
+send_failed config h p ok family port q = failed_case config h p ok family port (deed config h p ok) (does config h p ok) q
 
 pub refused_sends_none : (config : Config) (h : List CellEntry) (p : Receipt) (ok : Bool) (cause : Refused)
     → (deed config h p ok).outcome ≡ outcomes.Refused cause → (deed config h p ok).sending ≡ None
 refused_sends_none config h p ok cause q = ap (λ (x : Deed). x.sending) (refused_is config h p ok cause q)
 
 sent_is_fault : (config : Config) (w : Sending) (ok : Bool) (cause : Lost) → sent_outcome config w ok ≡ outcomes.Lost cause
-    → cause ≡ lost.SendFault (half_port config w.pair w.half)
+    → cause ≡ lost.SendFault (pair_family config w.pair) (half_port config w.pair w.half)
 sent_is_fault config w true cause q = absurd (let f = q in cc)
 sent_is_fault config w false cause q = let f = q in cc
 
@@ -156,7 +160,7 @@ lost_case : (config : Config) (h : List CellEntry) (p : Receipt) (ok : Bool) (ca
 lost_case config h p ok cause other d (refuses c e) q = ap (λ (x : Deed). x.sending) e
 lost_case config h p ok cause other d (loses t c n e) q = ap (λ (x : Deed). x.sending) e
 lost_case config h p ok cause other d (leaves t l e) q =
-    absurd (other (half_port config l.other.pair (way h p)) (sent_is_fault config (sending_of h p l.other l.signal l.bytes) ok cause (sym (ap (λ (x : Deed). x.outcome) e) ∙ q)))
+    absurd (other (pair_family config l.other.pair) (half_port config l.other.pair (way h p)) (sent_is_fault config (sending_of h p l.other l.signal l.bytes) ok cause (sym (ap (λ (x : Deed). x.outcome) e) ∙ q)))
 
 pub lost_sends_none : (config : Config) (h : List CellEntry) (p : Receipt) (ok : Bool) (cause : Lost) → IsNoFault cause
     → (deed config h p ok).outcome ≡ outcomes.Lost cause → (deed config h p ok).sending ≡ None

@@ -224,6 +224,7 @@ still config cell h all_reports for =
               pair = l.pair;
               generation = l.generation;
               signal = l.signal;
+              family = l.family;
               port = l.port;
               receiving = l.receiving;
               sending = l.sending;

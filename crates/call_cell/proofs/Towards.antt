@@ -2,18 +2,20 @@
 use Rattle.std.proofs.Common.{◌≡◌, refl, ap, subst, sym, ◌∙◌, ℕ, ◌<◌, inl, inr, Bool, true, false, List, ◌∷◌, length, take, Option, Some, None, arith, get_or, set}
 use Rattle.std.specs.Prelude.{◌&&◌, if◌then◌else◌}
 use Rattle.std.proofs.lemmas.List.{length-set, set-get_or}
+use Rattle.relay_outside.specs.declared.address.Family.{Family}
 use Rattle.relay_outside.specs.declared.settings.Config.{Config}
 use Rattle.relay_outside.specs.declared.ports.OutCall.{OutCall}
 use Rattle.relay_outside.specs.DeviceLogs.{EndLog}
 use Rattle.rtp_packet.specs.declared.head.Half.{Half}
 use Rattle.sdes_lines.specs.declared.crypto_line.Suite.{Suite}
 use Rattle.srtp_sources.specs.Notes.{Note, is_half}
-use Rattle.port_pool.specs.Ports.{half_port}
+use Rattle.port_pool.specs.Ports.{pair_family}
 use Rattle.port_pool.specs.declared.holder.Holder.{Holder}
 use Rattle.port_pool.specs.declared.signal.LegSignal.{LegSignal}
 use Rattle.port_pool.specs.Signals.{NewKey, same_leg}
 use Rattle.endpoint_learn.specs.declared.learner.Learner.{Learner}
 use Rattle.call_cell.specs.LegHistories.{in_force_with}
+use Rattle.call_cell.specs.declared.outcome.LocalPort.{LocalPort}
 use Rattle.call_cell.specs.declared.outcome.Lost.{Lost}
 use Rattle.call_cell.specs.declared.outcome.Lost.TheVariants as lost
 use Rattle.call_cell.specs.declared.outcome.Outcome.{Outcome}
@@ -26,7 +28,7 @@ use Rattle.call_cell.specs.Lessons.{learned, leg_endpoint_by}
 use Rattle.call_cell.specs.Deeds.{sent_outcome, deed, deed_wrapped, found, opposite_of, is_leaving, lost_deed, sent_deed, wrapped_towards, wrapped_numbered}
 use Rattle.call_cell.specs.Demands.{is_sent}
 use Rattle.call_cell.specs.Parts.{SendingFor, HasNamed, learner_in, learner_of, SendsBy, SameNumbers, IsOf, wrapped_by, wrapped_for}
-use Rattle.call_cell.specs.LegHistories.{FrontIs, outbound_of, LegStandsFor, LegsStandFor, LegsDo, LegsRelay, LegSends, LegKeeps, LegForwards, LegForwardsBy, EndsFor, relay_entry, sent_ok, send_outcome}
+use Rattle.call_cell.specs.LegHistories.{FrontIs, outbound_of, LegStandsFor, LegsStandFor, LegsDo, LegsRelay, LegSends, LegKeeps, LegForwards, LegForwardsBy, EndsFor, relay_entry, sent_ok, send_outcome, port_by, leased_port, local_port}
 use Rattle.call_cell.proofs.Counting.{sent_from}
 use Rattle.call_cell.proofs.LegSteps.{IsElsewhere, leg_sends, named_so}
 use Rattle.call_cell.proofs.Placing.{IsPlace, same_or_not, at_set, off_set, same_holders, same_itself, not_opposite, true_or_not, other_default, apart_over}
@@ -94,7 +96,14 @@ abbrev sending_to : {O : Type 0} → List CellEntry → Receipt → Leg O → Le
 sending_to h p leg s bytes =
     record { pair = leg.holder.pair; half = p.half; to = leg_endpoint_by s (learned h leg.holder p.half) p.half; bytes = bytes }
 
-sent_so : (config : Config) (w : Sending) (ok : Bool) → send_outcome (half_port config w.pair w.half) w.to (length w.bytes) ok ≡ sent_outcome config w ok
+-- a leg leaves by the port of its pair
+leaves_by : {O : Type 0} (config : Config) (h : List CellEntry) (leg : Leg O) → LegStandsFor config h leg → (half : Half)
+    → leased_port half leg.lease ≡ local_port config leg.holder.pair half
+leaves_by config h leg for half =
+    ap (λ (f : Family). let a : LocalPort = record { family = f; port = port_by half leg.lease.rtp_port } in a) for.family
+    ∙ ap (λ (n : ℕ). let a : LocalPort = record { family = pair_family config leg.holder.pair; port = n } in a) (for.port half)
+
+sent_so : (config : Config) (w : Sending) (ok : Bool) → send_outcome (local_port config w.pair w.half) w.to (length w.bytes) ok ≡ sent_outcome config w ok
 sent_so config w true = refl
 sent_so config w false = refl
 
@@ -102,10 +111,10 @@ sent_accepted : (config : Config) (w : Sending) (ok : Bool) → is_accepted (sen
 sent_accepted config w true = refl
 sent_accepted config w false = refl
 
-front_case : (port : ℕ) (w : Sending) (out : List ℕ) (ok : Bool) → take (length w.bytes) out ≡ w.bytes
-    → FrontIs (send_outcome port w.to (length w.bytes) ok) (Some w) out
-front_case port w out true q = q
-front_case port w out false q = tt
+front_case : (from : LocalPort) (w : Sending) (out : List ℕ) (ok : Bool) → take (length w.bytes) out ≡ w.bytes
+    → FrontIs (send_outcome from w.to (length w.bytes) ok) (Some w) out
+front_case from w out true q = q
+front_case from w out false q = tt
 
 -- the shield is under a key of the leg by which the packet leaves, and of no other
 elsewhere : {O : Type 0} (config : Config) (h : List CellEntry) (those : List (Leg O)) (k : ℕ) (z : Leg O) (shield : Option Shield) → LegsStandFor config h those
@@ -271,12 +280,12 @@ leaves {O} log faults config h p those i x new noted plain buf size k z y s shie
     let w : Sending = sending_to h p o s bytes in
     let P : Deed → Type 0 = λ (d : Deed). LegsDo log faults config h p those (set (set those i new) k y) out result d in
     let leg_o = t.for.each k z l.facing.below in
-    let answer : result ≡ send_outcome (half_port config o.holder.pair p.half) w.to (length bytes) ok
-    = l.sends.answer ∙ ap (λ (n : ℕ). send_outcome n w.to (length bytes) ok) (leg_o.port p.half) in
+    let answer : result ≡ send_outcome (local_port config o.holder.pair p.half) w.to (length bytes) ok
+    = l.sends.answer ∙ ap (λ (a : LocalPort). send_outcome a w.to (length bytes) ok) (leaves_by config h o leg_o p.half) in
     let by = leaving_by config h p those i x new noted plain buf size k z l.facing in
     subst P (sym it) (record {
       outcome = answer ∙ sent_so config w ok;
-      front = subst (λ (r : Outcome). FrontIs r (Some w) out) (sym answer) (front_case (half_port config o.holder.pair p.half) w out ok l.sends.buffer);
+      front = subst (λ (r : Outcome). FrontIs r (Some w) out) (sym answer) (front_case (local_port config o.holder.pair p.half) w out ok l.sends.buffer);
       legs_for = λ m. leaving_legs log faults config h p those i x new noted plain buf size k z y s shield bytes out result l m;
       ends = λ j v within. subst (λ (a : Option Holder). EndsFor log faults (is_leaving a (get_or those j v).holder) (Some w) ok (get_or those j v).sending (get_or (set (set those i new) k y) j v).sending)
           (sym by) (leaving_ends log faults config h p those i x new noted plain buf size k z y s shield bytes out result l j v within);

@@ -4,3 +4,4 @@ mod Refusing
 mod Keys
 mod Spans
 mod Asked
+mod Families

@@ -146,7 +146,7 @@ since_change same leg (e ∷ h) = if changes same leg e h then [] else e ∷ sin
 abbrev pub is_accepted : Outcome → Bool
 is_accepted (outcomes.Refused cause) = false
 is_accepted (outcomes.Lost cause) = true
-is_accepted (outcomes.Sent port to len) = true
+is_accepted (outcomes.Sent family port to len) = true
 
 abbrev pub relay_in : CellEvent → Option Relayed
 relay_in (Relay r) = Some r

@@ -6,7 +6,7 @@ use Rattle.relay_outside.specs.declared.settings.Config.{Config}
 use Rattle.rtp_packet.specs.declared.head.Half.{Half}
 use Rattle.srtp_sources.specs.Notes.{Note}
 use Rattle.histories.specs.Words.{first}
-use Rattle.port_pool.specs.Ports.{half_port}
+use Rattle.port_pool.specs.Ports.{pair_family, half_port}
 use Rattle.port_pool.specs.declared.holder.Holder.{Holder}
 use Rattle.port_pool.specs.declared.signal.LegSignal.{LegSignal}
 use Rattle.port_pool.specs.Signals.{same_leg}
@@ -69,10 +69,10 @@ refused_deed kind cause =
 abbrev pub lost_deed : Half → Option Note → Lost → Deed
 lost_deed kind note cause = record { outcome = outcomes.Lost cause; kind = kind; noted = note; shield = None; sending = None }
 
--- the outcome of a send by a port, by its answer
+-- the outcome of a send by the port of a pair's half, by its answer
 abbrev pub sent_outcome : Config → Sending → Bool → Outcome
-sent_outcome config sending true = outcomes.Sent (half_port config sending.pair sending.half) sending.to (length sending.bytes)
-sent_outcome config sending false = outcomes.Lost (lost.SendFault (half_port config sending.pair sending.half))
+sent_outcome config sending true = outcomes.Sent (pair_family config sending.pair) (half_port config sending.pair sending.half) sending.to (length sending.bytes)
+sent_outcome config sending false = outcomes.Lost (lost.SendFault (pair_family config sending.pair) (half_port config sending.pair sending.half))
 
 abbrev pub sent_deed : Config → Half → Option Note → Option Shield → Sending → Bool → Deed
 sent_deed config kind note shield sending sent_ok =

@@ -47,7 +47,7 @@ is_due config h now =
 abbrev pub is_sent : Outcome → Bool
 is_sent (outcomes.Refused cause) = false
 is_sent (outcomes.Lost cause) = false
-is_sent (outcomes.Sent port to len) = true
+is_sent (outcomes.Sent family port to len) = true
 
 -- how many packets of a half were accepted from the leg
 abbrev pub accepted_count : List CellEntry → Holder → Half → ℕ

@@ -9,11 +9,13 @@ use Rattle.rtp_packet.specs.declared.head.Half.{Half}
 use Rattle.rtp_packet.specs.declared.head.Half.TheVariants.{Rtp, Rtcp}
 use Rattle.sdes_lines.specs.declared.crypto_line.Suite.{Suite}
 use Rattle.srtp_sources.specs.Notes.{Note}
-use Rattle.port_pool.specs.Ports.{half_port}
+use Rattle.port_pool.specs.Ports.{pair_family, half_port}
+use Rattle.port_pool.specs.declared.pairs.Lease.{Lease}
 use Rattle.port_pool.specs.declared.signal.LegSignal.{LegSignal}
 use Rattle.port_pool.specs.Signals.{NewKey, same_leg}
 use Rattle.endpoint_learn.specs.declared.learner.Learner.{Learner}
 use Rattle.call_cell.specs.declared.outcome.Incoming.{Incoming}
+use Rattle.call_cell.specs.declared.outcome.LocalPort.{LocalPort}
 use Rattle.call_cell.specs.declared.outcome.Refused.{Refused}
 use Rattle.call_cell.specs.declared.outcome.Lost.{Lost}
 use Rattle.call_cell.specs.declared.outcome.Lost.TheVariants as lost
@@ -41,6 +43,14 @@ outbound_of (Some s) = s.outbound
 abbrev pub port_by : Half → ℕ → ℕ
 port_by Rtp port = port
 port_by Rtcp port = min (port + 1) 65535
+
+-- the local port of a half of a leased pair
+abbrev pub leased_port : Half → Lease → LocalPort
+leased_port half lease = record { family = lease.family; port = port_by half lease.rtp_port }
+
+-- the local port of a half of a pair
+abbrev pub local_port : Config → ℕ → Half → LocalPort
+local_port config pair half = record { family = pair_family config pair; port = half_port config pair half }
 
 -- a packet of a half was accepted
 abbrev pub with_receiving : {O : Type 0} → Half → Leg O → Receiving → Leg O
@@ -90,17 +100,17 @@ LegAccepts (Passed noted plain) half source known notes old new buf result = Leg
 
 -- whether the one send of a relay, if it made one, returned Ok
 abbrev pub sent_ok : Outcome → Bool
-sent_ok (outcomes.Lost (lost.SendFault port)) = false
+sent_ok (outcomes.Lost (lost.SendFault family port)) = false
 sent_ok _ = true
 
--- the outcome of a send
-abbrev pub send_outcome : ℕ → Addr → ℕ → Bool → Outcome
-send_outcome port to size true = outcomes.Sent port to size
-send_outcome port to size false = outcomes.Lost (lost.SendFault port)
+-- the outcome of a send by a local port
+abbrev pub send_outcome : LocalPort → Addr → ℕ → Bool → Outcome
+send_outcome from to size true = outcomes.Sent from.family from.port to size
+send_outcome from to size false = outcomes.Lost (lost.SendFault from.family from.port)
 
-abbrev pub outcome_of : ℕ → Addr → Result ℕ Lost → Outcome
-outcome_of port to (Ok len) = outcomes.Sent port to len
-outcome_of port to (Err cause) = outcomes.Lost cause
+abbrev pub outcome_of : LocalPort → Addr → Result ℕ Lost → Outcome
+outcome_of from to (Ok len) = outcomes.Sent from.family from.port to len
+outcome_of from to (Err cause) = outcomes.Lost cause
 
 -- nothing leaves, and the leg is as before
 pub record LegKeeps {O : Type 0} (cause : Lost) (old new : Leg O) (result : Outcome) : Type 0 where
@@ -110,7 +120,7 @@ pub record LegKeeps {O : Type 0} (cause : Lost) (old new : Leg O) (result : Outc
 -- a packet leaves by the leg's end of the half
 pub record LegSends {O : Type 0} (log : O → EndLog OutCall) (faults : O → ℕ) (keys : ℕ → Option NewKey) (notes : ℕ → List Note)
     (shield : Option Shield) (bytes : List ℕ) (half : Half) (to : Addr) (old new : Leg O) (buf : List ℕ) (result : Outcome) : Type 0 where
-  pub answer : result ≡ send_outcome (port_by half old.lease.rtp_port) to (length bytes) (sent_ok result)
+  pub answer : result ≡ send_outcome (leased_port half old.lease) to (length bytes) (sent_ok result)
   pub buffer : take (length bytes) buf ≡ bytes
   pub under : (s : Shield) → shield ≡ Some s → (suite : Suite) × IsOf old.holder suite keys s.key
   pub sending : SendingFor old.holder keys (noted_under shield notes) new.sending
@@ -139,6 +149,7 @@ pub record LegStandsFor {O : Type 0} (config : Config) (h : List CellEntry) (leg
   pub pair : leg.lease.pair ≡ leg.holder.pair
   pub generation : leg.lease.generation ≡ leg.holder.generation
   pub signal : leg.signal ≡ in_force h leg.holder
+  pub family : leg.lease.family ≡ pair_family config leg.holder.pair
   pub port : (half : Half) → port_by half leg.lease.rtp_port ≡ half_port config leg.holder.pair half
   pub receiving : ReceivingFor leg.signal leg.receiving (learned h leg.holder) (accepted h leg.holder)
   pub sending : SendingFor leg.holder (key_numbered h) (protected h) leg.sending
@@ -179,7 +190,7 @@ EndsFor log faults true (Some w) ok old new = SendsBy log faults w.half w.to w.b
 
 -- with Sent, the bytes that were sent stand at the buffer's front
 abbrev pub FrontIs : Outcome → Option Sending → List ℕ → Type 0
-FrontIs (outcomes.Sent port to len) (Some w) buf = take len buf ≡ w.bytes
+FrontIs (outcomes.Sent family port to len) (Some w) buf = take len buf ≡ w.bytes
 FrontIs _ _ buf = Unit {0}
 
 -- what a relay that does this does to the legs after a history since the last End

@@ -19,6 +19,7 @@ use Rattle.port_pool.specs.Signals.{NewKey}
 use Rattle.endpoint_learn.specs.declared.learner.Learner.{Learner}
 use Rattle.endpoint_learn.specs.Lessons.{endpoint_by, is_wrong_source, taught}
 use Rattle.endpoint_learn.specs.Learners.{signal_of}
+use Rattle.call_cell.specs.declared.outcome.LocalPort.{LocalPort}
 use Rattle.call_cell.specs.declared.outcome.Refused.{Refused}
 use Rattle.call_cell.specs.declared.outcome.Lost.{Lost}
 use Rattle.call_cell.specs.declared.outcome.Lost.TheVariants as lost
@@ -229,24 +230,24 @@ abbrev pub wrapped_for : (ℕ → Option NewKey) → (ℕ → List Note) → Leg
 wrapped_for keys notes s kind bytes = if s.hold then Held lost.Hold else wrapped_by keys notes s.outbound kind bytes
 
 -- the result of a send of `size` bytes by a local port
-abbrev pub send_answer : (port size : ℕ) → Bool → Result ℕ Lost
-send_answer port size true = Ok size
-send_answer port size false = Err (lost.SendFault port)
+abbrev pub send_answer : (from : LocalPort) (size : ℕ) → Bool → Result ℕ Lost
+send_answer from size true = Ok size
+send_answer from size false = Err (lost.SendFault from.family from.port)
 
 -- a packet leaves: it is noted under its key, whether or not its send succeeds
 pub record Forwards {O : Type 0} (log : O → EndLog OutCall) (faults : O → ℕ) (leg : Holder) (keys : ℕ → Option NewKey) (notes : ℕ → List Note)
-    (shield : Option Shield) (bytes : List ℕ) (half : Half) (port : ℕ) (to : Addr) (old new : Sending O) (buf : List ℕ) (result : Result ℕ Lost) : Type 0 where
-  pub answer : result ≡ send_answer port (length bytes) (is_ok result)
+    (shield : Option Shield) (bytes : List ℕ) (half : Half) (from : LocalPort) (to : Addr) (old new : Sending O) (buf : List ℕ) (result : Result ℕ Lost) : Type 0 where
+  pub answer : result ≡ send_answer from (length bytes) (is_ok result)
   pub buffer : take (length bytes) buf ≡ bytes
   pub under : (s : Shield) → shield ≡ Some s → (suite : Suite) × IsOf leg suite keys s.key
   pub keeps : SendingFor leg keys (noted_under shield notes) new
   pub sends : SendsBy log faults half to bytes (is_ok result) old new
 
-abbrev pub ForwardsTo : {O : Type 0} → (O → EndLog OutCall) → (O → ℕ) → Departure → Holder → (ℕ → Option NewKey) → (ℕ → List Note) → Half → (port : ℕ) → Addr
+abbrev pub ForwardsTo : {O : Type 0} → (O → EndLog OutCall) → (O → ℕ) → Departure → Holder → (ℕ → Option NewKey) → (ℕ → List Note) → Half → (from : LocalPort) → Addr
     → Sending O → Sending O → List ℕ → Result ℕ Lost → Type 0
-ForwardsTo log faults (Held cause) leg keys notes half port to old new buf result = ContextsRefuse cause old new result
-ForwardsTo log faults (Leaves shield bytes) leg keys notes half port to old new buf result =
-    Forwards log faults leg keys notes shield bytes half port to old new buf result
+ForwardsTo log faults (Held cause) leg keys notes half from to old new buf result = ContextsRefuse cause old new result
+ForwardsTo log faults (Leaves shield bytes) leg keys notes half from to old new buf result =
+    Forwards log faults leg keys notes shield bytes half from to old new buf result
 
 -- the keys are those of before, whatever was protected under them
 pub record SameNumbers {O : Type 0} (old new : Sending O) : Type 0 where

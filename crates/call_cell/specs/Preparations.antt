@@ -7,7 +7,7 @@ use Rattle.rtp_packet.specs.declared.head.Half.{Half}
 use Rattle.sdes_lines.specs.declared.crypto_line.Suite.{Suite}
 use Rattle.sdes_lines.specs.declared.crypto_line.Suite.TheVariants.{Tag80, Tag32}
 use Rattle.histories.specs.Words.{In, has, numbers}
-use Rattle.port_pool.specs.Ports.{half_port}
+use Rattle.port_pool.specs.Ports.{pair_family, half_port}
 use Rattle.port_pool.specs.declared.pairs.Lease.{Lease}
 use Rattle.port_pool.specs.declared.holder.Holder.{Holder}
 use Rattle.port_pool.specs.Signals.{NewKey, same_leg, side_eq}
@@ -106,6 +106,7 @@ pub record AreTwo (a b : Holder) : Type 0 where
 -- an offer's new legs and keys can come, after a history since the last End
 pub record CanCome {O : Type 0} (config : Config) (h : List CellEntry) (signal : prepared.Prepare O) (call : ℕ) (keys : List NewKey) (dropped : List ℕ) : Type 0 where
   pub sections : (leg : Leg O) → In leg signal.legs.items → leg.holder.section < 8
+  pub families : (leg : Leg O) → In leg signal.legs.items → leg.lease.family ≡ pair_family config leg.holder.pair
   pub ports : (leg : Leg O) → In leg signal.legs.items → (half : Half) → port_by half leg.lease.rtp_port ≡ half_port config leg.holder.pair half
   pub differ : AllPairs AreTwo (added signal)
   pub new_lease : (leg other : Holder) → In leg (added signal) → In other (legs h) → same_leg other leg ≡ true → ⊥

@@ -7,14 +7,14 @@ ghost use Rattle.call_cell.specs.Cells.{is_opposite};
 ghost use Rattle.call_cell.specs.Deeds.{judged_leg};
 ghost use Rattle.call_cell.specs.Heads.{head_of};
 ghost use Rattle.call_cell.specs.Parts.{learner_in};
-ghost use Rattle.call_cell.specs.LegHistories.{port_by, outcome_of, in_force_with};
+ghost use Rattle.call_cell.specs.LegHistories.{port_by, leased_port, outcome_of, in_force_with};
 ghost use Rattle.call_cell.specs.CellEnds.{parts_of};
 
 use crate::contexts::Outbound;
 use crate::counts::Counts;
 use crate::heads::Head;
 use crate::in_contexts::InContexts;
-use crate::outcome::{Lost, Outcome, PacketBuffer, Refused};
+use crate::outcome::{LocalPort, Lost, Outcome, PacketBuffer, Refused};
 use crate::receiver::Receiving;
 use crate::sender::Sending;
 use endpoint_learn::Learner;
@@ -82,12 +82,27 @@ fn port_by(half: Half, port: u16) -> u16
     }
 }
 
+/// The local port of a half of a leased pair.
+fn leased_port(half: Half, lease: &Lease) -> LocalPort
+    ensures { result ≡ leased_port half lease.now }
+{
+    LocalPort {
+        family: lease.family(),
+        port: port_by(half, lease.rtp_port()),
+    }
+}
+
 /// The outcome of a packet that was sent, or was lost on its way out.
-fn outcome_of(port: u16, to: Addr, sent: Result<usize, Lost>) -> Outcome
-    ensures { result ≡ outcome_of port to sent }
+fn outcome_of(from: LocalPort, to: Addr, sent: Result<usize, Lost>) -> Outcome
+    ensures { result ≡ outcome_of from to sent }
 {
     match sent {
-        Ok(len) => Outcome::Sent { port, to, len },
+        Ok(len) => Outcome::Sent {
+            family: from.family,
+            port: from.port,
+            to,
+            len,
+        },
         Err(cause) => Outcome::Lost(cause),
     }
 }
@@ -231,11 +246,11 @@ impl<O: OutEnd> Leg<O> {
             return Outcome::Lost(Lost::Hold);
         };
         let to = learner.endpoint();
-        let port = port_by(half, self.lease.rtp_port());
+        let from = leased_port(half, &self.lease);
         let sent = self
             .sending
-            .forward(&signal, half, head, port, to, buf, len);
+            .forward(&signal, half, head, from, to, buf, len);
         self.counts.finish(half, &sent);
-        outcome_of(port, to, sent)
+        outcome_of(from, to, sent)
     }
 }

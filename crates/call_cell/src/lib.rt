@@ -44,6 +44,6 @@ pub use law::{
     counts_are_below_after_each_history, legs_find_places, notes_are_new,
     offers_come_after_each_history, packets_change_no_condition,
 };
-pub use outcome::{Incoming, Lost, Outcome, PacketBuffer, Refused};
+pub use outcome::{Incoming, LocalPort, Lost, Outcome, PacketBuffer, Refused};
 pub use port_pool::{LegReport, LegReports};
 pub use prepare::Prepare;

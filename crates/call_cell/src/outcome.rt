@@ -2,7 +2,7 @@ ghost use Rattle.std.specs.Prelude.{◌≡◌};
 ghost use Rattle.call_cell.specs.Protection.{refused_by, lost_by};
 
 use port_pool::Holder;
-use relay_outside::Addr;
+use relay_outside::{Addr, Family};
 use rtp_packet::Half;
 use srtp_keys::{ProtectFault, UnprotectFault};
 
@@ -59,6 +59,8 @@ pub enum Lost {
     /// The send failed. Its index stays used.
     /// It names its port, else nobody above the cell could count the sends of an end; the printed line of a script has none.
     SendFault {
+        /// The family of the interface at which the local port is open.
+        family: Family,
         /// The local port that it would have left by.
         port: u16,
     },
@@ -77,6 +79,15 @@ impl From<ProtectFault> for Lost {
     }
 }
 
+/// A local UDP port, at the interface of a family. Both families have the same port numbers.
+#[derive(Clone, Copy, PartialEq, Eq, Debug)]
+pub struct LocalPort {
+    /// The family of the interface at which the port is open.
+    pub family: Family,
+    /// The port, 0 to 65,535.
+    pub port: u16,
+}
+
 /// Room for a packet from its take to its send: for the longest that is taken, and for what protection adds to it.
 pub type PacketBuffer = [u8; 2_064];
 
@@ -89,6 +100,8 @@ pub enum Outcome {
     Lost(Lost),
     /// It is sent.
     Sent {
+        /// The family of the interface at which the local port is open.
+        family: Family,
         /// The local port that it leaves by.
         port: u16,
         /// Where it goes.

@@ -9,7 +9,7 @@ ghost use Rattle.call_cell.specs.Parts.{OutboundIn, WrapsInTo, boxed_in, is_numb
 
 use crate::contexts::Outbound;
 use crate::heads::Head;
-use crate::outcome::{Lost, PacketBuffer};
+use crate::outcome::{LocalPort, Lost, PacketBuffer};
 use port_pool::LegSignal;
 use relay_outside::{Addr, OutEnd};
 use rtp_packet::Half;
@@ -66,13 +66,14 @@ fn protect_under(
 }
 
 /// The result of a send of this many bytes by a local port.
-fn send_answer(port: u16, size: usize, done: bool) -> Result<usize, Lost>
-    ensures { result ≡ send_answer port size done }
+fn send_answer(from: LocalPort, size: usize, done: bool) -> Result<usize, Lost>
+    ensures { result ≡ send_answer from size done }
 {
     if done {
         Ok(size)
     } else {
-        Err(Lost::SendFault { port })
+        let LocalPort { family, port } = from;
+        Err(Lost::SendFault { family, port })
     }
 }
 
@@ -169,7 +170,7 @@ impl<O: OutEnd> Sending<O> {
         signal: &LegSignal,
         half: Half,
         head: Option<Head>,
-        port: u16,
+        from: LocalPort,
         to: Addr,
         buf: &mut PacketBuffer,
         len: usize,
@@ -178,12 +179,12 @@ impl<O: OutEnd> Sending<O> {
         requires head { head ≡ head_of half (take len buf.old) }
         ensures numbers { SameNumbers self.old self.new }
         ensures forwards { (leg : Holder) (keys : ℕ → Option NewKey) (notes : ℕ → List Note) → SendingFor leg keys notes self.old → HasNamed signal.now.outbound keys self.old →
-            ForwardsTo O.log O.faults (wrapped_for keys notes signal.now half (take len buf.old)) leg keys notes half port to self.old self.new buf.new result }
+            ForwardsTo O.log O.faults (wrapped_for keys notes signal.now half (take len buf.old)) leg keys notes half from to self.old self.new buf.new result }
     {
         if signal.hold {
             return Err(Lost::Hold);
         }
         let size = self.protect(signal.outbound, half, head, buf, len)?;
-        send_answer(port, size, self.send(half, to, &buf[..size]))
+        send_answer(from, size, self.send(half, to, &buf[..size]))
     }
 }

@@ -87,13 +87,13 @@ lost_name lost.OutTooOld = codes "OutTooOld"
 lost_name lost.IndexUsed = codes "IndexUsed"
 lost_name lost.OutSources = codes "OutSources"
 lost_name lost.KeySpent = codes "KeySpent"
-lost_name (lost.SendFault port) = codes "SendFault"
+lost_name (lost.SendFault family port) = codes "SendFault"
 
 -- the bytes are printed where they were sent
 abbrev pub outcome_line : Outcome → List ℕ → List ℕ
 outcome_line (outcome.Refused refused) bytes = codes "refused " ++ refused_name refused
 outcome_line (outcome.Lost lost) bytes = codes "lost " ++ lost_name lost
-outcome_line (outcome.Sent port to len) bytes = codes "sent " ++ decimal port ++ codes " " ++ addr_text to ++ codes " x:" ++ encode_lower bytes
+outcome_line (outcome.Sent family port to len) bytes = codes "sent " ++ decimal port ++ codes " " ++ addr_text to ++ codes " x:" ++ encode_lower bytes
 
 -- Lines, without their line feed.
 

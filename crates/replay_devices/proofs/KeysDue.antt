@@ -1,8 +1,8 @@
 -- The keys that draws have to give.
-use Rattle.std.proofs.Common.{◌≡◌, ◌∙◌, ℕ, ◌+◌, true, List, [], ◌∷◌, Some, None, drop, if◌then◌else◌}
+use Rattle.std.proofs.Common.{◌≡◌, ℕ, ◌+◌, true, List, ◌∷◌, Some, None, drop, if◌then◌else◌}
 use Rattle.histories.specs.Words.{first}
 use Rattle.outside_real.specs.KeyStream.{stream_of}
-use Rattle.replay_devices.specs.Devices.{Happening, Drew, unused, streamed, is_of_stream, next_key}
+use Rattle.replay_devices.specs.Devices.{Happening, Drew, streamed, is_of_stream, next_key}
 use Rattle.replay_devices.specs.Due.{DueState, stream_from}
 use Rattle.replay_devices.specs.Watch.{due}
 

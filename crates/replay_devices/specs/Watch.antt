@@ -2,7 +2,7 @@
 -- the calls of its kind that came since.
 use Rattle.std.specs.Prelude.{◌≡◌, ℕ, true, List, [], ◌∷◌, ◌++◌, map, if◌then◌else◌}
 use Rattle.relay_outside.specs.declared.settings.Config.{Config}
-use Rattle.port_pool.specs.Ports.{half_port}
+use Rattle.call_cell.specs.LegHistories.{local_port}
 use Rattle.outside_real.specs.KeyStream.{stream_of}
 use Rattle.relay_script.specs.declared.step.FailKind.{FailKind}
 use Rattle.relay_script.specs.declared.step.FailKind.TheVariants as kind
@@ -61,8 +61,8 @@ send_asked _ = []
 -- after one more thing: a line `fail send` asks for one, an opening makes an end, a packet is sent
 abbrev pub sends_after : Config → Happening → List SendFailure → List SendFailure
 sends_after config (Made s) failures = failures ++ send_asked s
-sends_after config (Opened pair half true) failures = map (after_open_at (half_port config pair half)) failures
-sends_after config (Sent pair half ok) failures = map (after_send_at (half_port config pair half)) failures
+sends_after config (Opened pair half true) failures = map (after_open_at (local_port config pair half)) failures
+sends_after config (Sent pair half ok) failures = map (after_send_at (local_port config pair half)) failures
 sends_after config _ failures = failures
 
 -- the sends that lines asked to fail

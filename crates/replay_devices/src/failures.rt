@@ -1,17 +1,18 @@
 ghost use Rattle.std.specs.Prelude.{◌≡◌, [], ◌∷◌, ◌++◌, OnOk, map};
 ghost use Rattle.replay_devices.specs.Failures.{after_open_at, after_send_at, is_next_at, any_next_at, waiting_for};
 
-use relay_outside::OutOfMemory;
+use call_cell::LocalPort;
+use relay_outside::{Family, OutOfMemory};
 use std::alloc::Global;
 use std::marker::Model;
 
 /// Which end a line `fail send` speaks of.
 #[derive(Clone, Copy, PartialEq, Eq)]
 pub(crate) enum Stage {
-    /// That of the next opening of its port that makes an end.
+    /// That of the next opening of its port, of whichever family, that makes an end.
     Waiting,
-    /// The one that such an opening made.
-    Counting,
+    /// The one that such an opening made, at the interface of this family.
+    Counting(Family),
 }
 
 /// A send that a line `fail send` asks to fail.
@@ -26,44 +27,47 @@ pub(crate) struct SendFailure {
 
 impl SendFailure {
     /// The same, after an opening of a port that made an end.
-    fn opened(self, port: u16) -> SendFailure
-        ensures { result ≡ after_open_at port self }
+    fn opened(self, at: LocalPort) -> SendFailure
+        ensures { result ≡ after_open_at at self }
     {
-        if self.port != port {
+        if self.port != at.port {
             return self;
         }
         match self.stage {
             Stage::Waiting => SendFailure {
-                stage: Stage::Counting,
+                stage: Stage::Counting(at.family),
                 ..self
             },
-            Stage::Counting => SendFailure { number: 0, ..self },
+            Stage::Counting(family) if family == at.family => SendFailure { number: 0, ..self },
+            Stage::Counting(_) => self,
         }
     }
 
     /// The same, after a send by a port.
-    fn sent(self, port: u16) -> SendFailure
-        ensures { result ≡ after_send_at port self }
+    fn sent(self, at: LocalPort) -> SendFailure
+        ensures { result ≡ after_send_at at self }
     {
-        if self.port != port {
+        if self.port != at.port {
             return self;
         }
         match self.stage {
-            Stage::Waiting => self,
-            Stage::Counting => SendFailure {
+            Stage::Counting(family) if family == at.family => SendFailure {
                 number: self.number.saturating_sub(1),
                 ..self
             },
+            Stage::Counting(_) | Stage::Waiting => self,
         }
     }
 
     /// Whether it is the next send by a port.
-    fn is_next(&self, port: u16) -> bool
-        ensures { result ≡ is_next_at port self.now }
+    fn is_next(&self, at: LocalPort) -> bool
+        ensures { result ≡ is_next_at at self.now }
     {
         match self.stage {
             Stage::Waiting => false,
-            Stage::Counting => self.port == port && self.number == 1,
+            Stage::Counting(family) => {
+                family == at.family && self.port == at.port && self.number == 1
+            }
         }
     }
 }
@@ -107,27 +111,27 @@ impl SendFailures {
     }
 
     /// An opening of a port made an end.
-    pub(crate) fn opened(&mut self, port: u16)
-        ensures { self.new ≡ map (after_open_at port) self.old }
+    pub(crate) fn opened(&mut self, at: LocalPort)
+        ensures { self.new ≡ map (after_open_at at) self.old }
     {
         for failure in self.list.iter_mut() {
-            *failure = failure.opened(port);
+            *failure = failure.opened(at);
         }
     }
 
     /// A packet was sent by a port, or its send failed.
-    pub(crate) fn sent(&mut self, port: u16)
-        ensures { self.new ≡ map (after_send_at port) self.old }
+    pub(crate) fn sent(&mut self, at: LocalPort)
+        ensures { self.new ≡ map (after_send_at at) self.old }
     {
         for failure in self.list.iter_mut() {
-            *failure = failure.sent(port);
+            *failure = failure.sent(at);
         }
     }
 
     /// Whether the next send by a port fails.
-    pub(crate) fn next_fails(&self, port: u16) -> bool
-        ensures { result ≡ any_next_at port self.now }
+    pub(crate) fn next_fails(&self, at: LocalPort) -> bool
+        ensures { result ≡ any_next_at at self.now }
     {
-        self.list.iter().any(|failure| failure.is_next(port))
+        self.list.iter().any(|failure| failure.is_next(at))
     }
 }

@@ -2,7 +2,7 @@ ghost use Rattle.std.specs.Prelude.{◌≡◌, ◌≤◌, ◌-◌, ◌^◌, ℕ,
 ghost use Rattle.relay_outside.specs.declared.settings.Config.{Config};
 ghost use Rattle.relay_script.specs.Steps.{step_meaning};
 ghost use Rattle.rtp_packet.specs.declared.head.Half.{Half};
-ghost use Rattle.port_pool.specs.Ports.{half_port};
+ghost use Rattle.port_pool.specs.Ports.{pair_family, half_port};
 ghost use Rattle.replay_devices.specs.Steps as model;
 ghost use Rattle.replay_devices.specs.Devices.{Happening, Made, Opened, Drew, Replied, Sent, fails, send_fails, unused, streamed};
 ghost use Rattle.replay_devices.specs.Watch.{WatchStandsFor, Notes, NotesDraw, model_kind, step_of};
@@ -10,6 +10,7 @@ ghost use Rattle.replay_devices.specs.Watch.{WatchStandsFor, Notes, NotesDraw, m
 use crate::countdowns::Countdowns;
 use crate::due::KeysDue;
 use crate::failures::SendFailures;
+use call_cell::LocalPort;
 use relay_outside::{KeyAndSalt, OutOfMemory};
 use relay_script::{FailKind, Step};
 use std::alloc::Global;
@@ -69,19 +70,19 @@ impl Watch {
     }
 
     /// Whether the next send by the end of a port has to fail.
-    pub fn send_fails(&self, port: u16) -> bool
-        ensures { (config : Config) (seed : ℕ) (past : List Happening) (pair : ℕ) (half : Half) → half_port config pair half ≡ port → WatchStandsFor config seed past self.now → result ≡ send_fails config past pair half }
+    pub fn send_fails(&self, at: LocalPort) -> bool
+        ensures { (config : Config) (seed : ℕ) (past : List Happening) (pair : ℕ) (half : Half) → pair_family config pair ≡ at.family → half_port config pair half ≡ at.port → WatchStandsFor config seed past self.now → result ≡ send_fails config past pair half }
     {
-        self.sends.next_fails(port)
+        self.sends.next_fails(at)
     }
 
     /// A port was opened, or its opening failed.
-    pub fn opened(&mut self, port: u16, done: bool)
-        ensures { (config : Config) (seed pair : ℕ) (half : Half) → half_port config pair half ≡ port → Notes config seed self.old self.new (Opened pair half done) }
+    pub fn opened(&mut self, at: LocalPort, done: bool)
+        ensures { (config : Config) (seed pair : ℕ) (half : Half) → pair_family config pair ≡ at.family → half_port config pair half ≡ at.port → Notes config seed self.old self.new (Opened pair half done) }
     {
         self.opens.count_call();
         if done {
-            self.sends.opened(port);
+            self.sends.opened(at);
         }
     }
 
@@ -109,10 +110,10 @@ impl Watch {
     }
 
     /// A packet was sent by the end of a port, or its send failed.
-    pub fn sent(&mut self, port: u16)
-        ensures { (config : Config) (seed pair : ℕ) (half : Half) (done : Bool) → half_port config pair half ≡ port → Notes config seed self.old self.new (Sent pair half done) }
+    pub fn sent(&mut self, at: LocalPort)
+        ensures { (config : Config) (seed pair : ℕ) (half : Half) (done : Bool) → pair_family config pair ≡ at.family → half_port config pair half ≡ at.port → Notes config seed self.old self.new (Sent pair half done) }
     {
-        self.sends.sent(port);
+        self.sends.sent(at);
     }
 
     /// The call of a number of this kind, from now, has to fail.

@@ -3,7 +3,7 @@ use Rattle.std.proofs.Common.{◌≡◌, ℕ, Bool, List, [], ◌∷◌, map, fa
 use Rattle.relay_outside.specs.declared.address.Addr.{Addr}
 use Rattle.rtp_packet.specs.declared.head.Half.TheVariants.{Rtp}
 use Rattle.rtp_packet.specs.Head.{rtp_head, rtcp_ssrc}
-use Rattle.port_pool.specs.Ports.{pair_port}
+use Rattle.port_pool.specs.Ports.{range_pairs, pair_port}
 use Rattle.port_pool.specs.declared.holder.Holder.{Holder}
 use Rattle.port_pool.specs.declared.holder.Side.{Side}
 use Rattle.port_pool.specs.declared.holder.Side.TheVariants.{A, B}
@@ -149,7 +149,7 @@ abbrev two_sections : List CellEntry
 two_sections = steps [] (now (Prepare 0 (second_b ∷ second_a ∷ []) [] []) ∷ now (Prepare 0 (leg_b ∷ leg_a ∷ []) [] []) ∷ now (Commit (section.Commit side_a side_b ∷ section.Commit side_a side_b ∷ [])) ∷ [])
 
 sections_in_order : map {B = ℕ × Side × ℕ} (λ one_report. (one_report.section, one_report.side, one_report.port)) (reports config two_sections) ≡ (0, A, 30002) ∷ (0, B, 30000) ∷ (1, A, 30006) ∷ (1, B, 30004) ∷ []
-unfolding reports
+unfolding reports range_pairs
 sections_in_order = refl
 
 -- Results of sends.

@@ -1,5 +1,6 @@
 -- The calls, packets and histories of the worked rows.
 use Rattle.std.proofs.Common.{ℕ, ◌+◌, ◌/◌, ◌%◌, List, [], ◌∷◌, ◌++◌, map, Bool, false, true, Option, Some, None}
+use Rattle.relay_outside.specs.declared.address.Family.TheVariants.{V4}
 use Rattle.relay_outside.specs.declared.settings.Config.{Config}
 use Rattle.relay_outside.specs.declared.settings.Flags.{Flags}
 use Rattle.relay_outside.specs.declared.address.Ip.TheVariants as ips
@@ -196,10 +197,10 @@ shields_of h = map (λ d. d.shield) (deeds h)
 
 -- 13 bytes sent to a place by the RTP port of a side's leg
 abbrev pub sent_to_a : Addr → Outcome
-sent_to_a to = outcomes.Sent 30002 to 13
+sent_to_a to = outcomes.Sent V4 30002 to 13
 
 abbrev pub sent_to_b : Addr → Outcome
-sent_to_b to = outcomes.Sent 30000 to 13
+sent_to_b to = outcomes.Sent V4 30000 to 13
 
 abbrev pub note : Half → ℕ → ℕ → Note
 note half ssrc index = record { half = half; ssrc = ssrc; index = index }

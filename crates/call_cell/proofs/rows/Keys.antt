@@ -1,5 +1,6 @@
 -- Worked rows of packets that are protected: under which key and index they leave, and which are lost for lack of one.
 use Rattle.std.proofs.Common.{◌≡◌, ℕ, ◌^◌, ◌-◌, List, [], ◌∷◌, ◌++◌, map, true, Option, Some, None, refl}
+use Rattle.relay_outside.specs.declared.address.Family.TheVariants.{V4}
 use Rattle.rtp_packet.specs.declared.head.Half.TheVariants.{Rtp, Rtcp}
 use Rattle.rtp_packet.specs.Head.{rtp_head, rtcp_ssrc}
 use Rattle.replay_window.specs.Indices.{near, nearest_lifted, fresh}
@@ -9,6 +10,7 @@ use Rattle.srtp_context.specs.OutboundPackets as srtp_out
 use Rattle.srtcp_context.specs.OutboundPackets as srtcp_out
 use Rattle.sdes_lines.specs.declared.crypto_line.Suite.TheVariants.{Tag80}
 use Rattle.histories.specs.Words.{first, numbers}
+use Rattle.port_pool.specs.Ports.{range_pairs}
 use Rattle.call_cell.specs.declared.outcome.Lost.TheVariants as lost
 use Rattle.call_cell.specs.declared.outcome.Outcome.TheVariants as outcomes
 use Rattle.call_cell.specs.Cells.{CellEvent, CellEntry, Relay, Shield}
@@ -72,8 +74,8 @@ unfolding deed rtp_head wrapped_under srtp_out.wrapping srtp_out.sent_index near
 lost_notes_nothing = refl
 
 -- a packet whose send failed was protected: its index stays used
-failed_stays_used : outcomes_of (steps keyed (fails (from_a at_a 100) ∷ packet (from_a at_a 100) ∷ [])) ≡ outcomes.Lost lost.IndexUsed ∷ outcomes.Lost (lost.SendFault 30000) ∷ []
-unfolding deed rtp_head wrapped_under srtp_out.wrapping srtp_out.sent_index near nearest_lifted fresh indices sources has_room
+failed_stays_used : outcomes_of (steps keyed (fails (from_a at_a 100) ∷ packet (from_a at_a 100) ∷ [])) ≡ outcomes.Lost lost.IndexUsed ∷ outcomes.Lost (lost.SendFault V4 30000) ∷ []
+unfolding deed rtp_head wrapped_under srtp_out.wrapping srtp_out.sent_index near nearest_lifted fresh indices sources has_room range_pairs
 failed_stays_used = refl
 
 -- what was held back was not protected
@@ -139,7 +141,7 @@ known_source = refl
 
 -- the greatest index of a key was used
 abbrev last_used : CellEvent
-last_used = Relay (record { packet = from_a at_a 65535; sent_ok = true; deed = record { outcome = outcomes.Sent 30000 at_b 23; kind = Rtp; noted = None; shield = index (2 ^ 48 - 1); sending = None } })
+last_used = Relay (record { packet = from_a at_a 65535; sent_ok = true; deed = record { outcome = outcomes.Sent V4 30000 at_b 23; kind = Rtp; noted = None; shield = index (2 ^ 48 - 1); sending = None } })
 
 spent : first (outcomes_of (steps keyed (now last_used ∷ packets (0 ∷ [])))) ≡ Some (outcomes.Lost lost.KeySpent)
 unfolding deed rtp_head wrapped_under srtp_out.wrapping srtp_out.sent_index near nearest_lifted fresh indices sources has_room

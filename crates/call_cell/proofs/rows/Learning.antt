@@ -1,8 +1,10 @@
 -- Worked rows of learning: where packets go, and whose packets are taken.
 use Rattle.std.proofs.Common.{◌≡◌, true, [], ◌∷◌, Some, None, refl}
+use Rattle.relay_outside.specs.declared.address.Family.TheVariants.{V4}
 use Rattle.relay_outside.specs.declared.address.Addr.{Addr}
 use Rattle.rtp_packet.specs.declared.head.Half.TheVariants.{Rtp, Rtcp}
 use Rattle.rtp_packet.specs.Head.{rtp_head, rtcp_ssrc}
+use Rattle.port_pool.specs.Ports.{range_pairs}
 use Rattle.port_pool.specs.declared.holder.Side.TheVariants.{B}
 use Rattle.call_cell.specs.declared.outcome.Refused.TheVariants as refused
 use Rattle.call_cell.specs.declared.outcome.Lost.TheVariants as lost
@@ -21,7 +23,7 @@ unlearned_control : endpoint (answered side_a side_b) leg_a Rtcp ≡ Some (next_
 unlearned_control = refl
 
 unlearned_packet : outcomes_of (steps (answered side_a side_b) (packet (from_a at_a 100) ∷ [])) ≡ sent_to_b at_b ∷ []
-unfolding deed rtp_head
+unfolding deed rtp_head range_pairs
 unlearned_packet = refl
 
 -- The first source is learned. Others are taken too, and change nothing.
@@ -31,33 +33,33 @@ unfolding deed rtp_head
 first_source = refl
 
 both_are_sent : outcomes_of (steps (answered side_a side_b) (packet (from_a first_place 1) ∷ packet (from_a second_place 2) ∷ packet (from_b at_b 1) ∷ [])) ≡ sent_to_a first_place ∷ sent_to_b at_b ∷ sent_to_b at_b ∷ []
-unfolding deed rtp_head
+unfolding deed rtp_head range_pairs
 both_are_sent = refl
 
 -- a packet goes to what the opposite leg learned, not to where it came from or to what its own leg learned
 towards_the_opposite : outcomes_of (steps (answered side_a side_b) (packet (from_a first_place 1) ∷ packet (from_b second_place 1) ∷ packet (from_a first_place 2) ∷ [])) ≡ sent_to_b second_place ∷ sent_to_a first_place ∷ sent_to_b at_b ∷ []
-unfolding deed rtp_head
+unfolding deed rtp_head range_pairs
 towards_the_opposite = refl
 
 -- Under `strict source` another source is refused, and the learned one is not.
 
 strict_refuses : outcomes_of (steps (answered (plain at_a strict) side_b) (packet (from_a first_place 1) ∷ packet (from_a second_place 2) ∷ packet (from_a first_place 3) ∷ [])) ≡ sent_to_b at_b ∷ outcomes.Refused refused.WrongSource ∷ sent_to_b at_b ∷ []
-unfolding deed rtp_head
+unfolding deed rtp_head range_pairs
 strict_refuses = refl
 
 -- another port is another source, and another host too
 strict_refuses_host : outcomes_of (steps (answered (plain at_a strict) side_b) (packet (from_a first_place 1) ∷ packet (from_a third_place 2) ∷ [])) ≡ outcomes.Refused refused.WrongSource ∷ sent_to_b at_b ∷ []
-unfolding deed rtp_head
+unfolding deed rtp_head range_pairs
 strict_refuses_host = refl
 
 -- it is the leg that is found whose learned source counts
 strict_asks_the_leg : outcomes_of (steps (answered (plain at_a strict) side_b) (packet (from_a first_place 1) ∷ packet (received (record leg_a { section = 5; side = B }) Rtp second_place (rtp_of 1 1)) ∷ [])) ≡ outcomes.Refused refused.WrongSource ∷ sent_to_b at_b ∷ []
-unfolding deed rtp_head
+unfolding deed rtp_head range_pairs
 strict_asks_the_leg = refl
 
 -- the flags are those of the leg that received the packet
 strict_is_of_its_side : outcomes_of (steps (answered (plain at_a strict) side_b) (packet (from_b first_place 1) ∷ packet (from_b second_place 2) ∷ [])) ≡ sent_to_a at_a ∷ sent_to_a at_a ∷ []
-unfolding deed rtp_head
+unfolding deed rtp_head range_pairs
 strict_is_of_its_side = refl
 
 -- a first source that isn't the signalled one is learned under `strict source` too
@@ -68,7 +70,7 @@ strict_learns = refl
 -- Under `media handover` a later source takes the place of the learned one, but not under `strict source`.
 
 handover_moves : outcomes_of (steps (answered (plain at_a handover) side_b) (packet (from_a first_place 1) ∷ packet (from_a second_place 2) ∷ packet (from_b at_b 1) ∷ [])) ≡ sent_to_a second_place ∷ sent_to_b at_b ∷ sent_to_b at_b ∷ []
-unfolding deed rtp_head
+unfolding deed rtp_head range_pairs
 handover_moves = refl
 
 handover_moves_back : learned (steps (answered (plain at_a handover) side_b) (packet (from_a first_place 1) ∷ packet (from_a second_place 2) ∷ packet (from_a first_place 3) ∷ [])) leg_a Rtp ≡ Some first_place
@@ -76,7 +78,7 @@ unfolding deed rtp_head
 handover_moves_back = refl
 
 strict_handover_refuses : outcomes_of (steps (answered (plain at_a strict_handover) side_b) (packet (from_a first_place 1) ∷ packet (from_a second_place 2) ∷ packet (from_b at_b 1) ∷ [])) ≡ sent_to_a first_place ∷ outcomes.Refused refused.WrongSource ∷ sent_to_b at_b ∷ []
-unfolding deed rtp_head
+unfolding deed rtp_head range_pairs
 strict_handover_refuses = refl
 
 -- even if a packet of another source were accepted under it
@@ -98,11 +100,11 @@ unfolding deed rtp_head
 asymmetric_learns_nothing = refl
 
 asymmetric_stays : outcomes_of (steps (answered (plain at_a asymmetric) side_b) (packet (from_a first_place 1) ∷ packet (from_b at_b 1) ∷ [])) ≡ sent_to_a at_a ∷ sent_to_b at_b ∷ []
-unfolding deed rtp_head
+unfolding deed rtp_head range_pairs
 asymmetric_stays = refl
 
 asymmetric_refuses_none : outcomes_of (steps (answered (plain at_a strict) side_b) (packet (from_a first_place 1) ∷ now (committed (plain at_a strict_asymmetric) side_b) ∷ packet (from_a second_place 2) ∷ [])) ≡ sent_to_b at_b ∷ sent_to_b at_b ∷ []
-unfolding deed rtp_head
+unfolding deed rtp_head range_pairs
 asymmetric_refuses_none = refl
 
 -- what was learned before stands again after it
@@ -120,8 +122,8 @@ control_apart : learned (steps (answered side_a side_b) (packet (from_a first_pl
 unfolding deed rtp_head
 control_apart = refl
 
-control_is_sent : outcomes_of (steps (answered (plain at_a strict) side_b) (packet (from_a first_place 1) ∷ packet (control_a second_place) ∷ packet (control_b at_b) ∷ packet (from_b at_b 1) ∷ [])) ≡ sent_to_a first_place ∷ outcomes.Sent 30003 second_place 8 ∷ outcomes.Sent 30001 (next_port at_b) 8 ∷ sent_to_b at_b ∷ []
-unfolding deed rtp_head rtcp_ssrc
+control_is_sent : outcomes_of (steps (answered (plain at_a strict) side_b) (packet (from_a first_place 1) ∷ packet (control_a second_place) ∷ packet (control_b at_b) ∷ packet (from_b at_b 1) ∷ [])) ≡ sent_to_a first_place ∷ outcomes.Sent V4 30003 second_place 8 ∷ outcomes.Sent V4 30001 (next_port at_b) 8 ∷ sent_to_b at_b ∷ []
+unfolding deed rtp_head rtcp_ssrc range_pairs
 control_is_sent = refl
 
 -- Learning starts over exactly where the signalled address of the half changes.
@@ -159,7 +161,7 @@ unfolding deed rtp_head
 changed_once_keeps = refl
 
 forgotten_is_learned_anew : outcomes_of (steps (answered (plain at_a strict) side_b) (packet (from_a first_place 1) ∷ now (committed (plain third_place strict) side_b) ∷ packet (from_a second_place 2) ∷ packet (from_a first_place 3) ∷ [])) ≡ outcomes.Refused refused.WrongSource ∷ sent_to_b at_b ∷ sent_to_b at_b ∷ []
-unfolding deed rtp_head
+unfolding deed rtp_head range_pairs
 forgotten_is_learned_anew = refl
 
 -- A refused packet teaches nothing; one that is accepted and lost does.

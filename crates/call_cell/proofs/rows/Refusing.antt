@@ -1,7 +1,9 @@
 -- Worked rows of packets that are refused whatever key stands, or lost since the opposite leg is on hold.
 use Rattle.std.proofs.Common.{◌≡◌, List, [], ◌∷◌, Some, None, refl}
+use Rattle.relay_outside.specs.declared.address.Family.TheVariants.{V4}
 use Rattle.rtp_packet.specs.declared.head.Half.TheVariants.{Rtp, Rtcp}
 use Rattle.rtp_packet.specs.Head.{rtp_head, rtcp_ssrc}
+use Rattle.port_pool.specs.Ports.{range_pairs}
 use Rattle.port_pool.specs.declared.holder.Side.TheVariants.{B}
 use Rattle.port_pool.specs.declared.holder.Holder.{Holder}
 use Rattle.port_pool.specs.declared.signal.SectionSignal.TheVariants as section
@@ -42,12 +44,12 @@ other_call_got_the_pair = refl
 
 -- and its own packets are taken
 other_call_is_relayed : outcomes_of (steps (answered side_a side_b) (now End ∷ now (Prepare 1 (of_other_call leg_b ∷ of_other_call leg_a ∷ []) [] []) ∷ now (committed side_a side_b) ∷ packet (received (of_other_call leg_a) Rtp at_a (rtp_of 1 1)) ∷ [])) ≡ sent_to_b at_b ∷ []
-unfolding deed rtp_head
+unfolding deed rtp_head range_pairs
 other_call_is_relayed = refl
 
 -- the same call has got the same pairs in a new lease
 same_call_got_the_pair_again : outcomes_of (steps (answered side_a side_b) (now rejected ∷ now (Prepare 0 (again leg_b ∷ again leg_a ∷ []) [] []) ∷ now (committed side_a side_b) ∷ packet (from_a at_a 101) ∷ packet (received (again leg_a) Rtp at_a (rtp_of 1 1)) ∷ [])) ≡ sent_to_b at_b ∷ stale ∷ []
-unfolding deed rtp_head
+unfolding deed rtp_head range_pairs
 same_call_got_the_pair_again = refl
 
 section_was_rejected : outcomes_of (steps (answered side_a side_b) (now rejected ∷ packet (from_a at_a 1) ∷ [])) ≡ stale ∷ []
@@ -59,7 +61,7 @@ unfolding deed
 section_was_dropped = refl
 
 other_section_was_dropped : outcomes_of (steps (answered side_a side_b) (now (Prepare 0 [] [] (1 ∷ [])) ∷ packet (from_a at_a 1) ∷ [])) ≡ sent_to_b at_b ∷ []
-unfolding deed rtp_head
+unfolding deed rtp_head range_pairs
 other_section_was_dropped = refl
 
 -- one entry may drop a section and add its new legs
@@ -80,7 +82,7 @@ call_is_no_legs = refl
 
 -- what is asked is asked of the leg that is found by call, pair and lease
 leg_is_found : outcomes_of (steps (answered side_a side_b) (packet (received (record leg_a { section = 5; side = B }) Rtp first_place (rtp_of 1 1)) ∷ packet (from_b at_b 1) ∷ [])) ≡ sent_to_a first_place ∷ sent_to_b at_b ∷ []
-unfolding deed rtp_head
+unfolding deed rtp_head range_pairs
 leg_is_found = refl
 
 -- Not answered: no commit since the leg was added.
@@ -105,7 +107,7 @@ abbrev two_sections : List CellEntry
 two_sections = steps (answered side_a side_b) (now (Prepare 0 (second_b ∷ second_a ∷ []) [] []) ∷ [])
 
 second_section_is_open : outcomes_of (steps two_sections (packet (received second_a Rtp at_a (rtp_of 1 1)) ∷ packet (from_a at_a 1) ∷ [])) ≡ sent_to_b at_b ∷ unanswered ∷ []
-unfolding deed rtp_head
+unfolding deed rtp_head range_pairs
 second_section_is_open = refl
 
 abbrev both_answered : List CellEntry
@@ -116,13 +118,13 @@ legs_in_order : legs two_sections ≡ leg_b ∷ leg_a ∷ second_b ∷ second_a 
 legs_in_order = refl
 
 -- a packet leaves by the opposite leg of its own section
-own_section : outcomes_of (steps both_answered (packet (received second_a Rtp at_a (rtp_of 1 1)) ∷ packet (received second_b Rtp at_b (rtp_of 1 1)) ∷ [])) ≡ outcomes.Sent 30006 at_a 13 ∷ outcomes.Sent 30004 third_place 13 ∷ []
-unfolding deed rtp_head
+own_section : outcomes_of (steps both_answered (packet (received second_a Rtp at_a (rtp_of 1 1)) ∷ packet (received second_b Rtp at_b (rtp_of 1 1)) ∷ [])) ≡ outcomes.Sent V4 30006 at_a 13 ∷ outcomes.Sent V4 30004 third_place 13 ∷ []
+unfolding deed rtp_head range_pairs
 own_section = refl
 
 -- an answer that is shorter takes no section away
-shorter_answer : outcomes_of (steps both_answered (now (committed side_a side_b) ∷ packet (received second_a Rtp at_a (rtp_of 1 1)) ∷ [])) ≡ outcomes.Sent 30004 third_place 13 ∷ []
-unfolding deed rtp_head
+shorter_answer : outcomes_of (steps both_answered (now (committed side_a side_b) ∷ packet (received second_a Rtp at_a (rtp_of 1 1)) ∷ [])) ≡ outcomes.Sent V4 30004 third_place 13 ∷ []
+unfolding deed rtp_head range_pairs
 shorter_answer = refl
 
 -- during an open offer what was committed stays in force
@@ -145,7 +147,7 @@ unfolding deed rtp_head rtcp_ssrc
 wrong_half = refl
 
 malformed_before_source : outcomes_of (steps (answered (plain at_a strict) side_b) (packet (from_a first_place 1) ∷ packet (received leg_a Rtp second_place []) ∷ [])) ≡ malformed ∷ sent_to_b at_b ∷ []
-unfolding deed rtp_head
+unfolding deed rtp_head range_pairs
 malformed_before_source = refl
 
 -- Hold: the packet is accepted, and not sent.
@@ -156,7 +158,7 @@ held_back = refl
 
 -- the opposite leg's hold counts, not the own one
 held_sends : outcomes_of (steps (answered side_a (held side_b)) (packet (from_b at_b 1) ∷ [])) ≡ sent_to_a at_a ∷ []
-unfolding deed rtp_head
+unfolding deed rtp_head range_pairs
 held_sends = refl
 
 -- what is held back was accepted, so its source was learned
@@ -165,12 +167,12 @@ unfolding deed rtp_head
 held_is_accepted = refl
 
 hold_ends : outcomes_of (steps (answered side_a (held side_b)) (packet (from_a at_a 1) ∷ now (committed side_a side_b) ∷ packet (from_a at_a 2) ∷ [])) ≡ sent_to_b at_b ∷ outcomes.Lost lost.Hold ∷ []
-unfolding deed rtp_head
+unfolding deed rtp_head range_pairs
 hold_ends = refl
 
 -- a send that fails
-send_fails : outcomes_of (steps (answered side_a side_b) (fails (from_a at_a 1) ∷ [])) ≡ outcomes.Lost (lost.SendFault 30000) ∷ []
-unfolding deed rtp_head
+send_fails : outcomes_of (steps (answered side_a side_b) (fails (from_a at_a 1) ∷ [])) ≡ outcomes.Lost (lost.SendFault V4 30000) ∷ []
+unfolding deed rtp_head range_pairs
 send_fails = refl
 
 -- The call is that of the first Prepare since the last End.

@@ -1,6 +1,7 @@
 -- Worked rows of packets under an inbound key: which notes are in its span, and how the next packet is judged by them. Whether
 -- a packet is authentic is taken as said.
 use Rattle.std.proofs.Common.{◌≡◌, ap, ℕ, List, [], ◌∷◌, ◌++◌, map, replicate, false, true, Bool, cond, Some, None, Err, refl}
+use Rattle.relay_outside.specs.declared.address.Family.TheVariants.{V4}
 use Rattle.rtp_packet.specs.declared.head.Half.TheVariants.{Rtp, Rtcp}
 use Rattle.rtp_packet.specs.Head.{rtp_head, rtcp_ssrc}
 use Rattle.replay_window.specs.Indices.{near, nearest_lifted, fresh}
@@ -43,7 +44,7 @@ index n = note Rtp 286331153 n
 
 -- a packet that was taken, with that note
 abbrev took_for : Holder → Note → CellEvent
-took_for leg noted = Relay (record { packet = received leg Rtp first_place (rtp_of 1 1); sent_ok = true; deed = record { outcome = outcomes.Sent 30000 at_b 13; kind = Rtp; noted = Some noted; shield = None; sending = None } })
+took_for leg noted = Relay (record { packet = received leg Rtp first_place (rtp_of 1 1); sent_ok = true; deed = record { outcome = outcomes.Sent V4 30000 at_b 13; kind = Rtp; noted = Some noted; shield = None; sending = None } })
 
 abbrev took : ℕ → Step
 took n = now (took_for leg_a (index n))

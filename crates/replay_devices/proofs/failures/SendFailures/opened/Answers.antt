@@ -4,4 +4,4 @@ use Rattle.replay_devices.specs.Failures.{after_open_at}
 use Rattle.replay_devices.proofs.failures.SendFailures.opened.Goals as goal
 
 pub loop-failure-preserved : goal.loop-failure-preserved
-loop-failure-preserved c = rw c.opened.ensures (map_over_more (after_open_at c.args.port) _ _ _ _ (search rules) c.loop-failure.invariant (search rules))
+loop-failure-preserved c = rw c.opened.ensures (map_over_more (after_open_at c.args.at) _ _ _ _ (search rules) c.loop-failure.invariant (search rules))

@@ -4,4 +4,4 @@ use Rattle.replay_devices.specs.Failures.{after_open_at}
 use Rattle.replay_devices.proofs.failures.SendFailures.opened.Given as goal
 
 abbrev pub invariant-loop-failure : goal.invariant-loop-failure
-invariant-loop-failure l = l.failure-items ≡ map (after_open_at l.fn.port) (take l.failure-index l.fn.self) ++ drop l.failure-index l.fn.self
+invariant-loop-failure l = l.failure-items ≡ map (after_open_at l.fn.at) (take l.failure-index l.fn.self) ++ drop l.failure-index l.fn.self
