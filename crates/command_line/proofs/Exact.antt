@@ -19,7 +19,7 @@ use Rattle.clap.specs.declared.error.kind.ErrorKind.TheVariants as kind
 use Rattle.clap.proofs.WalkLemmas.{both}
 use Rattle.command_line.specs.Grammar.{is_in_form, is_option, is_respelled, option_named, one_value, values_of}
 use Rattle.command_line.specs.Numbers.{number_within}
-use Rattle.command_line.specs.Words.{number_in, option_number}
+use Rattle.command_line.specs.Words.{number_in, option_number, read_or}
 use Rattle.command_line.proofs.Allowed.{IsAccepted, IsOneValued, IsReady, held, long, merged, no_dashes, step, use_row, values_before}
 use Rattle.command_line.proofs.Defaults.{or_default}
 use Rattle.command_line.proofs.Laws.{unused, used}
@@ -219,6 +219,15 @@ module _ (s : Shape) (again : s.args_override_self ≡ false) (names : List Text
   text_is read default dflt =
       elim ready [
         | inl none ↦ rw (unused s again names facts words rows name among found none, none) dflt
+        | inr one ↦ rw (used s again names facts words rows name among found one.0 one.1, one.1) refl
+      ]
+
+  pub optional_is : {X : Type 0} (read : Text → Option X) (default : X)
+      → option_and_then (λ r. slice_get r.values 0) (or_default name None s.rules) ≡ None
+      → read_or default read (first_of name rows) ≡ one_value read (Some default) (values_of name words)
+  optional_is read default bare =
+      elim ready [
+        | inl none ↦ rw (unused s again names facts words rows name among found none, bare, none) refl
         | inr one ↦ rw (used s again names facts words rows name among found one.0 one.1, one.1) refl
       ]
 

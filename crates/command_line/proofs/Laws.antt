@@ -24,7 +24,7 @@ use Rattle.relay_outside.specs.declared.settings.Config.{Config}
 use Rattle.command_line.specs.Grammar.{one_value, values_of}
 use Rattle.command_line.specs.Numbers.{number_within}
 use Rattle.command_line.specs.Values.{config_from, load_from, replay_from, settings_from}
-use Rattle.command_line.specs.Words.{number_in, option_number, rows_if}
+use Rattle.command_line.specs.Words.{number_in, option_number, read_or, rows_if}
 use Rattle.command_line.specs.declared.settings.LoadSettings.{LoadSettings}
 use Rattle.command_line.specs.declared.settings.ReplaySettings.{ReplaySettings}
 use Rattle.command_line.specs.declared.settings.Settings.{Settings}
@@ -122,6 +122,17 @@ module _ (s : Shape) (again : s.args_override_self ≡ false) (names : List Text
         go (value ∷ []) e is = rw (used value e) is
         go (value ∷ again ∷ values) e is = cc
 
+    -- an option without a default, for which no value is one too
+    pub says_optional : {X : Type 0} (read : Text → Option X) (default x : X) → one_value read (Some default) (values_of name words) ≡ Some x
+        → option_and_then (λ r. slice_get r.values 0) (or_default name None s.rules) ≡ None
+        → read_or default read (first_of name rows) ≡ Some x
+    says_optional read default x is bare = go (values_of name words) refl is
+      where
+        go : (values : List Text) → values_of name words ≡ values → one_value read (Some default) values ≡ Some x → read_or default read (first_of name rows) ≡ Some x
+        go [] e is = rw (unused e, bare) is
+        go (value ∷ []) e is = rw (used value e) is
+        go (value ∷ again ∷ values) e is = cc
+
     pub says_number : (least most default x : ℕ) → most < 18446744073709551616 → one_value (number_within least most) (Some default) (values_of name words) ≡ Some x
         → option_and_then (number_in least most) (option_and_then row_text (or_default name None s.rules)) ≡ Some default
         → option_map reading_by (arg_by_long s.rules name) ≡ Some AsWritten
@@ -147,30 +158,34 @@ module _ (s : Shape) (again : s.args_override_self ≡ false) (names : List Text
         go (value ∷ again ∷ values) e is = cc
 
 -- what each option says, where they say a configuration
-pub record SaysConfig (interface : Option Ip) (port_min port_max max_sessions timeout offer_timeout : Option ℕ) : Type 0 where
+pub record SaysConfig (interface : Option Ip) (interface6 : Option (Option Ip)) (port_min port_max max_sessions timeout offer_timeout : Option ℕ) : Type 0 where
   pub i : Ip
+  pub v : Option Ip
   pub p : ℕ
   pub q : ℕ
   pub m : ℕ
   pub t : ℕ
   pub o : ℕ
   pub i_is : interface ≡ Some i
+  pub v_is : interface6 ≡ Some v
   pub p_is : port_min ≡ Some p
   pub q_is : port_max ≡ Some q
   pub m_is : max_sessions ≡ Some m
   pub t_is : timeout ≡ Some t
   pub o_is : offer_timeout ≡ Some o
 
-pub says_config : (interface : Option Ip) (port_min port_max max_sessions timeout offer_timeout : Option ℕ) (config : Config)
-    → config_from interface port_min port_max max_sessions timeout offer_timeout ≡ Some config → SaysConfig interface port_min port_max max_sessions timeout offer_timeout
-says_config (Some i) (Some p) (Some q) (Some m) (Some t) (Some o) config e =
-    record { i = i; p = p; q = q; m = m; t = t; o = o; i_is = refl; p_is = refl; q_is = refl; m_is = refl; t_is = refl; o_is = refl }
-says_config None b c d e f config is = cc
-says_config (Some a) None c d e f config is = cc
-says_config (Some a) (Some b) None d e f config is = cc
-says_config (Some a) (Some b) (Some c) None e f config is = cc
-says_config (Some a) (Some b) (Some c) (Some d) None f config is = cc
-says_config (Some a) (Some b) (Some c) (Some d) (Some e) None config is = cc
+pub says_config : (interface : Option Ip) (interface6 : Option (Option Ip)) (port_min port_max max_sessions timeout offer_timeout : Option ℕ) (config : Config)
+    → config_from interface interface6 port_min port_max max_sessions timeout offer_timeout ≡ Some config
+    → SaysConfig interface interface6 port_min port_max max_sessions timeout offer_timeout
+says_config (Some i) (Some v) (Some p) (Some q) (Some m) (Some t) (Some o) config e =
+    record { i = i; v = v; p = p; q = q; m = m; t = t; o = o; i_is = refl; v_is = refl; p_is = refl; q_is = refl; m_is = refl; t_is = refl; o_is = refl }
+says_config None v b c d e f config is = cc
+says_config (Some a) None b c d e f config is = cc
+says_config (Some a) (Some v) None c d e f config is = cc
+says_config (Some a) (Some v) (Some b) None d e f config is = cc
+says_config (Some a) (Some v) (Some b) (Some c) None e f config is = cc
+says_config (Some a) (Some v) (Some b) (Some c) (Some d) None f config is = cc
+says_config (Some a) (Some v) (Some b) (Some c) (Some d) (Some e) None config is = cc
 
 pub says_settings : (config : Option Config) (listen : Option Addr) (turns threads : Option ℕ) (s : Settings) → settings_from config listen turns threads ≡ Some s
     → (c : Config) × (l : Addr) × (n : ℕ) × (k : ℕ) × (config ≡ Some c) × (listen ≡ Some l) × (turns ≡ Some n) × (threads ≡ Some k)
@@ -200,9 +215,9 @@ allowed false said x e = cc
 
 -- The same from the same parts.
 
-pub same_config : (i j : Option Ip) (p p2 q q2 m m2 t t2 o o2 : Option ℕ) (c : Option Config) → j ≡ i → p2 ≡ p → q2 ≡ q → m2 ≡ m → t2 ≡ t → o2 ≡ o
-    → config_from i p q m t o ≡ c → config_from j p2 q2 m2 t2 o2 ≡ c
-same_config i j p p2 q q2 m m2 t t2 o o2 c ei ep eq em et eo is = rw (ei, ep, eq, em, et, eo) is
+pub same_config : (i j : Option Ip) (v v2 : Option (Option Ip)) (p p2 q q2 m m2 t t2 o o2 : Option ℕ) (c : Option Config) → j ≡ i → v2 ≡ v → p2 ≡ p → q2 ≡ q → m2 ≡ m → t2 ≡ t → o2 ≡ o
+    → config_from i v p q m t o ≡ c → config_from j v2 p2 q2 m2 t2 o2 ≡ c
+same_config i j v v2 p p2 q q2 m m2 t t2 o o2 c ei ev ep eq em et eo is = rw (ei, ev, ep, eq, em, et, eo) is
 
 pub same_settings : (c c2 : Option Config) (l l2 : Option Addr) (n n2 k k2 : Option ℕ) (s : Option Settings) → c2 ≡ c → l2 ≡ l → n2 ≡ n → k2 ≡ k
     → settings_from c l n k ≡ s → settings_from c2 l2 n2 k2 ≡ s

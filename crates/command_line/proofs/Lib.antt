@@ -7,6 +7,7 @@ mod Laws
 mod LoadLaw
 mod NumberReads
 mod Numerals
+mod Pairs
 mod Refused
 mod ReplayLaw
 mod ServeLaw

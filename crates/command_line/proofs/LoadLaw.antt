@@ -9,7 +9,7 @@ use Rattle.clap.specs.Faults.{check_fault, walk_fault}
 use Rattle.clap.specs.Kinds.{Kinds}
 use Rattle.clap.specs.Words.{fault_of, matches_of}
 use Rattle.clap.proofs.FaultLemmas.{leaf_fault}
-use Rattle.relay_outside.specs.Settings.{pair_count}
+use Rattle.relay_outside.specs.Settings.{range_pairs}
 use Rattle.command_line.specs.Commands.{app_of_rules, load_app, load_rules}
 use Rattle.command_line.specs.Grammar.{allowed_load, call_count, is_in_form, is_option, lanes_value, load_names, one_value, packet_count, seed_number, values_of}
 use Rattle.command_line.specs.Values.{default_config, load_from}
@@ -91,7 +91,7 @@ load_else words form none = go (fault_of app words) refl
 
 -- the configuration of `load` is the one that `replay` has without words
 pub replay_alone : replay_words [] ≡ Some (record { config = default_config; seed = 1 })
-unfolding pair_count
+unfolding range_pairs
 replay_alone = replay_law [] (record { config = default_config; seed = 1 }) refl
 
 taken_config : (said : Option LoadSettings) (load : LoadSettings) → ((s : LoadSettings) → said ≡ Some s → s.config ≡ default_config) → option_map Load said ≡ Some (Load load) → load.config ≡ default_config

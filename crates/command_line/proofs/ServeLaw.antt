@@ -12,13 +12,13 @@ use Rattle.clap.specs.Words.{fault_of, first_of, matches_of}
 use Rattle.clap.proofs.FaultLemmas.{leaf_fault}
 use Rattle.command_line.specs.Commands.{app_of_rules, serve_app, serve_rules}
 use Rattle.command_line.specs.Grammar.{allowed_serve, configuration, default_listen, is_in_form, is_option, media_port_value, one_value, second_count, serve_names, session_count, thread_count, turn_count, values_of}
-use Rattle.command_line.specs.Values.{ipv4_address, listen_address}
-use Rattle.command_line.specs.Words.{config_of, option_number, serve_settings, settings_of, taken}
+use Rattle.command_line.specs.Values.{ipv4_address, listen_address, other_interface}
+use Rattle.command_line.specs.Words.{config_of, option_number, read_or, serve_settings, settings_of, taken}
 use Rattle.command_line.specs.declared.settings.Settings.{Settings}
 use Rattle.command_line.proofs.Allowed.{IsOneValued, IsReady, merged, walk_over}
 use Rattle.command_line.proofs.Defaults.{find_default, no_fault, or_default, rows_are}
-use Rattle.command_line.proofs.Exact.{clear, each_ready, number_is, text_is}
-use Rattle.command_line.proofs.Laws.{allowed, among_each, facts_of, ready, says_config, says_given, says_number, says_settings, says_text, same_config, same_settings, taken_by}
+use Rattle.command_line.proofs.Exact.{clear, each_ready, number_is, optional_is, text_is}
+use Rattle.command_line.proofs.Laws.{allowed, among_each, facts_of, ready, says_config, says_given, says_number, says_optional, says_settings, says_text, same_config, same_settings, taken_by}
 use Rattle.command_line.proofs.Numerals.{read_alike}
 
 abbrev app : App
@@ -35,27 +35,30 @@ unfolding taken serve_app
 serve_law words s is =
     let may = allowed (list_all (is_option serve_names) words) _ s is in
     let parts = says_settings _ _ _ _ s may.1 in
-    let config = says_config _ _ _ _ _ _ parts.0 parts.4 in
+    let config = says_config _ _ _ _ _ _ _ parts.0 parts.4 in
     let readies : (name : Text) → list_any (bytes_eq name) serve_names ≡ true → IsReady top refl serve_names facts name [] words =
     λ name among. among_each (λ (n : Text). IsReady top refl serve_names facts n [] words) serve_names name (
       ready top refl serve_names facts words (codes "interface") ipv4_address None config.i config.i_is (λ value h. refl),
       (
-        ready top refl serve_names facts words (codes "listen-ng") listen_address (Some default_listen) parts.1 parts.5 (λ value h. refl),
+        ready top refl serve_names facts words (codes "interface6") other_interface (Some None) config.v config.v_is (λ value h. refl),
         (
-          ready top refl serve_names facts words (codes "turns") turn_count (Some 1000000000000000) parts.2 parts.6 (λ value h. (read_alike 1 1000000000000000 parts.2 value (omega arith) h).0),
+          ready top refl serve_names facts words (codes "listen-ng") listen_address (Some default_listen) parts.1 parts.5 (λ value h. refl),
           (
-            ready top refl serve_names facts words (codes "num-threads") thread_count (Some 4) parts.3 parts.7 (λ value h. (read_alike 0 16 parts.3 value (omega arith) h).0),
+            ready top refl serve_names facts words (codes "turns") turn_count (Some 1000000000000000) parts.2 parts.6 (λ value h. (read_alike 1 1000000000000000 parts.2 value (omega arith) h).0),
             (
-              ready top refl serve_names facts words (codes "port-min") media_port_value (Some 30000) config.p config.p_is (λ value h. (read_alike 1024 65535 config.p value (omega arith) h).0),
+              ready top refl serve_names facts words (codes "num-threads") thread_count (Some 4) parts.3 parts.7 (λ value h. (read_alike 0 16 parts.3 value (omega arith) h).0),
               (
-                ready top refl serve_names facts words (codes "port-max") media_port_value (Some 40000) config.q config.q_is (λ value h. (read_alike 1024 65535 config.q value (omega arith) h).0),
+                ready top refl serve_names facts words (codes "port-min") media_port_value (Some 30000) config.p config.p_is (λ value h. (read_alike 1024 65535 config.p value (omega arith) h).0),
                 (
-                  ready top refl serve_names facts words (codes "max-sessions") session_count (Some 2048) config.m config.m_is (λ value h. (read_alike 1 2048 config.m value (omega arith) h).0),
+                  ready top refl serve_names facts words (codes "port-max") media_port_value (Some 40000) config.q config.q_is (λ value h. (read_alike 1024 65535 config.q value (omega arith) h).0),
                   (
-                    ready top refl serve_names facts words (codes "timeout") second_count (Some 60) config.t config.t_is (λ value h. (read_alike 1 86400 config.t value (omega arith) h).0),
+                    ready top refl serve_names facts words (codes "max-sessions") session_count (Some 2048) config.m config.m_is (λ value h. (read_alike 1 2048 config.m value (omega arith) h).0),
                     (
-                      ready top refl serve_names facts words (codes "offer-timeout") second_count (Some 3600) config.o config.o_is (λ value h. (read_alike 1 86400 config.o value (omega arith) h).0),
-                      tt,
+                      ready top refl serve_names facts words (codes "timeout") second_count (Some 60) config.t config.t_is (λ value h. (read_alike 1 86400 config.t value (omega arith) h).0),
+                      (
+                        ready top refl serve_names facts words (codes "offer-timeout") second_count (Some 3600) config.o config.o_is (λ value h. (read_alike 1 86400 config.o value (omega arith) h).0),
+                        tt,
+                      ),
                     ),
                   ),
                 ),
@@ -74,6 +77,7 @@ serve_law words s is =
     let faultless : fault_of app words ≡ [] = leaf_fault (built app) nothing_held words refl ∙ no_fault top refl serve_names facts words walk refl checked in
     let rows_is : matches_of app words ≡ rows = rows_are top refl serve_names facts words walk in
     let interface : option_and_then ipv4_address (first_of (codes "interface") rows) ≡ Some config.i = says_text top refl serve_names facts words rows (codes "interface") refl (found (codes "interface") refl) ipv4_address None config.i config.i_is refl in
+    let interface6 : read_or None other_interface (first_of (codes "interface6") rows) ≡ Some config.v = says_optional top refl serve_names facts words rows (codes "interface6") refl (found (codes "interface6") refl) other_interface None config.v config.v_is refl in
     let port_min : option_number 1024 65535 (codes "port-min") rows ≡ Some config.p = says_number top refl serve_names facts words rows (codes "port-min") refl (found (codes "port-min") refl) 1024 65535 30000 config.p (omega arith) config.p_is refl refl in
     let port_max : option_number 1024 65535 (codes "port-max") rows ≡ Some config.q = says_number top refl serve_names facts words rows (codes "port-max") refl (found (codes "port-max") refl) 1024 65535 40000 config.q (omega arith) config.q_is refl refl in
     let max_sessions : option_number 1 2048 (codes "max-sessions") rows ≡ Some config.m = says_number top refl serve_names facts words rows (codes "max-sessions") refl (found (codes "max-sessions") refl) 1 2048 2048 config.m (omega arith) config.m_is refl refl in
@@ -82,7 +86,7 @@ serve_law words s is =
     let turns : option_number 1 1000000000000000 (codes "turns") rows ≡ Some parts.2 = says_number top refl serve_names facts words rows (codes "turns") refl (found (codes "turns") refl) 1 1000000000000000 1000000000000000 parts.2 (omega arith) parts.6 refl refl in
     let num_threads : option_number 0 16 (codes "num-threads") rows ≡ Some parts.3 = says_number top refl serve_names facts words rows (codes "num-threads") refl (found (codes "num-threads") refl) 0 16 4 parts.3 (omega arith) parts.7 refl refl in
     let listen : option_and_then listen_address (first_of (codes "listen-ng") rows) ≡ Some parts.1 = says_text top refl serve_names facts words rows (codes "listen-ng") refl (found (codes "listen-ng") refl) listen_address (Some default_listen) parts.1 parts.5 refl in
-    let config_is : config_of rows ≡ Some parts.0 = same_config _ _ _ _ _ _ _ _ _ _ _ _ _ (interface ∙ sym config.i_is) (port_min ∙ sym config.p_is) (port_max ∙ sym config.q_is)
+    let config_is : config_of rows ≡ Some parts.0 = same_config _ _ _ _ _ _ _ _ _ _ _ _ _ _ _ (interface ∙ sym config.i_is) (interface6 ∙ sym config.v_is) (port_min ∙ sym config.p_is) (port_max ∙ sym config.q_is)
     (max_sessions ∙ sym config.m_is) (timeout ∙ sym config.t_is) (offer_timeout ∙ sym config.o_is) parts.4 in
     let all : settings_of rows ≡ Some s = same_settings _ _ _ _ _ _ _ _ _ (config_is ∙ sym parts.4) (listen ∙ sym parts.5) (turns ∙ sym parts.6) (num_threads ∙ sym parts.7) may.1 in
     ap (option_and_then settings_of) (taken_by _ _ rows faultless rows_is) ∙ all
@@ -103,6 +107,7 @@ serve_else words form none = go (fault_of app words) refl
         λ name among. find_default name top.rules walk.last ∙ ap (λ (o : Option Row). or_default name o top.rules) (walk.has name among) in
         let rows_is : matches_of app words ≡ rows = rows_are top refl serve_names facts words walk in
         let interface : option_and_then ipv4_address (first_of (codes "interface") rows) ≡ one_value ipv4_address None (values_of (codes "interface") words) = text_is top refl serve_names facts words rows (codes "interface") refl (found (codes "interface") refl) (each.1 (codes "interface") refl) ipv4_address None refl in
+        let interface6 : read_or None other_interface (first_of (codes "interface6") rows) ≡ one_value other_interface (Some None) (values_of (codes "interface6") words) = optional_is top refl serve_names facts words rows (codes "interface6") refl (found (codes "interface6") refl) (each.1 (codes "interface6") refl) other_interface None refl in
         let port_min : option_number 1024 65535 (codes "port-min") rows ≡ one_value media_port_value (Some 30000) (values_of (codes "port-min") words) = number_is top refl serve_names facts words rows (codes "port-min") refl (found (codes "port-min") refl) (each.1 (codes "port-min") refl) 1024 65535 30000 (omega arith) form refl refl in
         let port_max : option_number 1024 65535 (codes "port-max") rows ≡ one_value media_port_value (Some 40000) (values_of (codes "port-max") words) = number_is top refl serve_names facts words rows (codes "port-max") refl (found (codes "port-max") refl) (each.1 (codes "port-max") refl) 1024 65535 40000 (omega arith) form refl refl in
         let max_sessions : option_number 1 2048 (codes "max-sessions") rows ≡ one_value session_count (Some 2048) (values_of (codes "max-sessions") words) = number_is top refl serve_names facts words rows (codes "max-sessions") refl (found (codes "max-sessions") refl) (each.1 (codes "max-sessions") refl) 1 2048 2048 (omega arith) form refl refl in
@@ -111,6 +116,6 @@ serve_else words form none = go (fault_of app words) refl
         let turns : option_number 1 1000000000000000 (codes "turns") rows ≡ one_value turn_count (Some 1000000000000000) (values_of (codes "turns") words) = number_is top refl serve_names facts words rows (codes "turns") refl (found (codes "turns") refl) (each.1 (codes "turns") refl) 1 1000000000000000 1000000000000000 (omega arith) form refl refl in
         let num_threads : option_number 0 16 (codes "num-threads") rows ≡ one_value thread_count (Some 4) (values_of (codes "num-threads") words) = number_is top refl serve_names facts words rows (codes "num-threads") refl (found (codes "num-threads") refl) (each.1 (codes "num-threads") refl) 0 16 4 (omega arith) form refl refl in
         let listen : option_and_then listen_address (first_of (codes "listen-ng") rows) ≡ one_value listen_address (Some default_listen) (values_of (codes "listen-ng") words) = text_is top refl serve_names facts words rows (codes "listen-ng") refl (found (codes "listen-ng") refl) (each.1 (codes "listen-ng") refl) listen_address (Some default_listen) refl in
-        let config_is : config_of rows ≡ configuration None words = same_config _ _ _ _ _ _ _ _ _ _ _ _ _ interface port_min port_max max_sessions timeout offer_timeout refl in
+        let config_is : config_of rows ≡ configuration None words = same_config _ _ _ _ _ _ _ _ _ _ _ _ _ _ _ interface interface6 port_min port_max max_sessions timeout offer_timeout refl in
         let all : settings_of rows ≡ allowed_serve words = same_settings _ _ _ _ _ _ _ _ _ config_is listen turns num_threads (sym (rw each.0 refl)) in
         ap (option_and_then settings_of) (taken_by _ _ rows e rows_is) ∙ all ∙ none

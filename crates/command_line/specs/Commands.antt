@@ -18,7 +18,7 @@ default_rule name default = record (option_rule name) { defaults = default ∷ [
 abbrev pub number_rule : Text → (least most : ℕ) → Text → Rule
 number_rule name least most default = record (default_rule name default) { parser = Some (Unsigned least most) }
 
--- the options that `serve` and `replay` share, but the interface
+-- the options that `serve` and `replay` share, but the interfaces
 abbrev pub shared_rules : List Rule
 shared_rules =
     number_rule (codes "port-min") 1024 65535 (codes "30000")
@@ -30,7 +30,7 @@ shared_rules =
 
 abbrev pub serve_rules : List Rule
 serve_rules =
-    (required_rule (codes "interface") ∷ default_rule (codes "listen-ng") (codes "127.0.0.1:2223") ∷ [])
+    (required_rule (codes "interface") ∷ option_rule (codes "interface6") ∷ default_rule (codes "listen-ng") (codes "127.0.0.1:2223") ∷ [])
     ++ shared_rules
     ++ (number_rule (codes "turns") 1 1000000000000000 (codes "1000000000000000")
     ∷ number_rule (codes "num-threads") 0 16 (codes "4")
@@ -38,7 +38,7 @@ serve_rules =
 
 abbrev pub replay_rules : List Rule
 replay_rules =
-    (default_rule (codes "interface") (codes "203.0.113.1") ∷ [])
+    (default_rule (codes "interface") (codes "203.0.113.1") ∷ option_rule (codes "interface6") ∷ [])
     ++ shared_rules
     ++ (number_rule (codes "seed") 0 18446744073709551615 (codes "1") ∷ [])
 

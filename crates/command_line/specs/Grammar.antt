@@ -9,7 +9,7 @@ use Rattle.relay_outside.specs.declared.address.Ip.TheVariants.{V4}
 use Rattle.relay_outside.specs.declared.settings.Config.{Config}
 use Rattle.sdp_text.specs.Pieces.{is_digit, is_filled}
 use Rattle.command_line.specs.Numbers.{number_within}
-use Rattle.command_line.specs.Values.{ipv4_address, listen_address, config_from, settings_from, replay_from, load_from, replay_interface}
+use Rattle.command_line.specs.Values.{ipv4_address, listen_address, other_interface, config_from, settings_from, replay_from, load_from, replay_interface}
 use Rattle.command_line.specs.declared.settings.LoadSettings.{LoadSettings}
 use Rattle.command_line.specs.declared.settings.ReplaySettings.{ReplaySettings}
 use Rattle.command_line.specs.declared.settings.Settings.{Settings}
@@ -80,15 +80,15 @@ values_of name words = filter_map (value_for name) words
 abbrev pub is_option : List (List ℕ) → List ℕ → Bool
 is_option names word = option_map_or (λ said. list_any (bytes_eq said.0) names) (option_named word) false
 
--- the options that `serve` and `replay` share, but the interface
+-- the options that `serve` and `replay` share, but the interfaces
 abbrev pub shared_names : List (List ℕ)
 shared_names = codes "port-min" ∷ codes "port-max" ∷ codes "max-sessions" ∷ codes "timeout" ∷ codes "offer-timeout" ∷ []
 
 abbrev pub serve_names : List (List ℕ)
-serve_names = codes "interface" ∷ codes "listen-ng" ∷ codes "turns" ∷ codes "num-threads" ∷ shared_names
+serve_names = codes "interface" ∷ codes "interface6" ∷ codes "listen-ng" ∷ codes "turns" ∷ codes "num-threads" ∷ shared_names
 
 abbrev pub replay_names : List (List ℕ)
-replay_names = codes "interface" ∷ codes "seed" ∷ shared_names
+replay_names = codes "interface" ∷ codes "interface6" ∷ codes "seed" ∷ shared_names
 
 abbrev pub load_names : List (List ℕ)
 load_names = codes "calls" ∷ codes "packets" ∷ codes "lanes" ∷ codes "seed" ∷ []
@@ -103,12 +103,14 @@ one_value read default (value ∷ again ∷ values) = None
 abbrev pub default_listen : Addr
 default_listen = record { ip = V4 (127 ∷ 0 ∷ 0 ∷ 1 ∷ []); port = 2223 }
 
--- `interface` with an IPv4 address, which is required where no default is given for it, `port-min` and `port-max`
--- with a port each, `max-sessions` with a number, `timeout` and `offer-timeout` with a number of seconds each
+-- `interface` with an IPv4 address, which is required where no default is given for it, `interface6` with an IPv6 address, without which there is no
+-- interface of version 6, `port-min` and `port-max` with a port each, `max-sessions` with a number, `timeout` and `offer-timeout` with a number of
+-- seconds each
 abbrev pub configuration : Option Ip → List (List ℕ) → Option Config
 configuration interface words =
     config_from
     (one_value ipv4_address interface (values_of (codes "interface") words))
+    (one_value other_interface (Some None) (values_of (codes "interface6") words))
     (one_value media_port_value (Some 30000) (values_of (codes "port-min") words))
     (one_value media_port_value (Some 40000) (values_of (codes "port-max") words))
     (one_value session_count (Some 2048) (values_of (codes "max-sessions") words))

@@ -5,8 +5,8 @@ use Rattle.relay_outside.specs.declared.address.Addr.{Addr}
 use Rattle.relay_outside.specs.declared.address.Ip.{Ip}
 use Rattle.relay_outside.specs.declared.address.Ip.TheVariants.{V4, V6}
 use Rattle.relay_outside.specs.declared.settings.Config.{Config}
-use Rattle.relay_outside.specs.Settings.{first_port, pair_count}
-use Rattle.sdp_text.specs.Hosts.{ipv4_bytes}
+use Rattle.relay_outside.specs.Settings.{AreFamilies, first_port, pair_count, range_pairs}
+use Rattle.sdp_text.specs.Hosts.{bytes_of_groups, eight_groups, ipv4_bytes}
 use Rattle.command_line.specs.Numbers.{whole_number}
 use Rattle.command_line.specs.declared.settings.LoadSettings.{LoadSettings}
 use Rattle.command_line.specs.declared.settings.Media.{Media}
@@ -16,6 +16,14 @@ use Rattle.command_line.specs.declared.settings.Settings.{Settings}
 -- an IPv4 address
 abbrev pub ipv4_address : List ℕ → Option Ip
 ipv4_address text = option_map V4 (ipv4_bytes text)
+
+-- an IPv6 address
+abbrev pub ipv6_address : List ℕ → Option Ip
+ipv6_address text = option_map (λ groups. V6 (bytes_of_groups groups)) (eight_groups text)
+
+-- the interface of version 6, where there is one
+abbrev pub other_interface : List ℕ → Option (Option Ip)
+other_interface text = option_map Some (ipv6_address text)
 
 -- the address with a port, where both are there
 abbrev pub addr_with_port : Option Ip → Option ℕ → Option Addr
@@ -32,12 +40,12 @@ address_and_port text (Some at) = addr_with_port (ipv4_address (take at text)) (
 abbrev pub listen_address : List ℕ → Option Addr
 listen_address text = address_and_port text (position (λ byte. byte == 58) text)
 
--- the configuration of a relay of this interface, these ports and this many calls at most: a call without packets ends after `timeout` seconds,
--- and an offer without an answer after `offer_timeout`
-abbrev pub config_with : Ip → (port_min port_max max_sessions timeout offer_timeout : ℕ) → Config
-config_with interface port_min port_max max_sessions timeout offer_timeout = record {
+-- the configuration of a relay of this interface and of the other one, if any, of these ports and of this many calls at most: a call without packets
+-- ends after `timeout` seconds, and an offer without an answer after `offer_timeout`
+abbrev pub config_with : Ip → Option Ip → (port_min port_max max_sessions timeout offer_timeout : ℕ) → Config
+config_with interface interface6 port_min port_max max_sessions timeout offer_timeout = record {
   interface = interface;
-  interface6 = None;
+  interface6 = interface6;
   port_min = port_min;
   port_max = port_max;
   timeout_ms = 1000 * timeout;
@@ -51,7 +59,7 @@ replay_interface = V4 (203 ∷ 0 ∷ 113 ∷ 1 ∷ [])
 
 -- the configuration of a replay whose words say nothing of it
 abbrev pub default_config : Config
-default_config = config_with replay_interface 30000 40000 2048 60 3600
+default_config = config_with replay_interface None 30000 40000 2048 60 3600
 
 -- this port and the next one are a pair of the range of ports: the first is even
 abbrev pub IsPair : Config → ℕ → Type 0
@@ -59,27 +67,21 @@ IsPair config port = (port % 2 ≡ 0) × (config.port_min ≤ port) × (port + 1
 
 -- whether the range of ports holds a pair
 abbrev pub has_pair : Config → Bool
-has_pair config = nat_lt 0 (pair_count config)
+has_pair config = nat_lt 0 (range_pairs config)
 
 -- the configuration, where its range of ports holds a pair
 abbrev pub where_pair_fits : Config → Option Config
 where_pair_fits config = if has_pair config then Some config else None
 
 -- the configuration that the options say, where each says something and the range of ports holds a pair
-abbrev pub config_from : Option Ip → (port_min port_max max_sessions timeout offer_timeout : Option ℕ) → Option Config
-config_from (Some interface) (Some port_min) (Some port_max) (Some max_sessions) (Some timeout) (Some offer_timeout) =
-    where_pair_fits (config_with interface port_min port_max max_sessions timeout offer_timeout)
-config_from interface port_min port_max max_sessions timeout offer_timeout = None
-
--- an address of version 4
-abbrev pub IsV4 : Ip → Type 0
-IsV4 (V4 bytes) = Unit {0}
-IsV4 (V6 bytes) = ⊥
+abbrev pub config_from : Option Ip → Option (Option Ip) → (port_min port_max max_sessions timeout offer_timeout : Option ℕ) → Option Config
+config_from (Some interface) (Some interface6) (Some port_min) (Some port_max) (Some max_sessions) (Some timeout) (Some offer_timeout) =
+    where_pair_fits (config_with interface interface6 port_min port_max max_sessions timeout offer_timeout)
+config_from interface interface6 port_min port_max max_sessions timeout offer_timeout = None
 
 -- what holds of each configuration that words say
 pub record IsInLimits (config : Config) : Type 0 where
-  pub interface : IsV4 config.interface
-  pub interface6 : config.interface6 ≡ None
+  pub families : AreFamilies config
   pub port_min : 1024 ≤ config.port_min
   pub port_max : config.port_max ≤ 65535
   pub pairs : 0 < pair_count config
@@ -114,7 +116,8 @@ pub record IsLoadInLimits (settings : LoadSettings) : Type 0 where
   pub most_lanes : settings.lanes ≤ 16
   pub seed : settings.seed ≤ 18446744073709551615
 
--- how a run with these settings relays media: by how many threads, at how many pairs of ports, and where the first pair begins
+-- how a run with these settings relays media: by how many threads, at how many pairs of ports, of which the range holds how many, and where
+-- the first pair begins
 abbrev pub media_settings : Option Settings → Option Media
 media_settings None = None
-media_settings (Some settings) = Some (record { threads = settings.threads; pairs = pair_count settings.config; first_port = first_port settings.config })
+media_settings (Some settings) = Some (record { threads = settings.threads; pairs = pair_count settings.config; range_pairs = range_pairs settings.config; first_port = first_port settings.config })

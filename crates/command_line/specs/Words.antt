@@ -8,7 +8,7 @@ use Rattle.clap.specs.Words.{App, Kinds, fault_of, matches_of}
 use Rattle.clap.specs.ValueTests.{is_unsigned_in}
 use Rattle.relay_outside.specs.declared.settings.Config.{Config}
 use Rattle.command_line.specs.Commands.{serve_app, replay_app, load_app}
-use Rattle.command_line.specs.Values.{ipv4_address, listen_address, config_from, settings_from, replay_from, load_from, IsInLimits, IsLoadInLimits}
+use Rattle.command_line.specs.Values.{ipv4_address, listen_address, other_interface, config_from, settings_from, replay_from, load_from, IsInLimits, IsLoadInLimits}
 use Rattle.command_line.specs.declared.settings.LoadSettings.{LoadSettings}
 use Rattle.command_line.specs.declared.settings.ReplaySettings.{ReplaySettings}
 use Rattle.command_line.specs.declared.settings.Settings.{Settings}
@@ -32,11 +32,17 @@ number_in least most text = if is_unsigned_in least most text then Some (digits_
 abbrev pub option_number : (least most : ℕ) → Text → List Row → Option ℕ
 option_number least most name rows = option_and_then (number_in least most) (one_of name rows)
 
+-- what the text of an option reads as; where there is none, the default
+abbrev pub read_or : {X : Type 0} → X → (Text → Option X) → Option Text → Option X
+read_or default read None = Some default
+read_or default read (Some text) = read text
+
 -- the configuration by the values of the options
 abbrev pub config_of : List Row → Option Config
 config_of rows =
     config_from
     (option_and_then ipv4_address (first_of (codes "interface") rows))
+    (read_or None other_interface (first_of (codes "interface6") rows))
     (option_number 1024 65535 (codes "port-min") rows)
     (option_number 1024 65535 (codes "port-max") rows)
     (option_number 1 2048 (codes "max-sessions") rows)

@@ -1,7 +1,7 @@
 //! The options of each command, as `clap` is told them.
 ghost use Rattle.std.specs.Prelude.{◌≡◌, false, codes, IfOk};
 ghost use Rattle.clap.specs.Words.{app_of, rule_of, with_rule};
-ghost use Rattle.command_line.specs.Commands.{default_rule, number_rule, required_rule, serve_app, replay_app, load_app, with_rules, shared_rules};
+ghost use Rattle.command_line.specs.Commands.{default_rule, number_rule, option_rule, required_rule, serve_app, replay_app, load_app, with_rules, shared_rules};
 
 use crate::numbers::Limits;
 use clap::builder::ValueParser;
@@ -18,6 +18,17 @@ fn required<'a>(alloc: Global, name: &'a str, value: &'a str, help: &'a str) -> 
         .value_name(value)
         .help(help)
         .required(true)
+}
+
+/// An option that may be given, and has no default.
+fn optional<'a>(alloc: Global, name: &'a str, value: &'a str, help: &'a str) -> Arg<'a>
+    ensures rule { rule_of result ≡ option_rule name.entry.now }
+    ensures local { result.global ≡ false }
+{
+    Arg::new(alloc, name)
+        .long(name)
+        .value_name(value)
+        .help(help)
 }
 
 /// An option with a default.
@@ -101,7 +112,7 @@ fn with_seed<'a>(
     with_number(alloc, command, "seed", "NUMBER", help, seeds, "1")
 }
 
-/// A command with the options that `serve` and `replay` share, but the interface.
+/// A command with the options that `serve` and `replay` share, but the interfaces.
 fn with_shared<'a>(alloc: Global, command: Command<'a>) -> Result<Command<'a>, AllocError>
     ensures { IfOk result (λ r. app_of r ≡ with_rules (app_of command.entry) shared_rules) }
 {
@@ -154,9 +165,13 @@ pub(crate) fn serve_command<'a>(alloc: Global) -> Result<Command<'a>, AllocError
         .after_help("Example:\n  rtpengine serve --interface=192.0.2.1 --listen-ng=127.0.0.1:2223")
         .no_binary_name(true)
         .arg(interface)?;
+    let help =
+        "IPv6 address for the same, without a zone. If it is left out, media is over IPv4 alone";
+    let interface6 = optional(alloc, "interface6", "ADDRESS", help);
+    let both = begun.arg(interface6)?;
     let help = "Where commands come in, by UDP. Whoever reaches it controls all calls";
     let listen = with_default(alloc, "listen-ng", "ADDRESS:PORT", help, "127.0.0.1:2223");
-    let listened = begun.arg(listen)?;
+    let listened = both.arg(listen)?;
     let shared = with_shared(alloc, listened)?;
     let help =
         "End after waiting for a command this many times, 1 to 10^15. One wait takes a second at most";
@@ -185,7 +200,10 @@ pub(crate) fn replay_command<'a>(alloc: Global) -> Result<Command<'a>, AllocErro
         .after_help("Example:\n  rtpengine replay --seed=7 <call.script")
         .no_binary_name(true)
         .arg(interface)?;
-    let shared = with_shared(alloc, begun)?;
+    let help = "IPv6 address for the same. If it is left out, media is over IPv4 alone";
+    let interface6 = optional(alloc, "interface6", "ADDRESS", help);
+    let both = begun.arg(interface6)?;
+    let shared = with_shared(alloc, both)?;
     let help = "Makes the SRTP keys that the script doesn't give, below 2^64";
     with_seed(alloc, shared, help)
 }

@@ -122,7 +122,7 @@ pub fn read_words<'a>(alloc: Global, words: &'a [&'a str]) -> Result<Task, Refus
 }
 
 /// How a run with these words relays media, for those who make its devices; `None` unless they are a valid command line of `serve`, or out of memory.
-#[tactic(auto, unfolding(relay_outside::specs::Settings::pair_count))]
+#[tactic(auto, using(crate::proofs::Pairs::first_port_is_port))]
 pub fn read_media<'a>(alloc: Global, words: &'a [&'a str]) -> Option<Media>
     ensures { MatchOption result ⊤ (λ said. media_settings (settings (map (λ word. word.now) words.entry.now)) ≡ Some said) }
 {
@@ -130,6 +130,7 @@ pub fn read_media<'a>(alloc: Global, words: &'a [&'a str]) -> Option<Media>
         Ok(Task::Serve(settings)) => Some(Media {
             threads: settings.threads,
             pairs: settings.config.pairs(),
+            range_pairs: settings.config.range_pairs() as u16,
             first_port: settings.config.first_port() as u16,
         }),
         _ => None,

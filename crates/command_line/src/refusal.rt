@@ -4,7 +4,7 @@ ghost use Rattle.clap.specs.Words.{kind_of};
 ghost use Rattle.command_line.specs.Refusals.{begins_usage, IsRefused};
 ghost use Rattle.command_line.specs.declared.refusal.Refusal.TheVariants.{OutOfMemory as out_of_memory};
 
-use crate::values::{read_ip, read_listen};
+use crate::values::{read_ip, read_ip6, read_listen};
 use clap::error::ErrorKind;
 use clap::{ArgMatches, Error};
 use std::alloc::{AllocError, Global};
@@ -124,6 +124,12 @@ pub(crate) fn refuse_values<'a>(
         if read_ip(text.as_bytes()).is_none() {
             let expected = "an IPv4 address, such as 192.0.2.1";
             return refuse_address(alloc, command, "interface", text, expected);
+        }
+    }
+    if let Some(text) = matches.get_str("interface6") {
+        if read_ip6(text.as_bytes()).is_none() {
+            let expected = "an IPv6 address, such as 2001:db8::1";
+            return refuse_address(alloc, command, "interface6", text, expected);
         }
     }
     if let Some(text) = matches.get_str("listen-ng") {

@@ -4,7 +4,7 @@ use relay_outside::{Addr, Config};
 /// What the words of `serve` say.
 #[derive(Clone, Copy, PartialEq, Eq, Debug)]
 pub struct Settings {
-    /// What the relay is run with: its interface has version 4, and its range of ports holds a pair.
+    /// What the relay is run with: its interface has version 4, the other one, if any, version 6, and its range of ports holds a pair.
     pub config: Config,
     /// Where the control link is bound.
     pub listen: Addr,
@@ -17,7 +17,7 @@ pub struct Settings {
 /// What the words of `replay` say.
 #[derive(Clone, Copy, PartialEq, Eq, Debug)]
 pub struct ReplaySettings {
-    /// What the relay is replayed with: its interface has version 4, and its range of ports holds a pair.
+    /// What the relay is replayed with: its interface has version 4, the other one, if any, version 6, and its range of ports holds a pair.
     pub config: Config,
     /// From which number the keys are drawn that the script doesn't give.
     pub seed: u64,
@@ -43,8 +43,10 @@ pub struct LoadSettings {
 pub struct Media {
     /// How many threads relay it, at most 16; 0: the one that answers commands does.
     pub threads: u32,
-    /// How many pairs of ports the range holds: even ports whose next port is in it too.
+    /// How many pairs of ports there are: those of the range for each interface.
     pub pairs: u32,
+    /// How many pairs of ports the range holds: even ports whose next port is in it too.
+    pub range_pairs: u16,
     /// The RTP port of the first pair: the first even port of the range.
     pub first_port: u16,
 }

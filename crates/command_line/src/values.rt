@@ -1,15 +1,16 @@
 //! What the values of the options say.
 ghost use Rattle.std.specs.Prelude.{◌≡◌, ◌≤◌, ◌<◌, ◌==◌, ◌↔◌, IfSome, IsTrue, MatchOption, None, Some, ℕ, Option, codes, length, position, option_and_then};
 ghost use Rattle.clap.specs.Words.{first_of, found_of, rows_of};
+ghost use Rattle.relay_outside.specs.Settings.{ip_family};
 ghost use Rattle.command_line.specs.Numbers.{whole_number};
-ghost use Rattle.command_line.specs.Values.{ipv4_address, listen_address, has_pair, default_config, IsV4, IsPair, IsInLimits, IsLoadInLimits};
-ghost use Rattle.command_line.specs.Words.{option_number, config_of, settings_of, replay_of, load_of};
+ghost use Rattle.command_line.specs.Values.{ipv4_address, ipv6_address, listen_address, other_interface, has_pair, default_config, IsPair, IsInLimits, IsLoadInLimits};
+ghost use Rattle.command_line.specs.Words.{option_number, read_or, config_of, settings_of, replay_of, load_of};
 
 use crate::numbers::{Limits, read_whole_number};
 use crate::settings::{LoadSettings, ReplaySettings, Settings};
 use clap::ArgMatches;
-use relay_outside::{Addr, Config, Ip};
-use sdp_text::{Host, read_ipv4};
+use relay_outside::{Addr, Config, Family, Ip};
+use sdp_text::{Host, read_ipv4, read_ipv6};
 
 /// The greatest number of turns, and the default.
 const MOST_TURNS: u64 = 1_000_000_000_000_000;
@@ -17,10 +18,21 @@ const MOST_TURNS: u64 = 1_000_000_000_000_000;
 /// An IPv4 address.
 pub(crate) fn read_ip(text: &[u8]) -> Option<Ip>
     ensures value { result ≡ ipv4_address text.now }
-    ensures version { IfSome result IsV4 }
+    ensures version { IfSome result (λ ip. ip_family ip ≡ Family.V4) }
 {
     match read_ipv4(text) {
         Some(Host::V4(bytes)) => Some(Ip::V4(bytes)),
+        _ => None,
+    }
+}
+
+/// An IPv6 address.
+pub(crate) fn read_ip6(text: &[u8]) -> Option<Ip>
+    ensures value { result ≡ ipv6_address text.now }
+    ensures version { IfSome result (λ ip. ip_family ip ≡ Family.V6) }
+{
+    match read_ipv6(text) {
+        Some(Host::V6(bytes)) => Some(Ip::V6(bytes)),
         _ => None,
     }
 }
@@ -62,10 +74,22 @@ fn find_text<'a>(matches: &ArgMatches<'a>, name: &str) -> Option<&'a str>
 /// The address of the interface.
 fn find_interface(matches: &ArgMatches<'_>) -> Option<Ip>
     ensures value { result ≡ option_and_then ipv4_address (first_of (codes "interface") (rows_of (found_of matches.now))) }
-    ensures version { IfSome result IsV4 }
+    ensures version { IfSome result (λ ip. ip_family ip ≡ Family.V4) }
 {
     let text = find_text(matches, "interface")?;
     read_ip(text.as_bytes())
+}
+
+/// The address of the interface of version 6, if there is one; `None` where its option says something else.
+fn find_interface6(matches: &ArgMatches<'_>) -> Option<Option<Ip>>
+    ensures value { result ≡ read_or None other_interface (first_of (codes "interface6") (rows_of (found_of matches.now))) }
+    ensures version { IfSome result (λ other. IfSome other (λ ip. ip_family ip ≡ Family.V6)) }
+{
+    let Some(text) = find_text(matches, "interface6") else {
+        return Some(None);
+    };
+    let ip = read_ip6(text.as_bytes())?;
+    Some(Some(ip))
 }
 
 /// Where the control link is bound.
@@ -175,7 +199,7 @@ fn find_seed(matches: &ArgMatches<'_>) -> Option<u64>
 }
 
 /// What a replay is made with whose words say nothing of it.
-#[tactic(auto, unfolding(relay_outside::specs::Settings::pair_count))]
+#[tactic(auto, using(crate::proofs::Pairs::pairs_there), unfolding(relay_outside::specs::Settings::range_pairs))]
 fn default_config() -> Config
     ensures value { result ≡ default_config }
     ensures limits { IsInLimits result }
@@ -196,7 +220,7 @@ fn has_pair(config: &Config) -> bool
     ensures value { result ≡ has_pair config.now }
     ensures pair { IsTrue result ↔ ((port : ℕ) × IsPair config.now port) }
 {
-    config.pairs() > 0
+    config.range_pairs() > 0
 }
 
 /// What the relay is run with, where the range of ports holds a pair.
@@ -205,6 +229,7 @@ fn find_config(matches: &ArgMatches<'_>) -> Option<Config>
     ensures limits { IfSome result IsInLimits }
 {
     let interface = find_interface(matches)?;
+    let interface6 = find_interface6(matches)?;
     let port_min = find_port(matches, "port-min")?;
     let port_max = find_port(matches, "port-max")?;
     let max_sessions = find_sessions(matches)?;
@@ -212,7 +237,7 @@ fn find_config(matches: &ArgMatches<'_>) -> Option<Config>
     let offer_timeout = find_seconds(matches, "offer-timeout")?;
     let config = Config {
         interface,
-        interface6: None,
+        interface6,
         port_min,
         port_max,
         timeout_ms: 1_000 * timeout,

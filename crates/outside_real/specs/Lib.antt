@@ -1,3 +1,4 @@
 pub mod KeyStream
 pub mod Lines
+pub mod Sockets
 pub mod Streams

@@ -17,6 +17,7 @@ mod ports;
 mod readiness;
 mod seed;
 mod sink;
+mod sockets;
 mod stop;
 
 pub use address::{addr_of, socket_addr};

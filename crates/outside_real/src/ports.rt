@@ -4,6 +4,7 @@ use crate::address::{addr_of, socket_addr};
 use crate::errors::passes_by_itself;
 use crate::faults::Faults;
 use crate::readiness::{Hints, Readiness};
+use crate::sockets;
 use relay_outside::{Addr, Failed, InCall, InEnd, OutCall, OutEnd, PortCall, PortMaker};
 use std::alloc::Global;
 use std::net::{Net, UdpSocket};
@@ -96,15 +97,14 @@ fn open<R: Net>(net: &R, readiness: &Readiness, at: Addr) -> Option<(UdpIn, UdpO
     ensures at { IfSome result (λ ends. (ends.0.at ≡ at) × (ends.1.at ≡ at)) }
     ensures faults { IfSome result (λ ends. (ends.0.faults ≡ 0) × (ends.1.faults ≡ 0)) }
 {
-    let socket = UdpSocket::bind(net, socket_addr(at)).ok()?;
-    socket.set_nonblocking(true).ok()?;
+    let socket = sockets::bind(net, at).ok()?;
     let socket = Arc::new(readiness.alloc, socket).ok()?;
     let sending = UdpOut {
         at,
         socket: Arc::try_clone(&socket).ok()?,
         faults: Faults::new(),
     };
-    let hints = readiness.watch(&socket, at.port);
+    let hints = readiness.watch(&socket, at);
     let receiving = UdpIn {
         at,
         socket,

@@ -1,9 +1,11 @@
-ghost use Rattle.std.specs.Prelude.{◌≡◌, ◌-◌, ◌/◌, ◌≤◌, length};
+ghost use Rattle.std.specs.Prelude.{◌≡◌, ◌+◌, ◌-◌, ◌≤◌, length};
+ghost use Rattle.relay_outside.specs.Settings.{ip_family};
+ghost use Rattle.outside_real.specs.Sockets.{first_socket};
 
 use crate::stop::StopPipe;
 use libc::net::{EPOLL_CLOEXEC, EPOLL_CTL_ADD, EPOLLIN, epoll_create1};
 use os::EpollEvent;
-use relay_outside::LaneShare;
+use relay_outside::{Addr, Family, LaneShare};
 use std::alloc::Global;
 use std::net::UdpSocket;
 use std::os::fd::AsRawFd;
@@ -19,10 +21,13 @@ const BLIND_MILLIS: u32 = 2;
 const EVENTS: usize = 64;
 
 /// How many milliseconds a second has.
-const SECOND: u16 = 1_000;
+const SECOND: u32 = 1_000;
 
 /// The number that no pair has, which stands for the control socket and for the pipe whose end stops the program.
 const NO_PAIR: u32 = u32::MAX;
+
+/// How many pairs there are at most: half as many as there are ports, for each family.
+const MOST_PAIRS: u32 = 65_536;
 
 /// Under which the control socket is watched: the number of no media socket.
 const CONTROL: u64 = 1 << 32;
@@ -49,15 +54,15 @@ impl HintBits {
     }
 
     /// Sets the bit of this socket, if it has one.
-    fn set(&self, socket: u16) {
-        if let Some(word) = self.words.get(usize::from(socket / 64)) {
+    fn set(&self, socket: u32) {
+        if let Some(word) = self.words.get((socket / 64) as usize) {
             word.fetch_or(1 << (socket % 64), Ordering::SeqCst);
         }
     }
 
     /// Clears the bit of this socket, and returns whether it was set. A socket without one counts as if it always were.
-    fn take(&self, socket: u16) -> bool {
-        let Some(word) = self.words.get(usize::from(socket / 64)) else {
+    fn take(&self, socket: u32) -> bool {
+        let Some(word) = self.words.get((socket / 64) as usize) else {
             return true;
         };
         let bit = 1 << (socket % 64);
@@ -66,7 +71,7 @@ impl HintBits {
 }
 
 /// A set of sockets of which the system tells those that are readable, as long as they are (epoll,
-/// level-triggered). A media socket's number is its port's distance from the first one. The set's descriptor is closed where it is
+/// level-triggered). A media socket's number is twice its pair's, and one more at the odd port. The set's descriptor is closed where it is
 /// dropped.
 struct EventSet {
     descriptor: i32,
@@ -91,9 +96,9 @@ impl Drop for EventSet {
 }
 
 impl EventSet {
-    /// An empty set, with room for the hints of so many ports; `None` where the system refuses it or there is no memory.
-    fn new(alloc: Global, ports: usize) -> Option<EventSet> {
-        let hinted = HintBits::new(alloc, ports)?;
+    /// An empty set, with room for the hints of so many sockets; `None` where the system refuses it or there is no memory.
+    fn new(alloc: Global, sockets: usize) -> Option<EventSet> {
+        let hinted = HintBits::new(alloc, sockets)?;
         let descriptor = epoll_create1(EPOLL_CLOEXEC);
         if descriptor < 0 {
             return None;
@@ -121,11 +126,11 @@ impl EventSet {
         if number == PIPE {
             self.complete.store(false, Ordering::SeqCst);
         }
-        let Ok(port) = u16::try_from(number) else {
+        let Ok(socket) = u32::try_from(number) else {
             return NO_PAIR;
         };
-        self.hinted.set(port);
-        u32::from(port / 2)
+        self.hinted.set(socket);
+        socket / 2
     }
 
     /// Waits until a socket is readable, for at most this many milliseconds, and writes the pairs of those that are to
@@ -161,8 +166,8 @@ impl EventSet {
 
 /// In which second of its own a socket is at this moment. The seconds of sockets begin at different milliseconds, so that they aren't all
 /// asked at once.
-fn second_of(port: u16, moment: u32) -> u32 {
-    moment.wrapping_add(u32::from(port % SECOND)) / u32::from(SECOND)
+fn second_of(socket: u32, moment: u32) -> u32 {
+    moment.wrapping_add(socket % SECOND) / SECOND
 }
 
 /// Whether the system is to be asked for a datagram of a socket: where it told of one there since it was asked last, where it wasn't
@@ -172,7 +177,7 @@ pub(crate) struct Hints {
     /// The set in which the socket is watched; none where nothing is left to hints.
     set: Option<Arc<EventSet, Global>>,
     /// The socket's number there.
-    port: u16,
+    socket: u32,
     /// In which of its seconds it was asked last.
     asked: Option<u32>,
 }
@@ -183,8 +188,8 @@ impl Hints {
         let Some(set) = &self.set else {
             return true;
         };
-        let second = Some(second_of(self.port, set.moment.load(Ordering::SeqCst)));
-        if set.hinted.take(self.port)
+        let second = Some(second_of(self.socket, set.moment.load(Ordering::SeqCst)));
+        if set.hinted.take(self.socket)
             || self.asked != second
             || !set.complete.load(Ordering::SeqCst)
         {
@@ -215,26 +220,27 @@ pub struct Readiness {
     sets: Vec<Arc<EventSet, Global>>,
     share: LaneShare,
     first_port: u16,
+    range_pairs: u16,
 }
 
 impl Readiness {
     /// A set for each thread of the share, with the pipe's end in it and no socket yet; no thread counts as one, whose set
-    /// has all pairs. The first port is the even one of the range's first pair: pair n, from 0, has the ports
-    /// `first_port + 2 * n` and the next, and its sockets stand in the set of the thread that has its lane. Each set has room for hints of
-    /// so many pairs; a port behind them is asked without one.
+    /// has all pairs. The first port is the even one of the range's first pair. With R pairs in the range (`range_pairs`), pair n below R has the
+    /// ports `first_port + 2 * n` and the next, of version 4, and pair R + n the same ports of version 6. A pair's sockets stand in the set of the
+    /// thread that has its lane. Each set has room for hints of so many pairs, of 65,536 at most; a socket without room, or of a port that isn't
+    /// in the range, is asked without one.
     pub fn new(
         alloc: Global,
         share: LaneShare,
         first_port: u16,
+        range_pairs: u16,
         pairs: u32,
         stop: StopPipe,
     ) -> Readiness {
-        let ports = (pairs as usize)
-            .saturating_mul(2)
-            .min(usize::from(u16::MAX - first_port) + 1);
+        let sockets = 2 * pairs.min(MOST_PAIRS) as usize;
         let mut sets = Vec::new(alloc);
         for _ in 0..share.threads.max(1) {
-            let Some(set) = EventSet::new(alloc, ports) else {
+            let Some(set) = EventSet::new(alloc, sockets) else {
                 break;
             };
             if let Some(pipe) = stop.descriptor() {
@@ -252,6 +258,7 @@ impl Readiness {
             sets,
             share,
             first_port,
+            range_pairs,
         }
     }
 
@@ -260,26 +267,37 @@ impl Readiness {
         self.sets.get(usize::try_from(thread).ok()?)
     }
 
-    /// The pair that has this port; pair 0 where it stands below the first.
-    fn pair_of(&self, port: u16) -> u32
-        ensures { result ≡ (port - self.now.first_port) / 2 }
+    /// The number of the media socket at this address: twice its pair's, and one more at the odd port; as of the first port, where its own
+    /// stands below.
+    fn number_of(&self, at: Addr) -> u32
+        ensures { result ≡ first_socket (ip_family at.ip) self.now.range_pairs + (at.port - self.now.first_port) }
     {
-        u32::from(port.saturating_sub(self.first_port) / 2)
+        let distance = u32::from(at.port.saturating_sub(self.first_port));
+        match at.ip.family() {
+            Family::V4 => distance,
+            Family::V6 => 2 * u32::from(self.range_pairs) + distance,
+        }
     }
 
-    /// Watches a media socket at this port, in the set of the thread that has the lane of its pair; of the first thread where there is no
-    /// lane. Where no thread relays media, a sweep asks at all ports, and no hint says at which.
-    pub(crate) fn watch(&self, socket: &UdpSocket, port: u16) -> Hints {
-        let lane = self.share.lane_of(self.pair_of(port)).unwrap_or(0);
-        let port = port.saturating_sub(self.first_port);
+    /// Whether no other socket of the range has this one's number.
+    fn is_in_range(&self, port: u16) -> bool {
+        let distance = u32::from(port.saturating_sub(self.first_port));
+        self.first_port <= port && distance < 2 * u32::from(self.range_pairs)
+    }
+
+    /// Watches a media socket that is bound to this address, in the set of the thread that has the lane of its pair; of the first thread where
+    /// there is no lane. Where no thread relays media, a sweep asks at all ports, and no hint says at which.
+    pub(crate) fn watch(&self, socket: &UdpSocket, at: Addr) -> Hints {
+        let number = self.number_of(at);
+        let lane = self.share.lane_of(number / 2).unwrap_or(0);
         let mut hints = Hints {
             set: None,
-            port,
+            socket: number,
             asked: None,
         };
         if let Some(set) = self.set_of(self.share.thread_of(lane)) {
-            set.add(socket.as_raw_fd(), EPOLLIN, u64::from(port));
-            if self.share.threads > 0 {
+            set.add(socket.as_raw_fd(), EPOLLIN, u64::from(number));
+            if self.share.threads > 0 && self.is_in_range(at.port) {
                 hints.set = Arc::try_clone(set).ok();
             }
         }

@@ -52,13 +52,14 @@ fn texts_of(alloc: Global, words: &Vec<String>) -> Result<Vec<&str>, AllocError>
 
 /// What the words say of media; without words of `serve`, or out of memory, no threads and no pairs: then no socket is opened.
 fn media_of<'a>(alloc: Global, words: &'a [&'a str]) -> Media
-    ensures { (media_settings (settings (map (λ word. word.now) words.entry.now)) ≡ Some result) ⊎ (result ≡ record { threads = 0; pairs = 0; first_port = 0 }) }
+    ensures { (media_settings (settings (map (λ word. word.now) words.entry.now)) ≡ Some result) ⊎ (result ≡ record { threads = 0; pairs = 0; range_pairs = 0; first_port = 0 }) }
 {
     match read_media(alloc, words) {
         Some(media) => media,
         None => Media {
             threads: 0,
             pairs: 0,
+            range_pairs: 0,
             first_port: 0,
         },
     }
@@ -75,7 +76,14 @@ where
     let media = media_of(alloc, words);
     let share = LaneShare::of_pairs(media.threads, media.pairs);
     let stop = StopPipe::standard_input();
-    let readiness = Readiness::new(alloc, share, media.first_port, media.pairs, stop);
+    let readiness = Readiness::new(
+        alloc,
+        share,
+        media.first_port,
+        media.range_pairs,
+        media.pairs,
+        stop,
+    );
     let mut devices = RealDevices::new(rt, &readiness, stop, media.threads, seed, input);
     let status = run_over(rt, alloc, words, &mut devices);
     Ending::of_run(words, status, devices.control.fault())
