@@ -1,5 +1,5 @@
 -- What an answer's turn does is what its entry owes.
-use Rattle.std.proofs.Common.{◌≡◌, ◌∙◌, sym, ap, subst, ℕ, List, [], ◌∷◌, Option, map}
+use Rattle.std.proofs.Common.{◌≡◌, ◌∙◌, refl, sym, ap, subst, ℕ, List, [], ◌∷◌, Option, map}
 use Rattle.relay_outside.specs.declared.ports.PortCall.{PortCall}
 use Rattle.relay_outside.specs.declared.settings.Config.{Config}
 use Rattle.turn_table.specs.declared.hands.Hand.{Hand}
@@ -11,11 +11,13 @@ use Rattle.offer_answer.specs.Rounds.{AnswerAsk}
 use Rattle.offer_answer.specs.Rounds as round
 use Rattle.call_board.specs.Acts.{Call, BoardEntry}
 use Rattle.call_board.specs.Boards.{BoardMatches, pairs_in}
+use Rattle.call_board.specs.Fits.{IsFitting}
 use Rattle.call_board.specs.Pairs.{held, closed_of}
 use Rattle.call_board.specs.Views.{View, view_of, view_at_moment, with_returned}
 use Rattle.call_board.specs.Whole.{with_more, with_closed}
 use Rattle.call_board.specs.declared.board.Board.{Board}
 use Rattle.call_board.specs.declared.board_plan.BoardPlan.{BoardPlan}
+use Rattle.call_board.proofs.Outs.{ended_return}
 use Rattle.relay_core.specs.declared.part.Part.{Part}
 use Rattle.relay_core.specs.Entries.{Entry, board_history}
 use Rattle.relay_core.specs.Legal.{Orderly}
@@ -24,6 +26,7 @@ use Rattle.relay_core.specs.Scripts.{Owed, closing, in_cell}
 use Rattle.relay_core.specs.Turns.{IsAbove, GainsNested, made_by}
 use Rattle.relay_core.proofs.Histories.{good_history}
 use Rattle.relay_core.proofs.LegsHeld.{answer_closes}
+use Rattle.media_ports.specs.Addresses.{AreLeased}
 use Rattle.media_ports.specs.OpenPorts.{LogsHeld}
 use Rattle.board_turns.specs.declared.board_turn.BoardEntryId.{BoardEntryId}
 use Rattle.board_turns.specs.InCells.{in_cell_of}
@@ -32,7 +35,7 @@ use Rattle.board_turns.proofs.Nesting.{gains_more}
 use Rattle.board_turns.specs.Acts.{DoesAct}
 use Rattle.board_turns.specs.Closings.{leases_of_legs, closings_of, pairs_left}
 use Rattle.board_turns.specs.CallEnds.{leg_pairs}
-use Rattle.board_turns.proofs.Ended.{pairs_are, closings_are}
+use Rattle.board_turns.proofs.Ended.{may_return_alike, may_be_leased, pairs_are, closings_are}
 use Rattle.board_turns.proofs.Lefts.{told_alike}
 use Rattle.answer_command.specs.Due.{IsAnswerOf, due_answer}
 use Rattle.answer_command.proofs.Rejected.{ends_none, answered_held, answered_owes, answered_acts}
@@ -50,6 +53,13 @@ went_closed {O} config l n moment e of ask lines p cell k signal gone o above_bo
     subst (λ (legs : List Holder). AreLeasesOf config gone legs)
     (sym (answer_closes config l o n k e a above_board there_above d.alive d.acts (ends_none e a d.acts)))
     (there k there_above)
+
+-- they had leases of different pairs
+pub closed_leased : {O : Type 0} (config : Config) (h : List BoardEntry) (e : BoardEntry) (of : Call) (gone : List (Lease × O × O)) → IsFitting config h →
+    AreLeasesOf config gone (closed_of h e of) → AreLeased config (leases_of_legs gone)
+closed_leased config h e of gone fits are =
+    may_be_leased config (view_of config h) (leases_of_legs gone)
+    (may_return_alike config (view_of config h) gone (closed_of h e of) are (ended_return config h e [] of (view_of config h) fits refl refl (λ i. elim i [ ])))
 
 module _ {M I O T : Type 0} {g : _} where
   -- commit, apply and closes make what the entry owes

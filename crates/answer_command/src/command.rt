@@ -41,7 +41,7 @@ pub fn answer<P: PortMaker, R: Wait>(
         input,
         alloc,
     } = *asked;
-    let sdp = match read_description(alloc, turn.main.config, input.sdp.as_slice()) {
+    let sdp = match read_description(alloc, turn.main.config, None, input.sdp.as_slice()) {
         Ok(sdp) => sdp,
         Err(fault) => return misdescribed(alloc, request, fault),
     };

@@ -11,7 +11,6 @@ use Rattle.call_board.specs.declared.board.Board.{Board}
 use Rattle.call_board.specs.Acts.{Call, BoardEntry}
 use Rattle.call_board.specs.Boards.{BoardMatches, pairs_in}
 use Rattle.call_board.specs.Pairs.{held, free, closed_of}
-use Rattle.call_board.specs.Returns.{MayReturnAll}
 use Rattle.call_board.specs.Views.{View, times_leased}
 use Rattle.call_board.proofs.Held.{closed_of_held}
 use Rattle.call_board.proofs.Outs.{ended_return}
@@ -28,7 +27,7 @@ use Rattle.board_turns.specs.Departures.{AreLeasesOf}
 use Rattle.board_turns.specs.Closings.{CanClose, leases_of_legs}
 use Rattle.board_turns.specs.CallEnds.{leg_pairs}
 use Rattle.board_turns.proofs.Closed.{still_open}
-use Rattle.board_turns.proofs.Ended.{leases_are, pairs_are, ports_are}
+use Rattle.board_turns.proofs.Ended.{pairs_are, may_return_alike}
 
 not_box : (config : Config) (cell pair : ℕ) (w : Owed) → w.place ≡ cell → cell ≤ config.max_sessions → (x : Owed) → In x (w ∷ []) → x.place ≡ box_of config pair → ⊥
 not_box config cell pair w at high x (here q) is = let same = ap (λ (v : Owed). v.place) q in omega (arith, same, at, is, high)
@@ -50,9 +49,7 @@ module _ {M S T O : Type 0} {g : _} where
       record {
         view = v;
         shows = shows;
-        may_return = subst (λ (leases : List Lease). MayReturnAll config v leases) (sym (leases_are config gone legs are))
-            (ended_return config h e [] of v fits free_is leases_is (λ i. elim i [ ]));
-        have_ports = ports_are config gone legs are;
+        may_return = may_return_alike config v gone legs are (ended_return config h e [] of v fits free_is leases_is (λ i. elim i [ ]));
         boxes_open = λ pair i.
             let m = its pair i in
             subst (λ (p : ℕ). IsTurnOpen (made_by new) (box_of config p)) m.makes

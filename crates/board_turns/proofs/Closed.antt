@@ -3,7 +3,6 @@ use Rattle.std.proofs.Common.{◌≡◌, ◌∙◌, refl, sym, ap, subst, ℕ, B
 use Rattle.std.specs.Prelude.{◌&&◌}
 use Rattle.std.proofs.lemmas.List.{map-append}
 use Rattle.std.specs.List.{filter_map}
-use Rattle.relay_outside.specs.declared.address.Ip.{Ip}
 use Rattle.relay_outside.specs.declared.ports.OutCall.{OutCall}
 use Rattle.relay_outside.specs.declared.ports.PortCall.{PortCall}
 use Rattle.relay_outside.specs.declared.settings.Config.{Config}
@@ -92,7 +91,6 @@ module _ {O : Type 0} where
     view = can.view;
     shows = can.shows;
     may_return = (can.may_return.0, refl, tt);
-    have_ports = (can.have_ports.0, tt);
     boxes_open = λ pair i. can.boxes_open pair (first_in i);
     held = can.held;
     opens = can.opens;
@@ -115,7 +113,6 @@ module _ {O : Type 0} where
         view = with_returned can.view (leg.0.pair ∷ []);
         shows = returned config can.view can.shows;
         may_return = returns_next config can.view leg.0 (leases_of_legs gone) can.may_return;
-        have_ports = can.have_ports.1;
         boxes_open = λ pair i. still_open number moment (box_of config pair) (closings_of config (leg ∷ [])) old new gains
             (other_box config leg.0.pair pair (apart pair i)) (can.boxes_open pair (there i));
         held = pairs_left (leg.0.pair ∷ []) can.held;
@@ -133,13 +130,13 @@ module _ {O : Type 0} where
   pub pairs_more : (some more : List (Lease × O × O)) → pairs_in (leases_of_legs (some ++ more)) ≡ pairs_in (leases_of_legs some) ++ pairs_in (leases_of_legs more)
   pairs_more some more = ap pairs_in (map-append (λ (leg : Lease × O × O). leg.0) some more) ∙ map-append (λ (lease : Lease). lease.pair) (leases_of_legs some) (leases_of_legs more)
 
-  pub closes_more : (sent : O → EndLog OutCall) (interface : Ip) (some more : List (Lease × O × O)) (xs ys : List PortCall) →
-      ClosesLegs sent interface some xs → ClosesLegs sent interface more ys → ClosesLegs sent interface (some ++ more) (xs ++ ys)
-  closes_more sent interface [] more xs ys first second = subst (λ (zs : List PortCall). ClosesLegs sent interface more (zs ++ ys)) (sym first) second
-  closes_more sent interface (leg ∷ some) more xs ys first second = (
+  pub closes_more : (sent : O → EndLog OutCall) (config : Config) (some more : List (Lease × O × O)) (xs ys : List PortCall) →
+      ClosesLegs sent config some xs → ClosesLegs sent config more ys → ClosesLegs sent config (some ++ more) (xs ++ ys)
+  closes_more sent config [] more xs ys first second = subst (λ (zs : List PortCall). ClosesLegs sent config more (zs ++ ys)) (sym first) second
+  closes_more sent config (leg ∷ some) more xs ys first second = (
     first.0,
     first.1,
     first.2 ++ ys,
     ap (λ (zs : List PortCall). zs ++ ys) first.3,
-    closes_more sent interface some more first.2 ys first.4 second,
+    closes_more sent config some more first.2 ys first.4 second,
   )

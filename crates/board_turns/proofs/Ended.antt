@@ -1,12 +1,12 @@
 -- A call that ends: what its legs and their leases are.
-use Rattle.std.proofs.Common.{◌≡◌, ◌∙◌, refl, sym, ap, subst, ℕ, ◌≤◌, true, List, [], ◌∷◌, Option, Some, map, arith}
+use Rattle.std.proofs.Common.{◌≡◌, ◌∙◌, refl, sym, ap, subst, ℕ, ◌<◌, ◌≤◌, true, List, [], ◌∷◌, Option, Some, map, arith}
 use Rattle.std.specs.Prelude.{option_map}
 use Rattle.relay_outside.specs.declared.ports.PortCall.{PortCall}
 use Rattle.relay_outside.specs.declared.settings.Config.{Config}
 use Rattle.turn_table.specs.declared.hands.Hand.{Hand}
 use Rattle.histories.specs.Words.{In, here, there, has}
 use Rattle.histories.proofs.Lists.{mapped}
-use Rattle.port_pool.specs.Ports.{pair_port}
+use Rattle.port_pool.specs.Ports.{pair_count}
 use Rattle.port_pool.specs.declared.pairs.Lease.{Lease}
 use Rattle.port_pool.specs.declared.holder.Holder.{Holder}
 use Rattle.call_cell.specs.Cells.{End}
@@ -19,7 +19,7 @@ use Rattle.relay_core.specs.Entries.{Entry, box_of}
 use Rattle.relay_core.specs.Scripts.{Owed, closing}
 use Rattle.relay_core.specs.Records.{Made}
 use Rattle.relay_core.specs.Turns.{IsAbove, GainsNested, made_by}
-use Rattle.media_ports.specs.Addresses.{HavePorts}
+use Rattle.media_ports.specs.Addresses.{AreLeased}
 use Rattle.board_turns.specs.NestedSteps.{IsTurnOpen, closing_of}
 use Rattle.board_turns.specs.InCells.{in_cell_of}
 use Rattle.board_turns.specs.Departures.{AreLeasesOf, AllRemoved}
@@ -27,20 +27,8 @@ use Rattle.board_turns.specs.Closings.{CanClose, leases_of_legs, closings_of}
 use Rattle.board_turns.specs.CallEnds.{CanEnd, leg_pairs}
 use Rattle.board_turns.proofs.Closed.{still_open}
 
-lease_alike : (a b : Lease) → a.pair ≡ b.pair → a.rtp_port ≡ b.rtp_port → a.generation ≡ b.generation → a ≡ b
-lease_alike a b p q r = λ i. record { pair = p i; rtp_port = q i; generation = r i }
-
 module _ {O : Type 0} where
-  -- the leases that went are those of the legs
-  pub leases_are : (config : Config) (gone : List (Lease × O × O)) (legs : List Holder) → AreLeasesOf config gone legs → leases_of_legs gone ≡ map (leg_lease config) legs
-  leases_are config [] [] are = refl
-  leases_are config [] (leg ∷ legs) are = absurd are
-  leases_are config (went ∷ gone) [] are = absurd are
-  leases_are config (went ∷ gone) (leg ∷ legs) are =
-      let first = lease_alike went.0 (leg_lease config leg) are.0.pair are.0.port are.0.generation in
-      let rest = leases_are config gone legs are.1 in
-      λ i. first i ∷ rest i
-
+  -- the pairs that went are those of the legs
   pub pairs_are : (config : Config) (gone : List (Lease × O × O)) (legs : List Holder) → AreLeasesOf config gone legs → pairs_in (leases_of_legs gone) ≡ leg_pairs legs
   pairs_are config [] [] are = refl
   pairs_are config [] (leg ∷ legs) are = absurd are
@@ -59,11 +47,25 @@ module _ {O : Type 0} where
       let rest = closings_are config gone legs are.1 in
       λ i. first i ∷ rest i
 
-  pub ports_are : (config : Config) (gone : List (Lease × O × O)) (legs : List Holder) → AreLeasesOf config gone legs → HavePorts config (leases_of_legs gone)
-  ports_are config [] [] are = tt
-  ports_are config [] (leg ∷ legs) are = absurd are
-  ports_are config (went ∷ gone) [] are = absurd are
-  ports_are config (went ∷ gone) (leg ∷ legs) are = (are.0.port ∙ ap (pair_port config) (sym are.0.pair), ports_are config gone legs are.1)
+  -- where the leases of the legs may be given back, so may those that went
+  pub may_return_alike : (config : Config) (v : View) (gone : List (Lease × O × O)) (legs : List Holder) → AreLeasesOf config gone legs → MayReturnAll config v (map (leg_lease config) legs) →
+      MayReturnAll config v (leases_of_legs gone)
+  may_return_alike config v [] [] are may = tt
+  may_return_alike config v [] (leg ∷ legs) are may = absurd are
+  may_return_alike config v (went ∷ gone) [] are may = absurd are
+  may_return_alike config v (went ∷ gone) (leg ∷ legs) are may = (
+    record {
+      of_range = subst (λ (p : ℕ). p < pair_count config) (sym are.0.pair) may.0.of_range;
+      not_free = ap (has v.free) are.0.pair ∙ may.0.not_free;
+      last = ap v.leases are.0.pair ∙ may.0.last ∙ sym are.0.generation;
+    },
+    ap (λ (ps : List ℕ). has ps went.0.pair) (pairs_are config gone legs are.1) ∙ ap (has (leg_pairs legs)) are.0.pair ∙ ap (λ (ps : List ℕ). has ps leg.pair) (their_pairs legs) ∙ may.1,
+    may_return_alike config v gone legs are.1 may.2,
+  )
+    where
+      their_pairs : (those : List Holder) → leg_pairs those ≡ pairs_in (map (leg_lease config) those)
+      their_pairs [] = refl
+      their_pairs (one ∷ those) = ap (λ (ps : List ℕ). one.pair ∷ ps) (their_pairs those)
 
   -- the legs that went from the cell are those of the call
   pub went_are : (config : Config) (l : List Entry) (board : Board) (log : Option (List PortCall)) (call : ℕ) (of : Call) (legs : List Holder) (cell n : ℕ)
@@ -72,6 +74,11 @@ module _ {O : Type 0} where
       let there_above : IsAbove l of.cell n = subst (λ (k : ℕ). IsAbove l k n) is above in
       let there_went : AllRemoved config l of.cell gone = subst (λ (k : ℕ). AllRemoved config l k gone) is went in
       subst (λ (ls : List Holder). AreLeasesOf config gone ls) (can.legs_are n there_above) (there_went n there_above)
+
+-- leases that may be given back are of different pairs
+pub may_be_leased : (config : Config) (v : View) (leases : List Lease) → MayReturnAll config v leases → AreLeased config leases
+may_be_leased config v [] may = record { differ = tt }
+may_be_leased config v (lease ∷ leases) may = record { differ = (may.0.of_range, may.1, (may_be_leased config v leases may.2).differ) }
 
 -- the board's answer is the cell of the call
 pub cell_is : (config : Config) (l : List Entry) (board : Board) (log : Option (List PortCall)) (call : ℕ) (of : Call) (legs : List Holder) (cell : ℕ) →
@@ -100,8 +107,7 @@ module _ {M S T O : Type 0} {g : _} where
       record {
         view = without_call can.view call;
         shows = ended config can.view can.shows can.apart;
-        may_return = subst (λ (leases : List Lease). MayReturnAll config (without_call can.view call) leases) (sym (leases_are config gone legs are)) can.may_return;
-        have_ports = ports_are config gone legs are;
+        may_return = may_return_alike config (without_call can.view call) gone legs are can.may_return;
         boxes_open = λ pair i. still_open number moment (box_of config pair) (in_cell_of cell End ∷ []) old new gains (not_box config cell pair (omega (arith, high, is)))
             (subst (λ (p : ℕ). IsTurnOpen (made_by old) (box_of config p)) (its pair i).makes (can.boxes_open (its pair i).from (its pair i).is_in));
         held = can.held;

@@ -69,6 +69,7 @@ comes_first : {O : Type 0} (config : Config) (signal : prepared.Prepare O) (call
 comes_first {O} config signal call key dropped none = record {
   sections = λ leg i. absurd (no_leg signal none leg.holder (maps (λ (x : Leg O). x.holder) signal.legs.items i));
   ports = λ leg i half. absurd (no_leg signal none leg.holder (maps (λ (x : Leg O). x.holder) signal.legs.items i));
+  families = λ leg i. absurd (no_leg signal none leg.holder (maps (λ (x : Leg O). x.holder) signal.legs.items i));
   differ = subst (λ (l : List Holder). AllPairs AreTwo l) (sym none) (λ i j d less below. absurd (omega (arith, below)));
   new_lease = λ leg other i j. absurd (no_leg signal none leg i);
   free_place = λ leg other i j. absurd (no_leg signal none leg i);

@@ -22,37 +22,37 @@ none_failed zero i = in_nothing i
 none_failed (suc opened) (here e) = let k : false ≡ true = e in cc
 none_failed (suc opened) (there i) = none_failed opened i
 
-nothing_given : (config : Config) (free : List ℕ) (out_of_memory : Bool) (report : Option (List LegReport)) (ports ports_now keys keys_now : ℕ) (opened opened_now : Option (List PortCall)) (drew : Option (List KeyCall))
-    → Gained opened opened_now NoneOpened → IsGivenBy config free (record { out_of_memory = out_of_memory; opens = []; draws = []; draw_failed = false; report = report }) ports ports_now keys keys_now opened opened_now drew drew
-nothing_given config free out_of_memory report ports ports_now keys keys_now opened opened_now drew closes = record {
+nothing_given : (config : Config) (leased : List ℕ) (out_of_memory : Bool) (report : Option (List LegReport)) (ports ports_now keys keys_now : ℕ) (opened opened_now : Option (List PortCall)) (drew : Option (List KeyCall))
+    → Gained opened opened_now NoneOpened → IsGivenBy config leased (record { out_of_memory = out_of_memory; opens = []; draws = []; draw_failed = false; report = report }) ports ports_now keys keys_now opened opened_now drew drew
+nothing_given config leased out_of_memory report ports ports_now keys keys_now opened opened_now drew closes = record {
   port_fault = λ i. absurd (in_nothing i);
   key_fault = λ t. absurd (let k : false ≡ true = t in cc);
-  opens = gained_less opened opened_now NoneOpened (OpensAt config free []) (opens_none_at config free) closes;
+  opens = gained_less opened opened_now NoneOpened (OpensAt config leased []) (opens_none_at config leased) closes;
   draws = gained_none drew (λ calls. calls ≡ []) refl;
 }
 
 -- nothing was asked: the port maker was at most asked to close, and the key source's list stands as it was, whatever the counts are
-pub closing_given : (config : Config) (free : List ℕ) (device_answers : DeviceAnswers) (ports ports_now keys keys_now : ℕ) (opened opened_now : Option (List PortCall)) (drew : Option (List KeyCall))
-    → Gained opened opened_now NoneOpened → IsUnasked device_answers → IsGivenBy config free (given_by device_answers) ports ports_now keys keys_now opened opened_now drew drew
-closing_given config free Nothing ports ports_now keys keys_now opened opened_now drew closes unasked = nothing_given config free false None ports ports_now keys keys_now opened opened_now drew closes
-closing_given config free OutOfMemory ports ports_now keys keys_now opened opened_now drew closes unasked = nothing_given config free true None ports ports_now keys keys_now opened opened_now drew closes
-closing_given config free (PortFault count) ports ports_now keys keys_now opened opened_now drew closes unasked = absurd unasked
-closing_given config free (KeyFault count drawn) ports ports_now keys keys_now opened opened_now drew closes unasked = absurd unasked
-closing_given config free (Offered count drawn) ports ports_now keys keys_now opened opened_now drew closes unasked = absurd unasked
-closing_given config free (Report log) ports ports_now keys keys_now opened opened_now drew closes unasked = nothing_given config free false (Some log) ports ports_now keys keys_now opened opened_now drew closes
-closing_given config free (ReportOutOfMemory log) ports ports_now keys keys_now opened opened_now drew closes unasked = nothing_given config free true (Some log) ports ports_now keys keys_now opened opened_now drew closes
+pub closing_given : (config : Config) (leased : List ℕ) (device_answers : DeviceAnswers) (ports ports_now keys keys_now : ℕ) (opened opened_now : Option (List PortCall)) (drew : Option (List KeyCall))
+    → Gained opened opened_now NoneOpened → IsUnasked device_answers → IsGivenBy config leased (given_by device_answers) ports ports_now keys keys_now opened opened_now drew drew
+closing_given config leased Nothing ports ports_now keys keys_now opened opened_now drew closes unasked = nothing_given config leased false None ports ports_now keys keys_now opened opened_now drew closes
+closing_given config leased OutOfMemory ports ports_now keys keys_now opened opened_now drew closes unasked = nothing_given config leased true None ports ports_now keys keys_now opened opened_now drew closes
+closing_given config leased (PortFault count) ports ports_now keys keys_now opened opened_now drew closes unasked = absurd unasked
+closing_given config leased (KeyFault count drawn) ports ports_now keys keys_now opened opened_now drew closes unasked = absurd unasked
+closing_given config leased (Offered count drawn) ports ports_now keys keys_now opened opened_now drew closes unasked = absurd unasked
+closing_given config leased (Report log) ports ports_now keys keys_now opened opened_now drew closes unasked = nothing_given config leased false (Some log) ports ports_now keys keys_now opened opened_now drew closes
+closing_given config leased (ReportOutOfMemory log) ports ports_now keys keys_now opened opened_now drew closes unasked = nothing_given config leased true (Some log) ports ports_now keys keys_now opened opened_now drew closes
 
 -- no port was closed either
-pub unasked_given : (config : Config) (free : List ℕ) (device_answers : DeviceAnswers) (ports ports_now keys keys_now : ℕ) (opened : Option (List PortCall)) (drew : Option (List KeyCall)) → IsUnasked device_answers
-    → IsGivenBy config free (given_by device_answers) ports ports_now keys keys_now opened opened drew drew
-unasked_given config free device_answers ports ports_now keys keys_now opened drew unasked =
-    closing_given config free device_answers ports ports_now keys keys_now opened opened drew (gained_no_opening opened) unasked
+pub unasked_given : (config : Config) (leased : List ℕ) (device_answers : DeviceAnswers) (ports ports_now keys keys_now : ℕ) (opened : Option (List PortCall)) (drew : Option (List KeyCall)) → IsUnasked device_answers
+    → IsGivenBy config leased (given_by device_answers) ports ports_now keys keys_now opened opened drew drew
+unasked_given config leased device_answers ports ports_now keys keys_now opened drew unasked =
+    closing_given config leased device_answers ports ports_now keys keys_now opened opened drew (gained_no_opening opened) unasked
 
 -- all ports were opened, and all keys drawn
-pub offered_given : (config : Config) (free : List ℕ) (count : ℕ) (drawn : KeyBytes) (ports ports_now keys keys_now : ℕ) (opened opened_now : Option (List PortCall)) (drew drew_now : Option (List KeyCall))
-    → Gained opened opened_now (OpensAt config free (replicate count true)) → Gained drew drew_now (AreDrawn drawn.list)
-    → IsGivenBy config free (given_by (Offered count drawn)) ports ports_now keys keys_now opened opened_now drew drew_now
-offered_given config free count drawn ports ports_now keys keys_now opened opened_now drew drew_now opens gained = record {
+pub offered_given : (config : Config) (leased : List ℕ) (count : ℕ) (drawn : KeyBytes) (ports ports_now keys keys_now : ℕ) (opened opened_now : Option (List PortCall)) (drew drew_now : Option (List KeyCall))
+    → Gained opened opened_now (OpensAt config leased (replicate count true)) → Gained drew drew_now (AreDrawn drawn.list)
+    → IsGivenBy config leased (given_by (Offered count drawn)) ports ports_now keys keys_now opened opened_now drew drew_now
+offered_given config leased count drawn ports ports_now keys keys_now opened opened_now drew drew_now opens gained = record {
   port_fault = λ i. absurd (none_failed count i);
   key_fault = λ t. absurd (let k : false ≡ true = t in cc);
   opens = opens;
@@ -61,10 +61,10 @@ offered_given config free count drawn ports ports_now keys keys_now opened opene
 }
 
 -- a port could not be opened, and no key was drawn
-pub ports_given : (config : Config) (free : List ℕ) (count : ℕ) (ports ports_now keys keys_now : ℕ) (opened opened_now : Option (List PortCall)) (drew drew_now : Option (List KeyCall))
-    → Rose ports ports_now → Gained opened opened_now (OpensAt config free (replicate count true ++ false ∷ [])) → drew_now ≡ drew
-    → IsGivenBy config free (given_by (PortFault count)) ports ports_now keys keys_now opened opened_now drew drew_now
-ports_given config free count ports ports_now keys keys_now opened opened_now drew drew_now rose opens same = record {
+pub ports_given : (config : Config) (leased : List ℕ) (count : ℕ) (ports ports_now keys keys_now : ℕ) (opened opened_now : Option (List PortCall)) (drew drew_now : Option (List KeyCall))
+    → Rose ports ports_now → Gained opened opened_now (OpensAt config leased (replicate count true ++ false ∷ [])) → drew_now ≡ drew
+    → IsGivenBy config leased (given_by (PortFault count)) ports ports_now keys keys_now opened opened_now drew drew_now
+ports_given config leased count ports ports_now keys keys_now opened opened_now drew drew_now rose opens same = record {
   port_fault = λ i. rose;
   key_fault = λ t. absurd (let k : false ≡ true = t in cc);
   opens = opens;
@@ -72,10 +72,10 @@ ports_given config free count ports ports_now keys keys_now opened opened_now dr
 }
 
 -- all ports were opened, these keys drawn, and the next draw failed
-pub keys_given : (config : Config) (free : List ℕ) (count : ℕ) (drawn : KeyBytes) (ports ports_now keys keys_now : ℕ) (opened opened_now : Option (List PortCall)) (drew drew_now : Option (List KeyCall))
-    → Rose keys keys_now → Gained opened opened_now (OpensAt config free (replicate count true)) → Gained drew drew_now (DrawsUpTo drawn.list)
-    → IsGivenBy config free (given_by (KeyFault count drawn)) ports ports_now keys keys_now opened opened_now drew drew_now
-keys_given config free count drawn ports ports_now keys keys_now opened opened_now drew drew_now rose opens gained = record {
+pub keys_given : (config : Config) (leased : List ℕ) (count : ℕ) (drawn : KeyBytes) (ports ports_now keys keys_now : ℕ) (opened opened_now : Option (List PortCall)) (drew drew_now : Option (List KeyCall))
+    → Rose keys keys_now → Gained opened opened_now (OpensAt config leased (replicate count true)) → Gained drew drew_now (DrawsUpTo drawn.list)
+    → IsGivenBy config leased (given_by (KeyFault count drawn)) ports ports_now keys keys_now opened opened_now drew drew_now
+keys_given config leased count drawn ports ports_now keys keys_now opened opened_now drew drew_now rose opens gained = record {
   port_fault = λ i. absurd (none_failed count i);
   key_fault = λ t. rose;
   opens = opens;
@@ -83,8 +83,8 @@ keys_given config free count drawn ports ports_now keys keys_now opened opened_n
 }
 
 -- the same of a gave that is the one that was told
-pub given_as : (config : Config) (free : List ℕ) (device_answers is : DeviceAnswers) (ports ports_now keys keys_now : ℕ) (opened opened_now : Option (List PortCall)) (drew drew_now : Option (List KeyCall)) → device_answers ≡ is
-    → IsGivenBy config free (given_by is) ports ports_now keys keys_now opened opened_now drew drew_now
-    → IsGivenBy config free (given_by device_answers) ports ports_now keys keys_now opened opened_now drew drew_now
-given_as config free device_answers is ports ports_now keys keys_now opened opened_now drew drew_now e given =
-    subst (λ (these : DeviceAnswers). IsGivenBy config free (given_by these) ports ports_now keys keys_now opened opened_now drew drew_now) (sym e) given
+pub given_as : (config : Config) (leased : List ℕ) (device_answers is : DeviceAnswers) (ports ports_now keys keys_now : ℕ) (opened opened_now : Option (List PortCall)) (drew drew_now : Option (List KeyCall)) → device_answers ≡ is
+    → IsGivenBy config leased (given_by is) ports ports_now keys keys_now opened opened_now drew drew_now
+    → IsGivenBy config leased (given_by device_answers) ports ports_now keys keys_now opened opened_now drew drew_now
+given_as config leased device_answers is ports ports_now keys keys_now opened opened_now drew drew_now e given =
+    subst (λ (these : DeviceAnswers). IsGivenBy config leased (given_by these) ports ports_now keys keys_now opened opened_now drew drew_now) (sym e) given

@@ -35,7 +35,7 @@ use Rattle.board_turns.proofs.Signalling.{same_lasting}
 
 module _ {O : Type 0} where
   its_lease : (config : Config) (h : List CellEntry) (leg : Leg O) → LegStandsFor config h leg → IsLeaseOf config (parts_of leg) leg.holder
-  its_lease config h leg for = record { pair = for.pair; generation = for.generation; port = for.port Rtp }
+  its_lease config h leg for = record { pair = for.pair; generation = for.generation; port = for.port Rtp; family = for.family }
 
   leases_of : (config : Config) (h : List CellEntry) (those : List (Leg O)) → ((leg : Leg O) → In leg those → LegStandsFor config h leg)
       → AreLeasesOf config (map (λ (leg : Leg O). parts_of leg) those) (map (λ (leg : Leg O). leg.holder) those)

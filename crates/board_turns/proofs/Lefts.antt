@@ -1,20 +1,21 @@
 -- Pairs without some of them, and which ports are open then.
-use Rattle.std.proofs.Common.{◌≡◌, ◌∙◌, ◌↔◌, refl, sym, ap, subst, ℕ, ◌+◌, ◌<◌, Bool, true, false, cond, not, ◌==◌, List, [], ◌∷◌, ◌++◌, Option, Some, None, arith}
+use Rattle.std.proofs.Common.{◌≡◌, ◌∙◌, refl, sym, ap, ℕ, ◌<◌, Bool, true, false, cond, not, ◌==◌, List, [], ◌∷◌, ◌++◌, Option, Some, None}
 use Rattle.std.specs.Prelude.{◌&&◌}
-use Rattle.relay_outside.specs.declared.address.Addr.{Addr}
 use Rattle.relay_outside.specs.declared.settings.Config.{Config}
 use Rattle.relay_outside.specs.declared.ports.PortCall.{PortCall}
-use Rattle.relay_outside.specs.Ports.{IsOpen}
+use Rattle.relay_outside.specs.Settings.{AreFamilies}
 use Rattle.relay_outside.specs.DeviceLogs.{Gained, WhereLogged}
-use Rattle.rtp_packet.specs.declared.head.Half.{Half}
-use Rattle.rtp_packet.specs.declared.head.Half.TheVariants.{Rtp, Rtcp}
-use Rattle.histories.specs.Words.{In, here, there, has}
-use Rattle.histories.proofs.Lists.{equal, equal_if}
-use Rattle.port_pool.specs.Ports.{pair_count, pair_port}
+use Rattle.histories.specs.Words.{has}
+use Rattle.histories.proofs.Lists.{equal_if}
+use Rattle.port_pool.specs.Ports.{pair_count}
 use Rattle.port_pool.specs.declared.pairs.Lease.{Lease}
-use Rattle.media_ports.specs.Addresses.{port_at, port_address, addresses_of}
-use Rattle.media_ports.specs.Calls.{AllOpen, LeavesOpen, WhereBothLogged}
+use Rattle.media_ports.specs.Addresses.{addresses_of}
+use Rattle.media_ports.specs.Calls.{AllOpen, ClosesPair}
+use Rattle.media_ports.specs.Ends.{EndLogs}
 use Rattle.media_ports.specs.OpenPorts.{OpensHeld}
+use Rattle.media_ports.proofs.Telling.{told_less}
+use Rattle.media_ports.proofs.Held as ports
+use Rattle.media_ports.proofs.Held.{held_open}
 use Rattle.board_turns.specs.Closings.{pairs_left}
 
 none_left : (b : Bool) → false ≡ (not b && false)
@@ -79,52 +80,16 @@ left_none held q = sym (has_left [] held q)
 
 -- One pair was closed.
 
-abbrev IsOpenAt : Config → List PortCall → ℕ → Half → Type 0
-IsOpenAt config calls pair half = IsOpen calls (port_address config pair half)
-
-apart_at : (config : Config) (lease : Lease) (pair : ℕ) (half : Half) → lease.rtp_port ≡ pair_port config lease.pair → ((lease.pair == pair) ≡ false) →
-    In (port_address config pair half) (addresses_of config.interface (lease ∷ [])) → ⊥
-apart_at config lease pair Rtp is differs (here q) =
-    let e = ap (λ (at : Addr). at.port) q in let same : lease.pair ≡ pair = omega (arith, e, is) in
-    let b = equal lease.pair pair same in let d = differs in cc
-apart_at config lease pair Rtp is differs (there (here q)) = let e = ap (λ (at : Addr). at.port) q in omega (arith, e, is)
-apart_at config lease pair Rtcp is differs (here q) = let e = ap (λ (at : Addr). at.port) q in omega (arith, e, is)
-apart_at config lease pair Rtcp is differs (there (here q)) =
-    let e = ap (λ (at : Addr). at.port) q in let same : lease.pair ≡ pair = omega (arith, e, is) in
-    let b = equal lease.pair pair same in let d = differs in cc
-apart_at config lease pair half is differs (there (there i)) = elim i [ ]
-
-closed_at : (config : Config) (lease : Lease) (now : List PortCall) (pair : ℕ) (half : Half) → lease.rtp_port ≡ pair_port config lease.pair → lease.pair ≡ pair →
-    (IsOpen now (port_at config.interface lease.rtp_port) → ⊥) → (IsOpen now (port_at config.interface (lease.rtp_port + 1)) → ⊥) → IsOpenAt config now pair half → ⊥
-closed_at config lease now pair Rtp is same first second o =
-    first (subst (λ (p : ℕ). IsOpen now (port_at config.interface p)) (sym (is ∙ ap (pair_port config) same)) o)
-closed_at config lease now pair Rtcp is same first second o =
-    second (subst (λ (p : ℕ). IsOpen now (port_at config.interface (p + 1))) (sym (is ∙ ap (pair_port config) same)) o)
-
-gone_case : (config : Config) (before now : List PortCall) (held : List ℕ) (lease : Lease) (pair : ℕ) (half : Half) → lease.rtp_port ≡ pair_port config lease.pair →
-    LeavesOpen (addresses_of config.interface (lease ∷ [])) before now → (IsOpenAt config before pair half ↔ (has held pair ≡ true)) → (b : Bool) → (lease.pair == pair) ≡ b →
-    IsOpenAt config now pair half ↔ ((not (cond b true false) && has held pair) ≡ true)
-gone_case config before now held lease pair half is leaves opens true same =
-    (λ o. absurd (closed_at config lease now pair half is (equal_if lease.pair pair same) leaves.closed.0 leaves.closed.1.0 o), λ e. absurd (let f = e in cc))
-gone_case config before now held lease pair half is leaves opens false same =
-    let others = leaves.others (port_address config pair half) (apart_at config lease pair half is same) in
-    (λ o. opens.0 (others.0 o), λ e. others.1 (opens.1 e))
+alone : (b : Bool) → cond b true false ≡ b
+alone true = refl
+alone false = refl
 
 -- the ports of the pair are closed, and those of the others as before
-pub closed_one : (config : Config) (before now : List PortCall) (held : List ℕ) (lease : Lease) → lease.rtp_port ≡ pair_port config lease.pair →
-    LeavesOpen (addresses_of config.interface (lease ∷ [])) before now → OpensHeld config before held → OpensHeld config now (pairs_left (lease.pair ∷ []) held)
-closed_one config before now held lease is leaves opens pair half below =
-    let o = gone_case config before now held lease pair half is leaves (opens pair half below) (lease.pair == pair) refl in
-    let same = has_left (lease.pair ∷ []) held pair in
-    (λ p. same ∙ o.0 p, λ h. o.1 (sym same ∙ h))
-
--- the same, where the port maker tells
-pub told_closed : (config : Config) (old new : Option (List PortCall)) (P : List PortCall → Type 0) (held : List ℕ) (lease : Lease) → lease.rtp_port ≡ pair_port config lease.pair →
-    Gained old new P → WhereBothLogged old new (LeavesOpen (addresses_of config.interface (lease ∷ []))) → WhereLogged old (λ calls. OpensHeld config calls held) →
-    WhereLogged new (λ calls. OpensHeld config calls (pairs_left (lease.pair ∷ []) held))
-told_closed config old None P held lease is gained leaves opens = tt
-told_closed config None (Some now) P held lease is gained leaves opens = absurd gained
-told_closed config (Some before) (Some now) P held lease is gained leaves opens = closed_one config before now held lease is leaves opens
+pub told_closed : (config : Config) (old new : Option (List PortCall)) (held : List ℕ) (lease : Lease) (ends : EndLogs) → AreFamilies config → lease.pair < pair_count config →
+    Gained old new (ClosesPair config lease ends) → WhereLogged old (λ calls. OpensHeld config calls held) → WhereLogged new (λ calls. OpensHeld config calls (pairs_left (lease.pair ∷ []) held))
+told_closed config old new held lease ends families low closes opens =
+    ports.told_closed config old new held (pairs_left (lease.pair ∷ []) held) lease ends families opens low closes
+    (λ q. has_left (lease.pair ∷ []) held q ∙ ap (λ (b : Bool). not b && has held q) (alone (lease.pair == q)))
 
 -- where it tells, the same pairs
 pub told_alike : (config : Config) (log : Option (List PortCall)) (a b : List ℕ) → ((q : ℕ) → has a q ≡ has b q) → WhereLogged log (λ calls. OpensHeld config calls a) →
@@ -133,10 +98,7 @@ told_alike config None a b same opens = tt
 told_alike config (Some calls) a b same opens = opens_alike config calls a b same opens
 
 -- where it tells, both ports of a pair among them are open
-pub told_open : (config : Config) (log : Option (List PortCall)) (held : List ℕ) (lease : Lease) → lease.pair < pair_count config → lease.rtp_port ≡ pair_port config lease.pair →
-    has held lease.pair ≡ true → WhereLogged log (λ calls. OpensHeld config calls held) → WhereLogged log (AllOpen (addresses_of config.interface (lease ∷ [])))
-told_open config None held lease below is has_it opens = tt
-told_open config (Some calls) held lease below is has_it opens = (
-  subst (λ (p : ℕ). IsOpen calls (port_at config.interface p)) (sym is) ((opens lease.pair Rtp below).1 has_it),
-  (subst (λ (p : ℕ). IsOpen calls (port_at config.interface (p + 1))) (sym is) ((opens lease.pair Rtcp below).1 has_it), tt),
-)
+pub told_open : (config : Config) (log : Option (List PortCall)) (held : List ℕ) (lease : Lease) → lease.pair < pair_count config → has held lease.pair ≡ true →
+    WhereLogged log (λ calls. OpensHeld config calls held) → WhereLogged log (AllOpen (addresses_of config (lease ∷ [])))
+told_open config log held lease below has_it opens =
+    told_less log (λ calls. OpensHeld config calls held) (AllOpen (addresses_of config (lease ∷ []))) (λ calls these. held_open config calls held lease these below has_it) opens

@@ -1,9 +1,10 @@
 -- How ties are made: what a port maker's calls give back is what rows say that left boxes and cells.
-use Rattle.std.proofs.Common.{◌≡◌, ◌∙◌, refl, sym, ap, subst, ℕ, ◌+◌, ◌<◌, Bool, true, false, cond, ◌==◌, List, [], ◌∷◌, ◌++◌, Option, Some, None, map, append_assoc, append-nil, arith}
+use Rattle.std.proofs.Common.{◌≡◌, ◌∙◌, refl, sym, ap, subst, ℕ, ◌<◌, Bool, true, false, cond, ◌==◌, List, [], ◌∷◌, ◌++◌, Option, Some, None, map, append_assoc, append-nil, arith}
 use Rattle.std.specs.Prelude.{◌&&◌, All}
 use Rattle.std.specs.Cmp.Lexicographic.{bytes_decides}
 use Rattle.std.proofs.lemmas.List.{append_cancel_left}
 use Rattle.std.proofs.lemmas.List.Elements.{All-nil, All-cons, All-append}
+use Rattle.relay_outside.specs.declared.address.Addr.{Addr}
 use Rattle.relay_outside.specs.declared.address.Ip.{Ip}
 use Rattle.relay_outside.specs.declared.address.Ip.TheVariants as ip
 use Rattle.relay_outside.specs.declared.ports.InCall.{InCall}
@@ -13,6 +14,7 @@ use Rattle.relay_outside.specs.declared.ports.PortCall.TheVariants as port
 use Rattle.relay_outside.specs.declared.settings.Config.{Config}
 use Rattle.relay_outside.specs.Ports.{joined, same_ip, same_addr, taken_at, sent_at}
 use Rattle.relay_outside.specs.DeviceLogs.{EndLog, Gained}
+use Rattle.relay_outside.specs.Settings.{AreFamilies}
 use Rattle.relay_outside.proofs.Telling.{gained_none, gained_both, gained_less}
 use Rattle.rtp_packet.specs.declared.head.Half.{Half}
 use Rattle.rtp_packet.specs.declared.head.Half.TheVariants.{Rtp, Rtcp}
@@ -25,7 +27,9 @@ use Rattle.turn_table.specs.Steps.{entry}
 use Rattle.port_pool.specs.declared.pairs.Lease.{Lease}
 use Rattle.port_pool.specs.declared.holder.Holder.{Holder}
 use Rattle.port_pool.specs.Boxes.{Close}
-use Rattle.port_pool.specs.Ports.{pair_count, pair_port}
+use Rattle.port_pool.specs.Ports.{pair_count}
+use Rattle.port_pool.specs.Pools.{AreFree}
+use Rattle.port_pool.proofs.Addresses.{one_address}
 use Rattle.relay_core.specs.Entries.{Event, Board, Cell, Box, Entry, box_of}
 use Rattle.relay_core.specs.Records.{LegLeft, Left, Made, entry_of, list_of}
 use Rattle.relay_core.specs.Scripts.{Owed, owed_by, open_owed}
@@ -33,7 +37,7 @@ use Rattle.relay_core.specs.Steps.{legs_left}
 use Rattle.relay_core.specs.EndLogs.{is_closing, is_parting, in_left, out_left, ins_logged, legs_logged, outs_logged}
 use Rattle.relay_core.specs.Turns.{GainsNested}
 use Rattle.media_ports.specs.declared.ends.PairEnds.{PairEnds}
-use Rattle.media_ports.specs.Addresses.{port_at, port_address, HavePorts}
+use Rattle.media_ports.specs.Addresses.{port_address, pairs_of_leases, AreLeased}
 use Rattle.media_ports.specs.Calls.{ClosesPair}
 use Rattle.media_ports.specs.Ends.{ends_told}
 use Rattle.media_ports.specs.ReturnedEnds.{IsOfPair, SameWhereTold, GivesBackUncalled}
@@ -250,9 +254,6 @@ same_bools false false to from = refl
 same_tests : (a b x y : ℕ) → (a ≡ b → x ≡ y) → (x ≡ y → a ≡ b) → (a == b) ≡ (x == y)
 same_tests a b x y to from = same_bools (a == b) (x == y) (λ p. equal x y (to (equal_if a b p))) (λ q. equal a b (from (equal_if x y q)))
 
-unlike : (a b : ℕ) → (a ≡ b → ⊥) → (a == b) ≡ false
-unlike a b differ = same_bools (a == b) false (λ p. absurd (differ (equal_if a b p))) (λ q. absurd (let e = q in cc))
-
 -- a pair has its own box
 same_box : (config : Config) (a b : ℕ) → (box_of config a == box_of config b) ≡ (a == b)
 same_box config a b = same_tests (box_of config a) (box_of config b) a b (λ p. omega (arith, p)) (λ q. omega (arith, q))
@@ -261,44 +262,58 @@ same_host : (host : Ip) → same_ip host host ≡ true
 same_host (ip.V4 bytes) = (bytes_decides bytes bytes).1 refl
 same_host (ip.V6 bytes) = (bytes_decides bytes bytes).1 refl
 
+host_is : (a b : Ip) → same_ip a b ≡ true → a ≡ b
+host_is (ip.V4 a) (ip.V4 b) same = ap ip.V4 ((bytes_decides a b).0 same)
+host_is (ip.V4 a) (ip.V6 b) same = absurd (let e = same in cc)
+host_is (ip.V6 a) (ip.V4 b) same = absurd (let e = same in cc)
+host_is (ip.V6 a) (ip.V6 b) same = ap ip.V6 ((bytes_decides a b).0 same)
+
+both_true : (a b : Bool) → (a && b) ≡ true → (a ≡ true) × (b ≡ true)
+both_true true b h = (refl, h)
+both_true false b h = absurd (let e = h in cc)
+
+-- an address is that with which it tests as the same
+address_is : (a b : Addr) → same_addr a b ≡ true → a ≡ b
+address_is a b same =
+    let parts = both_true (same_ip a.ip b.ip) (a.port == b.port) same in
+    let host = host_is a.ip b.ip parts.0 in
+    let port = equal_if a.port b.port parts.1 in
+    λ i. record { ip = host i; port = port i }
+
+address_itself : (a b : Addr) → a ≡ b → same_addr a b ≡ true
+address_itself a b same = subst (λ (c : Addr). same_addr a c ≡ true) same (ap (λ (t : Bool). t && (a.port == a.port)) (same_host a.ip) ∙ equal a.port a.port refl)
+
 -- of two, that of a half
 abbrev of_half : {A : Type 0} → Half → A → A → A
 of_half Rtp first second = first
 of_half Rtcp first second = second
 
-module _ (config : Config) (lease : Lease) (is : lease.rtp_port ≡ pair_port config lease.pair) (pair : ℕ) where
-  port_test : (a b : ℕ) → same_addr (port_at config.interface a) (port_at config.interface b) ≡ (a == b)
-  port_test a b = ap (λ (same : Bool). same && (a == b)) (same_host config.interface)
+module _ (config : Config) (families : AreFamilies config) (one pair : ℕ) (within : one < pair_count config) (below : pair < pair_count config) where
+  same_half : (half : Half) → same_addr (port_address config one half) (port_address config pair half) ≡ (one == pair)
+  same_half half =
+      same_bools (same_addr (port_address config one half) (port_address config pair half)) (one == pair)
+      (λ p. equal one pair (one_address config one pair half half families within below (address_is (port_address config one half) (port_address config pair half) p)).0)
+      (λ q. address_itself (port_address config one half) (port_address config pair half) (ap (λ (n : ℕ). port_address config n half) (equal_if one pair q)))
 
-  rtp_at_rtp : same_addr (port_at config.interface lease.rtp_port) (port_address config pair Rtp) ≡ (lease.pair == pair)
-  rtp_at_rtp =
-      port_test lease.rtp_port (pair_port config pair)
-      ∙ same_tests lease.rtp_port (pair_port config pair) lease.pair pair (λ p. omega (arith, p, is)) (λ q. omega (arith, q, is))
+  other_half : (half other : Half) → (half ≡ other → ⊥) → same_addr (port_address config one half) (port_address config pair other) ≡ false
+  other_half half other differ =
+      same_bools (same_addr (port_address config one half) (port_address config pair other)) false
+      (λ p. absurd (differ (one_address config one pair half other families within below (address_is (port_address config one half) (port_address config pair other) p)).1))
+      (λ q. absurd (let e = q in cc))
 
-  rtcp_at_rtp : same_addr (port_at config.interface (lease.rtp_port + 1)) (port_address config pair Rtp) ≡ false
-  rtcp_at_rtp = port_test (lease.rtp_port + 1) (pair_port config pair) ∙ unlike (lease.rtp_port + 1) (pair_port config pair) (λ p. omega (arith, p, is))
-
-  rtp_at_rtcp : same_addr (port_at config.interface lease.rtp_port) (port_address config pair Rtcp) ≡ false
-  rtp_at_rtcp = port_test lease.rtp_port (pair_port config pair + 1) ∙ unlike lease.rtp_port (pair_port config pair + 1) (λ p. omega (arith, p, is))
-
-  rtcp_at_rtcp : same_addr (port_at config.interface (lease.rtp_port + 1)) (port_address config pair Rtcp) ≡ (lease.pair == pair)
-  rtcp_at_rtcp =
-      port_test (lease.rtp_port + 1) (pair_port config pair + 1)
-      ∙ same_tests (lease.rtp_port + 1) (pair_port config pair + 1) lease.pair pair (λ p. omega (arith, p, is)) (λ q. omega (arith, q, is))
-
-  -- of the two ports of the lease's pair, what is told at the address of a half
+  -- of the two ports of the pair, what is told at the address of a half
   pick_half : {C : Type 0} (half : Half) (rtp rtcp rest : Option (List C))
-      → (let first : Bool = same_addr (port_at config.interface lease.rtp_port) (port_address config pair half) in
-      let second : Bool = same_addr (port_at config.interface (lease.rtp_port + 1)) (port_address config pair half) in
-      cond first (joined rtp (cond second (joined rtcp rest) rest)) (cond second (joined rtcp rest) rest)) ≡ cond (lease.pair == pair) (joined (of_half half rtp rtcp) rest) rest
+      → (let first : Bool = same_addr (port_address config one Rtp) (port_address config pair half) in
+      let second : Bool = same_addr (port_address config one Rtcp) (port_address config pair half) in
+      cond first (joined rtp (cond second (joined rtcp rest) rest)) (cond second (joined rtcp rest) rest)) ≡ cond (one == pair) (joined (of_half half rtp rtcp) rest) rest
   pick_half Rtp rtp rtcp rest =
-      first_alone (same_addr (port_at config.interface lease.rtp_port) (port_address config pair Rtp))
-      (same_addr (port_at config.interface (lease.rtp_port + 1)) (port_address config pair Rtp)) rtp rtcp rest rtcp_at_rtp
-      ∙ ap (λ (b : Bool). cond b (joined rtp rest) rest) rtp_at_rtp
+      first_alone (same_addr (port_address config one Rtp) (port_address config pair Rtp))
+      (same_addr (port_address config one Rtcp) (port_address config pair Rtp)) rtp rtcp rest (other_half Rtcp Rtp (λ e. let f = e in cc))
+      ∙ ap (λ (b : Bool). cond b (joined rtp rest) rest) (same_half Rtp)
   pick_half Rtcp rtp rtcp rest =
-      second_alone (same_addr (port_at config.interface lease.rtp_port) (port_address config pair Rtcp))
-      (same_addr (port_at config.interface (lease.rtp_port + 1)) (port_address config pair Rtcp)) rtp rtcp rest rtp_at_rtcp
-      ∙ ap (λ (b : Bool). cond b (joined rtcp rest) rest) rtcp_at_rtcp
+      second_alone (same_addr (port_address config one Rtp) (port_address config pair Rtcp))
+      (same_addr (port_address config one Rtcp) (port_address config pair Rtcp)) rtp rtcp rest (other_half Rtp Rtcp (λ e. let f = e in cc))
+      ∙ ap (λ (b : Bool). cond b (joined rtcp rest) rest) (same_half Rtcp)
 
 -- A box that is shut, and its pair's ports, which are closed.
 
@@ -307,13 +322,12 @@ in_of_half Rtp left = refl
 in_of_half Rtcp left = refl
 
 of_lease : (config : Config) (lease : Lease) (rtp rtcp : Option (List InCall)) (rtp_out rtcp_out : Option (List OutCall)) → lease.pair < pair_count config
-    → lease.rtp_port ≡ pair_port config lease.pair
-    → All (IsOfPair config) (port.Close (port_at config.interface lease.rtp_port) rtp rtp_out ∷ port.Close (port_at config.interface (lease.rtp_port + 1)) rtcp rtcp_out ∷ [])
-of_lease config lease rtp rtcp rtp_out rtcp_out low is =
-    let first = port.Close (port_at config.interface lease.rtp_port) rtp rtp_out in
-    let second = port.Close (port_at config.interface (lease.rtp_port + 1)) rtcp rtcp_out in
-    All-cons (IsOfPair config) first (second ∷ []) (record { pair = lease.pair; half = Rtp; within = low; at = ap (port_at config.interface) is })
-    (All-cons (IsOfPair config) second [] (record { pair = lease.pair; half = Rtcp; within = low; at = ap (λ (n : ℕ). port_at config.interface (n + 1)) is })
+    → All (IsOfPair config) (port.Close (port_address config lease.pair Rtp) rtp rtp_out ∷ port.Close (port_address config lease.pair Rtcp) rtcp rtcp_out ∷ [])
+of_lease config lease rtp rtcp rtp_out rtcp_out low =
+    let first = port.Close (port_address config lease.pair Rtp) rtp rtp_out in
+    let second = port.Close (port_address config lease.pair Rtcp) rtcp rtcp_out in
+    All-cons (IsOfPair config) first (second ∷ []) (record { pair = lease.pair; half = Rtp; within = low; at = refl })
+    (All-cons (IsOfPair config) second [] (record { pair = lease.pair; half = Rtcp; within = low; at = refl })
     (All-nil (IsOfPair config)))
 
 module _ {T : Type 0} where
@@ -328,27 +342,27 @@ module _ {T : Type 0} where
 
 module _ {M S T I O : Type 0} {g : _} (taken : I → EndLog InCall) (sent : O → EndLog OutCall) where
   -- the box of a leased pair was shut, and its two ports were closed with the ends that it gave
-  pub takes_closed : (config : Config) (t0 t1 : Option (List PortCall)) (old new : Hand M S Made T g) (lease : Lease) (ends : PairEnds I O) → lease.pair < pair_count config
-      → lease.rtp_port ≡ pair_port config lease.pair → AddsRow (box_of config lease.pair) (Box Close) (ends_left taken (ends.rtp_in, ends.rtcp_in)) old new
-      → Gained t0 t1 (ClosesPair config.interface lease (ends_told taken sent ends)) → TiesTakes config t0 t1 (entries old) (entries new)
-  takes_closed config t0 t1 old new lease ends low is adds closes = record {
+  pub takes_closed : (config : Config) (t0 t1 : Option (List PortCall)) (old new : Hand M S Made T g) (lease : Lease) (ends : PairEnds I O) → AreFamilies config
+      → lease.pair < pair_count config → AddsRow (box_of config lease.pair) (Box Close) (ends_left taken (ends.rtp_in, ends.rtcp_in)) old new
+      → Gained t0 t1 (ClosesPair config lease (ends_told taken sent ends)) → TiesTakes config t0 t1 (entries old) (entries new)
+  takes_closed config t0 t1 old new lease ends families low adds closes = record {
     more = adds.row ∷ [];
     rows_are = adds.list_is;
-    calls = gained_less t0 t1 (ClosesPair config.interface lease (ends_told taken sent ends)) (λ calls. All (IsOfPair config) calls × AreTakesTied config (adds.row ∷ []) calls)
+    calls = gained_less t0 t1 (ClosesPair config lease (ends_told taken sent ends)) (λ calls. All (IsOfPair config) calls × AreTakesTied config (adds.row ∷ []) calls)
         (λ calls are. subst (λ (cs : List PortCall). All (IsOfPair config) cs × AreTakesTied config (adds.row ∷ []) cs) (sym are)
-        (of_lease config lease (taken ends.rtp_in).calls (taken ends.rtcp_in).calls (sent ends.rtp_out).calls (sent ends.rtcp_out).calls low is, tied)) closes;
+        (of_lease config lease (taken ends.rtp_in).calls (taken ends.rtcp_in).calls (sent ends.rtp_out).calls (sent ends.rtcp_out).calls low, tied)) closes;
     no_legs = λ pair half. ap (λ (e : Event). cond (is_parting e) (joined (legs_logged adds.row.event.left.legs pair half) (Some [])) (Some [])) adds.event_is;
   }
     where
       these : List PortCall
-      these = port.Close (port_at config.interface lease.rtp_port) (taken ends.rtp_in).calls (sent ends.rtp_out).calls
-          ∷ port.Close (port_at config.interface (lease.rtp_port + 1)) (taken ends.rtcp_in).calls (sent ends.rtcp_out).calls ∷ []
+      these = port.Close (port_address config lease.pair Rtp) (taken ends.rtp_in).calls (sent ends.rtp_out).calls
+          ∷ port.Close (port_address config lease.pair Rtcp) (taken ends.rtcp_in).calls (sent ends.rtcp_out).calls ∷ []
 
       tied : AreTakesTied config (adds.row ∷ []) these
       tied pair half below =
           agrees_same (taken_at these (port_address config pair half)) (ins_logged (adds.row ∷ []) (box_of config pair) half)
           (ins_of_row config adds.row lease.pair (ends_left taken (ends.rtp_in, ends.rtcp_in)) adds.place_is adds.event_is adds.left_is pair half
-          ∙ sym (pick_half config lease is pair half (taken ends.rtp_in).calls (taken ends.rtcp_in).calls (Some [])))
+          ∙ sym (pick_half config families lease.pair pair low below half (taken ends.rtp_in).calls (taken ends.rtcp_in).calls (Some [])))
 
 -- Legs that go from a cell, and are closed.
 
@@ -378,16 +392,16 @@ module _ {M S T O : Type 0} {g : _} (log : O → EndLog OutCall) where
 
 module _ {O : Type 0} (sent : O → EndLog OutCall) where
   -- what the closings of legs give back is what the legs left with
-  legs_closed : (config : Config) (gone : List (Lease × O × O)) (calls : List PortCall) (pair : ℕ) (half : Half) → HavePorts config (leases_of_legs gone)
-      → ClosesLegs sent config.interface gone calls → sent_at calls (port_address config pair half) ≡ legs_logged (legs_left sent gone) pair half
-  legs_closed config [] calls pair half ports closes = ap (λ (cs : List PortCall). sent_at cs (port_address config pair half)) closes
-  legs_closed config (leg ∷ gone) calls pair half ports closes =
+  legs_closed : (config : Config) (gone : List (Lease × O × O)) (calls : List PortCall) (pair : ℕ) (half : Half) → AreFamilies config → AreFree (pair_count config) (pairs_of_leases (leases_of_legs gone))
+      → pair < pair_count config → ClosesLegs sent config gone calls → sent_at calls (port_address config pair half) ≡ legs_logged (legs_left sent gone) pair half
+  legs_closed config [] calls pair half families ranged below closes = ap (λ (cs : List PortCall). sent_at cs (port_address config pair half)) closes
+  legs_closed config (leg ∷ gone) calls pair half families ranged below closes =
       ap (λ (cs : List PortCall). sent_at cs (port_address config pair half)) closes.3
-      ∙ pick_half config leg.0 ports.0 pair half (sent leg.1).calls (sent leg.2).calls (sent_at closes.2 (port_address config pair half))
+      ∙ pick_half config families leg.0.pair pair ranged.0 below half (sent leg.1).calls (sent leg.2).calls (sent_at closes.2 (port_address config pair half))
       ∙ ap (λ (log : Option (List OutCall)). cond (leg.0.pair == pair) (joined log (sent_at closes.2 (port_address config pair half))) (sent_at closes.2 (port_address config pair half)))
       (sym (out_of_half half (record { lease = leg.0; rtp = (sent leg.1).calls; rtcp = (sent leg.2).calls })))
       ∙ ap (λ (rest : Option (List OutCall)). cond (leg.0.pair == pair) (joined (out_left half (record { lease = leg.0; rtp = (sent leg.1).calls; rtcp = (sent leg.2).calls })) rest) rest)
-      (legs_closed config gone closes.2 pair half ports.1 closes.4)
+      (legs_closed config gone closes.2 pair half families ranged.2 below closes.4)
 
 gained_and : {C : Type 0} (old new : Option (List C)) (P Q : List C → Type 0) → Gained old new P → Gained old new Q → Gained old new (λ calls. P calls × Q calls)
 gained_and old None P Q first second = tt
@@ -397,17 +411,17 @@ gained_and (Some old) (Some new) P Q first second =
 
 -- legs went from a cell, and then they were closed
 pub ties_gone : {T O : Type 0} (sent : O → EndLog OutCall) (config : Config) (t0 t1 : Option (List PortCall)) (r0 r1 r2 : List (table.Entry Made T))
-    (gone : List (Lease × O × O)) → HavePorts config (leases_of_legs gone) → LegsLeave sent gone r0 r1 → TiesTakes config t0 t1 r1 r2
-    → Gained t0 t1 (ClosesLegs sent config.interface gone) → PortsFollowRows config t0 t1 r0 r2
-ties_gone {T} sent config t0 t1 r0 r1 r2 gone ports leave takes closes = record {
+    (gone : List (Lease × O × O)) → AreFamilies config → AreLeased config (leases_of_legs gone) → LegsLeave sent gone r0 r1 → TiesTakes config t0 t1 r1 r2
+    → Gained t0 t1 (ClosesLegs sent config gone) → PortsFollowRows config t0 t1 r0 r2
+ties_gone {T} sent config t0 t1 r0 r1 r2 gone families leased leave takes closes = record {
   more = leave.more ++ takes.more;
   rows_are = takes.rows_are ∙ ap (λ (rows : List (table.Entry Made T)). rows ++ takes.more) leave.rows_are ∙ append_assoc r0 leave.more takes.more;
-  calls = gained_less t0 t1 (λ calls. (All (IsOfPair config) calls × AreTakesTied config takes.more calls) × ClosesLegs sent config.interface gone calls)
+  calls = gained_less t0 t1 (λ calls. (All (IsOfPair config) calls × AreTakesTied config takes.more calls) × ClosesLegs sent config gone calls)
       (AreTied config (leave.more ++ takes.more)) tied
-      (gained_and t0 t1 (λ calls. All (IsOfPair config) calls × AreTakesTied config takes.more calls) (ClosesLegs sent config.interface gone) takes.calls closes);
+      (gained_and t0 t1 (λ calls. All (IsOfPair config) calls × AreTakesTied config takes.more calls) (ClosesLegs sent config gone) takes.calls closes);
 }
   where
-    tied : (calls : List PortCall) → (All (IsOfPair config) calls × AreTakesTied config takes.more calls) × ClosesLegs sent config.interface gone calls
+    tied : (calls : List PortCall) → (All (IsOfPair config) calls × AreTakesTied config takes.more calls) × ClosesLegs sent config gone calls
         → AreTied config (leave.more ++ takes.more) calls
     tied calls these = record {
       of_pairs = these.0.0;
@@ -423,5 +437,5 @@ ties_gone {T} sent config t0 t1 r0 r1 r2 gone ports leave takes closes = record 
           ∙ ap (λ (x : Option (List OutCall)). joined x (outs_logged takes.more pair half)) (leave.legs pair half)
           ∙ ap (λ (x : Option (List OutCall)). joined (legs_logged (legs_left sent gone) pair half) x) (takes.no_legs pair half)
           ∙ nothing_joined (legs_logged (legs_left sent gone) pair half)
-          ∙ sym (legs_closed sent config gone calls pair half ports these.1));
+          ∙ sym (legs_closed sent config gone calls pair half families leased.differ low these.1));
     }

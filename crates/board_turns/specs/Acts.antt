@@ -28,13 +28,13 @@ use Rattle.board_turns.specs.CallEnds.{leg_pairs}
 -- an offer that was undone leased its pairs and drew its keys, and gave the pairs back
 abbrev pub acted_undone : List Lease → List (List ℕ) → View → View
 acted_undone leases draws v =
-    with_returned (with_draws (with_leases v (length leases)) (length draws)) (map (λ (lease : Lease). lease.pair) leases)
+    with_returned (with_draws (with_leases v (map (λ (lease : Lease). lease.pair) leases)) (length draws)) (map (λ (lease : Lease). lease.pair) leases)
 
 -- an accepted offer leased its pairs and drew its keys, was taken in, and gave back the pairs that it dropped
 abbrev pub acted_offer : List BoardEntry → BoardEntry → Offer → View → View
 acted_offer h e o v =
     let made : round.Round = round.Offered o.ask o.legs o.keys in
-    let leased = with_draws (with_leases v (length o.legs)) (length o.keys) in
+    let leased = with_draws (with_leases v (leg_pairs o.legs)) (length o.keys) in
     let taken = if o.begins then with_first o.of made e.moment leased else with_more o.of made e.moment leased in
     with_closed h e o.of taken
 

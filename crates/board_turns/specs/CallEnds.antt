@@ -55,4 +55,4 @@ with_call_ended v call legs = with_returned (without_call v call) (leg_pairs leg
 
 -- the calls close the ports of these legs, with the out ends that they had
 abbrev pub ClosesTheirs : {O : Type 0} → (O → EndLog OutCall) → Config → List Holder → List PortCall → Type 0
-ClosesTheirs {O} sent config legs calls = (gone : List (pairs.Lease × O × O)) × AreLeasesOf config gone legs × ClosesLegs sent config.interface gone calls
+ClosesTheirs {O} sent config legs calls = (gone : List (pairs.Lease × O × O)) × AreLeasesOf config gone legs × ClosesLegs sent config gone calls

@@ -1,6 +1,5 @@
 -- The legs that went from a cell: when they may be closed, and what that adds to the lists.
-use Rattle.std.specs.Prelude.{◌≡◌, ℕ, ◌+◌, not, true, Option, List, [], ◌∷◌, map, filter}
-use Rattle.relay_outside.specs.declared.address.Ip.{Ip}
+use Rattle.std.specs.Prelude.{◌≡◌, ℕ, not, true, Option, List, [], ◌∷◌, map, filter}
 use Rattle.relay_outside.specs.declared.ports.InCall.{InCall}
 use Rattle.relay_outside.specs.declared.ports.OutCall.{OutCall}
 use Rattle.relay_outside.specs.declared.ports.PortCall.{PortCall}
@@ -8,6 +7,7 @@ use Rattle.relay_outside.specs.declared.ports.PortCall.TheVariants.{Close}
 use Rattle.relay_outside.specs.declared.settings.Config.{Config}
 use Rattle.relay_outside.specs.DeviceLogs.{EndLog, WhereLogged}
 use Rattle.histories.specs.Words.{In, has}
+use Rattle.rtp_packet.specs.declared.head.Half.TheVariants.{Rtp, Rtcp}
 use Rattle.port_pool.specs.declared.pairs.Lease.{Lease}
 use Rattle.call_board.specs.declared.board.Board.{Board}
 use Rattle.call_board.specs.Views.{View}
@@ -15,7 +15,7 @@ use Rattle.call_board.specs.Boards.{BoardMatches, pairs_in}
 use Rattle.call_board.specs.Returns.{MayReturnAll}
 use Rattle.relay_core.specs.Entries.{Entry, box_of}
 use Rattle.relay_core.specs.Scripts.{Owed}
-use Rattle.media_ports.specs.Addresses.{port_at, HavePorts}
+use Rattle.media_ports.specs.Addresses.{port_address}
 use Rattle.media_ports.specs.OpenPorts.{OpensHeld}
 use Rattle.board_turns.specs.NestedSteps.{IsTurnOpen, closing_of}
 
@@ -33,7 +33,6 @@ pub record CanClose {O : Type 0} (config : Config) (l : List Entry) (board : Boa
   pub view : View
   pub shows : BoardMatches config board view
   pub may_return : MayReturnAll config view (leases_of_legs gone)
-  pub have_ports : HavePorts config (leases_of_legs gone)
   pub boxes_open : (pair : ℕ) → In pair (pairs_in (leases_of_legs gone)) → IsTurnOpen l (box_of config pair)
   pub held : List ℕ
   pub opens : WhereLogged log (λ calls. OpensHeld config calls held)
@@ -45,9 +44,9 @@ pairs_left pairs held = filter (λ pair. not (has pairs pair)) held
 
 -- The calls close the two ports of each leg in order, that for RTP first, with the leg's out ends
 module _ {O : Type 0} (sent : O → EndLog OutCall) where
-  abbrev pub ClosesLegs : Ip → List (Lease × O × O) → List PortCall → Type 0
-  ClosesLegs interface [] calls = calls ≡ []
-  ClosesLegs interface (leg ∷ legs) calls =
+  abbrev pub ClosesLegs : Config → List (Lease × O × O) → List PortCall → Type 0
+  ClosesLegs config [] calls = calls ≡ []
+  ClosesLegs config (leg ∷ legs) calls =
       (rtp : Option (List InCall)) × (rtcp : Option (List InCall)) × (rest : List PortCall)
-      × (calls ≡ Close (port_at interface leg.0.rtp_port) rtp (sent leg.1).calls ∷ Close (port_at interface (leg.0.rtp_port + 1)) rtcp (sent leg.2).calls ∷ rest)
-      × ClosesLegs interface legs rest
+      × (calls ≡ Close (port_address config leg.0.pair Rtp) rtp (sent leg.1).calls ∷ Close (port_address config leg.0.pair Rtcp) rtcp (sent leg.2).calls ∷ rest)
+      × ClosesLegs config legs rest

@@ -9,6 +9,7 @@ use Rattle.call_board.specs.Acts.{Given, Told, Control, Turn, BoardEntry}
 use Rattle.call_board.specs.Answers.{Answered, answering_unless}
 use Rattle.call_board.specs.Futures.{closed_pairs}
 use Rattle.call_board.specs.KeptReplies.{kept_reply}
+use Rattle.call_board.specs.Pairs.{leased_by_act}
 use Rattle.call_board.specs.Views.{board_last_moment}
 use Rattle.relay_core.specs.Entries.{Board}
 use Rattle.relay_core.specs.Records.{Made, nothing_left}
@@ -54,6 +55,10 @@ with_answer x a = record {
 -- the datagram as that history demands it at that moment
 abbrev pub control_of : Config → List BoardEntry → ℕ → RequestRecord → Control
 control_of config h moment x = with_answer x (answering_unless config h (unanswered x) (kept_reply h x.source x.cookie moment))
+
+-- the pairs that it leases, in lease order
+abbrev pub entry_pairs : Config → List BoardEntry → ℕ → RequestRecord → List ℕ
+entry_pairs config h moment x = leased_by_act (control_of config h moment x).act
 
 -- the moment of a datagram that is handed this one
 abbrev pub moment_at : List BoardEntry → ℕ → ℕ

@@ -3,7 +3,7 @@ use Rattle.std.specs.Prelude.{◌≡◌, ℕ, List, filter}
 use Rattle.std.specs.List.{AllZip}
 use Rattle.relay_outside.specs.declared.settings.Config.{Config}
 use Rattle.histories.specs.Words.{has}
-use Rattle.port_pool.specs.Ports.{pair_port}
+use Rattle.port_pool.specs.Ports.{pair_family, pair_port}
 use Rattle.port_pool.specs.declared.pairs.Lease.{Lease}
 use Rattle.port_pool.specs.declared.holder.Holder.{Holder}
 use Rattle.port_pool.specs.declared.signal.SectionSignal.{SectionSignal}
@@ -17,6 +17,7 @@ pub record IsLeaseOf {O : Type 0} (config : Config) (went : Lease × O × O) (le
   pub pair : went.0.pair ≡ leg.pair
   pub generation : went.0.generation ≡ leg.generation
   pub port : went.0.rtp_port ≡ pair_port config leg.pair
+  pub family : went.0.family ≡ pair_family config leg.pair
 
 -- the leases are those of these legs, in order
 abbrev pub AreLeasesOf : {O : Type 0} → Config → List (Lease × O × O) → List Holder → Type 0

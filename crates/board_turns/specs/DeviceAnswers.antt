@@ -43,11 +43,11 @@ abbrev pub draws_of : Given → List KeyCall
 draws_of given = map key.Drawn given.draws ++ (if given.draw_failed then key.Failed ∷ [] else [])
 
 -- What an entry says that the devices returned is what they told: the openings are those that the port maker's list gained, of the
--- ports of the pairs that were free before it, from the front, and with their results; the draws are those that the key source's list
+-- ports of the pairs that the entry leased, in lease order, and with their results; the draws are those that the key source's list
 -- gained; and a port that could not be opened, or a key that could not be drawn, stands in it only where the count of the port maker's
 -- faults, or of the key source's, rose
-pub record IsGivenBy (config : Config) (free : List ℕ) (given : Given) (ports ports_now keys keys_now : ℕ) (opened opened_now : Option (List PortCall)) (drew drew_now : Option (List KeyCall)) : Type 0 where
+pub record IsGivenBy (config : Config) (leased : List ℕ) (given : Given) (ports ports_now keys keys_now : ℕ) (opened opened_now : Option (List PortCall)) (drew drew_now : Option (List KeyCall)) : Type 0 where
   pub port_fault : In false given.opens → Rose ports ports_now
   pub key_fault : given.draw_failed ≡ true → Rose keys keys_now
-  pub opens : Gained opened opened_now (OpensAt config free given.opens)
+  pub opens : Gained opened opened_now (OpensAt config leased given.opens)
   pub draws : Gained drew drew_now (λ calls. calls ≡ draws_of given)

@@ -22,6 +22,7 @@ fn code_of(fault: BoardFault) -> Option<ErrorCode>
         BoardFault::UnknownTag => Some(ErrorCode::E10),
         BoardFault::OtherSide => Some(ErrorCode::E11),
         BoardFault::MediaCount => Some(ErrorCode::E12),
+        BoardFault::Family => Some(ErrorCode::E20),
         BoardFault::NoCrypto => Some(ErrorCode::E8),
         BoardFault::SessionLimit => Some(ErrorCode::E14),
         BoardFault::NoPair => Some(ErrorCode::E13),

@@ -28,7 +28,7 @@ fn close_leg<P: PortMaker, R: Wait>(rt: &R, turn: &mut BoardTurn<P>, leg: (Lease
     ensures gained { MakesNested (closings_of turn.old.main.config.now (leg ∷ [])) turn.old.main turn.new.main }
     ensures returned { (config : Config) (v : View) → BoardMatches config turn.old.board.now v → BoardMatches config turn.new.board.now (with_returned v (leg.0.pair ∷ [])) }
     ensures calls { KeepsCalls turn.old.board.now turn.new.board.now }
-    ensures closes { Gained (P.log turn.old.ports.now) (P.log turn.new.ports.now) (ClosesLegs P.Out.log turn.old.main.config.now.interface (leg ∷ [])) }
+    ensures closes { Gained (P.log turn.old.ports.now) (P.log turn.new.ports.now) (ClosesLegs P.Out.log turn.old.main.config.now (leg ∷ [])) }
     ensures open { (held : List ℕ) → WhereLogged (P.log turn.old.ports.now) (λ calls. OpensHeld turn.old.main.config.now calls held) →
         WhereLogged (P.log turn.new.ports.now) (λ calls. OpensHeld turn.old.main.config.now calls (pairs_left (leg.0.pair ∷ []) held)) }
     ensures takes { TiesTakes turn.old.main.config.now (P.log turn.old.ports.now) (P.log turn.new.ports.now) (entries turn.old.main.hand.now) (entries turn.new.main.hand.now) }
@@ -42,7 +42,7 @@ fn close_leg<P: PortMaker, R: Wait>(rt: &R, turn: &mut BoardTurn<P>, leg: (Lease
         rtcp_in,
         rtcp_out,
     };
-    close_pair(turn.ports, turn.main.config.interface, &lease, ends);
+    close_pair(turn.ports, turn.main.config, &lease, ends);
     turn.board.give_back(lease);
 }
 
@@ -57,7 +57,7 @@ pub fn close_legs<P: PortMaker, R: Wait>(rt: &R, turn: &mut BoardTurn<P>)
     ensures gained { MakesNested (closings_of turn.old.main.config.now turn.old.gone.now) turn.old.main turn.new.main }
     ensures returned { (config : Config) (v : View) → BoardMatches config turn.old.board.now v → BoardMatches config turn.new.board.now (with_returned v (pairs_in (leases_of_legs turn.old.gone.now))) }
     ensures calls { KeepsCalls turn.old.board.now turn.new.board.now }
-    ensures closes { Gained (P.log turn.old.ports.now) (P.log turn.new.ports.now) (ClosesLegs P.Out.log turn.old.main.config.now.interface turn.old.gone.now) }
+    ensures closes { Gained (P.log turn.old.ports.now) (P.log turn.new.ports.now) (ClosesLegs P.Out.log turn.old.main.config.now turn.old.gone.now) }
     ensures open { (held : List ℕ) → WhereLogged (P.log turn.old.ports.now) (λ calls. OpensHeld turn.old.main.config.now calls held) →
         WhereLogged (P.log turn.new.ports.now) (λ calls. OpensHeld turn.old.main.config.now calls (pairs_left (pairs_in (leases_of_legs turn.old.gone.now)) held)) }
     ensures takes { TiesTakes turn.old.main.config.now (P.log turn.old.ports.now) (P.log turn.new.ports.now) (entries turn.old.main.hand.now) (entries turn.new.main.hand.now) }

@@ -35,10 +35,10 @@ use Rattle.media_lane.proofs.Keeping.{relay_keeps}
 sent_bytes : (config : Config) (h : List CellEntry) (p : cells.Receipt) (buf : List ℕ) (outcome : Outcome) → outcome ≡ (deed config (since_end h) p (sent_ok outcome)).outcome
     → FrontIs outcome (deed config (since_end h) p (sent_ok outcome)).sending buf
     → AreSent outcome (deed config (since_end h) p (sent_ok outcome)).sending (take (bytes_left outcome) buf)
-sent_bytes config h p buf (outcomes.Sent port to len) is front =
-    let s = sent config (since_end h) p true port to len (sym is) in
-    subst (λ (o : Option Sending). AreSent (outcomes.Sent port to len) o (take len buf)) (sym s.is_sending)
-    (subst (λ (o : Option Sending). FrontIs (outcomes.Sent port to len) o buf) s.is_sending front)
+sent_bytes config h p buf (outcomes.Sent family port to len) is front =
+    let s = sent config (since_end h) p true family port to len (sym is) in
+    subst (λ (o : Option Sending). AreSent (outcomes.Sent family port to len) o (take len buf)) (sym s.is_sending)
+    (subst (λ (o : Option Sending). FrontIs (outcomes.Sent family port to len) o buf) s.is_sending front)
 sent_bytes config h p buf (outcomes.Lost cause) is front = refl
 sent_bytes config h p buf (outcomes.Refused cause) is front = refl
 

@@ -41,7 +41,7 @@ relay_by x p now outcome = relay_made p now (max now (cell_moment x)) outcome
 
 -- how many bytes left with this outcome
 abbrev pub bytes_left : Outcome → ℕ
-bytes_left (outcomes.Sent port to len) = len
+bytes_left (outcomes.Sent family port to len) = len
 bytes_left (outcomes.Lost cause) = 0
 bytes_left (outcomes.Refused cause) = 0
 
@@ -57,8 +57,8 @@ RelaysPart log faults p now _ buf outcome _ = ⊥
 
 -- the bytes that a relay sent: with Sent those of its one send, else none
 abbrev pub AreSent : Outcome → Option Sending → List ℕ → Type 0
-AreSent (outcomes.Sent port to len) None bytes = ⊥
-AreSent (outcomes.Sent port to len) (Some w) bytes = bytes ≡ w.bytes
+AreSent (outcomes.Sent family port to len) None bytes = ⊥
+AreSent (outcomes.Sent family port to len) (Some w) bytes = bytes ≡ w.bytes
 AreSent (outcomes.Lost cause) sending bytes = bytes ≡ []
 AreSent (outcomes.Refused cause) sending bytes = bytes ≡ []
 

@@ -105,7 +105,7 @@ abbrev pub ends_with : (Outcome → Bool) → Visit → Bool
 ends_with p v = ends_so p v.passing
 
 abbrev pub has_sent : Outcome → Bool
-has_sent (outcomes.Sent port to len) = true
+has_sent (outcomes.Sent family port to len) = true
 has_sent _ = false
 
 abbrev pub is_refused : Outcome → Bool

@@ -12,12 +12,11 @@ use Rattle.relay_outside.specs.declared.ports.PortCall.{PortCall}
 use Rattle.relay_outside.specs.declared.settings.Config.{Config}
 use Rattle.turn_table.specs.declared.hands.Hand.{Hand}
 use Rattle.call_board.specs.Acts.{BoardEntry}
-use Rattle.call_board.specs.Pairs.{free}
 use Rattle.relay_core.specs.declared.part.Part.{Part}
 use Rattle.relay_core.specs.Records.{Made}
 use Rattle.relay_core.specs.Turns.{made_by}
 use Rattle.board_turns.specs.Between.{board_of, MakesTurn}
-use Rattle.board_turns.specs.Controls.{RequestRecord, control_of, entry_at, moment_at}
+use Rattle.board_turns.specs.Controls.{RequestRecord, control_of, entry_at, moment_at, entry_pairs}
 use Rattle.board_turns.specs.DeviceAnswers.{IsGivenBy}
 use Rattle.ng_server.specs.declared.control_turn.ControlTurn.{ControlTurn}
 use Rattle.ng_server.specs.declared.control_turn.ControlTurn.TheVariants as turn
@@ -95,12 +94,12 @@ pub record DidTurn (config : Config) (h : List BoardEntry) (now : ℕ) (answer :
   pub calls_are : calls ≡ call.Take 16385 gave ∷ sends
   pub followed : DidFollow config h now gave answer made sends
 
--- what the devices returned in a turn, by the board's history before it; of a turn that made no entry neither the port maker nor the key
--- source was asked
-abbrev pub GaveFor : Config → List BoardEntry → Option RequestRecord → (ports ports_now keys keys_now : ℕ) → (opened opened_now : Option (List PortCall)) → (drew drew_now : Option (List KeyCall)) → Type 0
-GaveFor config h None ports ports_now keys keys_now opened opened_now drew drew_now = (opened_now ≡ opened) × (drew_now ≡ drew)
-GaveFor config h (Some x) ports ports_now keys keys_now opened opened_now drew drew_now =
-    IsGivenBy config (free config h) x.given ports ports_now keys keys_now opened opened_now drew drew_now
+-- what the devices returned in a turn that was handed this moment, by the board's history before it; of a turn that made no entry neither
+-- the port maker nor the key source was asked
+abbrev pub GaveFor : Config → List BoardEntry → (now : ℕ) → Option RequestRecord → (ports ports_now keys keys_now : ℕ) → (opened opened_now : Option (List PortCall)) → (drew drew_now : Option (List KeyCall)) → Type 0
+GaveFor config h now None ports ports_now keys keys_now opened opened_now drew drew_now = (opened_now ≡ opened) × (drew_now ≡ drew)
+GaveFor config h now (Some x) ports ports_now keys keys_now opened opened_now drew drew_now =
+    IsGivenBy config (entry_pairs config h (moment_at h now) x) x.given ports ports_now keys keys_now opened opened_now drew drew_now
 
 module _ {M I O T : Type 0} {g : _} where
   -- what follows a datagram that was taken
@@ -108,7 +107,7 @@ module _ {M I O T : Type 0} {g : _} where
       (ports ports_now keys keys_now : ℕ) (opened opened_now : Option (List PortCall)) (drew drew_now : Option (List KeyCall)) (before after : Option (List LinkCall)) : Type 0 where
     pub made : Option RequestRecord
     pub follows : FollowsTake config old new now answer made
-    pub given : GaveFor config (board_of (made_by old)) made ports ports_now keys keys_now opened opened_now drew drew_now
+    pub given : GaveFor config (board_of (made_by old)) now made ports ports_now keys keys_now opened opened_now drew drew_now
     pub calls : Gained before after (DidReply config (board_of (made_by old)) now from (frame datagram) (is_too_long datagram) answer made)
 
   -- One control turn, where this moment is handed in: the main hand's list gained at most one turn of the board, whose entry says of
@@ -117,5 +116,5 @@ module _ {M I O T : Type 0} {g : _} where
       (ports ports_now keys keys_now : ℕ) (opened opened_now : Option (List PortCall)) (drew drew_now : Option (List KeyCall)) (before after : Option (List LinkCall)) : Type 0 where
     pub made : Option RequestRecord
     pub follows : FollowsTake config old new now answer made
-    pub given : GaveFor config (board_of (made_by old)) made ports ports_now keys keys_now opened opened_now drew drew_now
+    pub given : GaveFor config (board_of (made_by old)) now made ports ports_now keys keys_now opened opened_now drew drew_now
     pub calls : Gained before after (DidTurn config (board_of (made_by old)) now answer made)

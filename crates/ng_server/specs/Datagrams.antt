@@ -8,13 +8,12 @@ use Rattle.relay_outside.specs.declared.settings.Config.{Config}
 use Rattle.turn_table.specs.declared.hands.Hand.{Hand}
 use Rattle.ng_frame.specs.Frame.{frame}
 use Rattle.cookie_cache.specs.Keepings.{IsCookie}
-use Rattle.call_board.specs.Pairs.{free}
 use Rattle.relay_core.specs.declared.part.Part.{Part}
 use Rattle.relay_core.specs.Records.{Made}
 use Rattle.relay_core.specs.Turns.{made_by}
 use Rattle.board_turns.specs.Between.{board_of, MakesTurn}
 use Rattle.control_messages.specs.declared.request.Request.{Request}
-use Rattle.board_turns.specs.Controls.{RequestRecord, control_of, moment_at, entry_at}
+use Rattle.board_turns.specs.Controls.{RequestRecord, control_of, moment_at, entry_at, entry_pairs}
 use Rattle.board_turns.specs.DeviceAnswers.{IsGivenBy}
 use Rattle.ng_server.specs.SentReplies.{SendsOnce}
 
@@ -40,5 +39,5 @@ module _ {M I O T : Type 0} {g : _} where
     pub hearing : RequestRecord
     pub is_heard : IsRecordOf request hearing
     pub makes : MakesTurn config old new (entry_at config (board_of (made_by old)) (moment_at (board_of (made_by old)) now) hearing)
-    pub given : IsGivenBy config (free config (board_of (made_by old))) hearing.given ports ports_now keys keys_now opened opened_now drew drew_now
+    pub given : IsGivenBy config (entry_pairs config (board_of (made_by old)) (moment_at (board_of (made_by old)) now) hearing) hearing.given ports ports_now keys keys_now opened opened_now drew drew_now
     pub sends : SendsOnce request.source (control_of config (board_of (made_by old)) (moment_at (board_of (made_by old)) now) hearing).reply sent before after

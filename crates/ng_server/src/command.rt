@@ -7,7 +7,7 @@ ghost use Rattle.control_messages.specs.Bodies.{dictionary_in, said_by, descript
 ghost use Rattle.board_turns.specs.PlainReplies.{IsAnew};
 ghost use Rattle.board_turns.specs.BoardTurns.{Begins, CarriesOut, Works, past_of};
 ghost use Rattle.board_turns.specs.Commands.{record_by};
-ghost use Rattle.call_board.specs.Pairs.{free};
+ghost use Rattle.board_turns.specs.Controls.{entry_pairs};
 ghost use Rattle.board_turns.specs.DeviceAnswers.{given_by, IsGivenBy};
 
 use answer_command::answer;
@@ -54,7 +54,8 @@ pub(crate) fn carry_out<P: PortMaker, K: KeySource, R: Wait>(
     ensures carries { (pairs : Option Entries) → (asked.now.request.now.too_long ≡ false → ReadsBody asked.now.request.now.body.now pairs) → command_in asked.now.request.now.too_long pairs ≡ said_by asked.now.input.now →
         CarriesOut P.log turn.old turn.new (record_by asked.now.request.now pairs result) result.reply }
     ensures later { K.faults keys.old ≤ K.faults keys.new }
-    ensures given { IsGivenBy turn.old.main.config.now (free turn.old.main.config.now (past_of turn.old.main)) (given_by result.device_answers) (P.faults turn.old.ports.now) (P.faults turn.new.ports.now)
+    ensures given { (pairs : Option Entries) → (asked.now.request.now.too_long ≡ false → ReadsBody asked.now.request.now.body.now pairs) → command_in asked.now.request.now.too_long pairs ≡ said_by asked.now.input.now →
+        IsGivenBy turn.old.main.config.now (entry_pairs turn.old.main.config.now (past_of turn.old.main) turn.old.main.entry_id.moment (record_by asked.now.request.now pairs result)) (given_by result.device_answers) (P.faults turn.old.ports.now) (P.faults turn.new.ports.now)
         (K.faults keys.old) (K.faults keys.new) (P.log turn.old.ports.now) (P.log turn.new.ports.now) (K.log keys.old) (K.log keys.new) }
 {
     let AskedCommand {

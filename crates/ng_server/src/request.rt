@@ -11,8 +11,7 @@ ghost use Rattle.call_board.specs.Requests.{ReadsBody, command_in};
 ghost use Rattle.call_board.specs.Boards.{BoardMatches};
 ghost use Rattle.call_board.specs.Views.{View};
 ghost use Rattle.relay_outside.specs.declared.settings.Config.{Config};
-ghost use Rattle.board_turns.specs.Controls.{control_of};
-ghost use Rattle.call_board.specs.Pairs.{free};
+ghost use Rattle.board_turns.specs.Controls.{control_of, entry_pairs};
 ghost use Rattle.call_board.specs.Replies.{fault_datagram};
 ghost use Rattle.board_turns.specs.DeviceAnswers.{given_by, IsGivenBy, IsUnasked};
 ghost use Rattle.ng_server.specs.SentReplies.{SendsOnce};
@@ -129,7 +128,7 @@ pub(crate) fn deal<N: ControlLink, P: PortMaker, K: KeySource, R: Wait>(
     ensures empty { turn.new.gone.now ≡ [] }
     ensures ties { PortsFollowRows turn.old.main.config.now (P.log turn.old.ports.now) (P.log turn.new.ports.now) (entries turn.old.main.hand.now) (entries turn.new.main.hand.now) }
     ensures later { (P.faults turn.old.ports.now ≤ P.faults turn.new.ports.now) × (K.faults keys.old ≤ K.faults keys.new) }
-    ensures given { IsGivenBy turn.old.main.config.now (free turn.old.main.config.now (past_of turn.old.main)) (given_by result.turn_record.device_answers) (P.faults turn.old.ports.now) (P.faults turn.new.ports.now)
+    ensures given { IsGivenBy turn.old.main.config.now (entry_pairs turn.old.main.config.now (past_of turn.old.main) turn.old.main.entry_id.moment (record_of request.now result.turn_record)) (given_by result.turn_record.device_answers) (P.faults turn.old.ports.now) (P.faults turn.new.ports.now)
         (K.faults keys.old) (K.faults keys.new) (P.log turn.old.ports.now) (P.log turn.new.ports.now) (K.log keys.old) (K.log keys.new) }
 {
     let moment = turn.main.entry_id.moment;

@@ -1,5 +1,6 @@
 ghost use Rattle.std.specs.Prelude.{◌≡◌, ◌≤◌, ◌≢◌, List, [], map, length, take, IfOk, IfErr};
 ghost use Rattle.relay_outside.specs.DeviceLogs.{Gained, Rose, is_done};
+ghost use Rattle.relay_outside.specs.Settings.{AreFamilies};
 ghost use Rattle.relay_outside.specs.declared.settings.Config.{Config};
 ghost use Rattle.turn_table.specs.Hands.{IsSameHand, IsHandOf, HasNoTurn, parts, starts, entries};
 ghost use Rattle.call_board.specs.Calls.{live};
@@ -50,6 +51,7 @@ fn start_table<I: InEnd + Drop, O: OutEnd + Drop>(
     alloc: Global,
     config: &Config,
 ) -> Result<(Turns<Relay<I, O>>, Hand<Relay<I, O>>), OutOfMemory>
+    requires { AreFamilies config.now }
     ensures between { IfOk result (λ r. IsBetween config.now r.0 r.1) }
     ensures nothing { IfOk result (λ r. made_by r.1 ≡ []) }
     ensures all { IfOk result (λ r. parts r.1 ≡ 1024) }
@@ -93,7 +95,8 @@ fn turn_after(sent: Result<(), Failed>) -> ControlTurn
 }
 
 impl<P: PortMaker> Server<P> {
-    /// A server without a call, and its main hand, which has all parts of the table.
+    /// A server without a call, and its main hand, which has all parts of the table. Each interface of the configuration has an address
+    /// of its family.
     pub fn start(
         alloc: Global,
         config: Config,
@@ -101,6 +104,7 @@ impl<P: PortMaker> Server<P> {
     where
         P::In: Drop,
         P::Out: Drop,
+        requires { AreFamilies config }
         ensures config { IfOk result (λ r. r.0.config ≡ config) }
         ensures between { IfOk result (λ r. IsBetween r.0.config r.0.turns r.1) }
         ensures nothing { IfOk result (λ r. made_by r.1 ≡ []) }

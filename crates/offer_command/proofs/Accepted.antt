@@ -1,5 +1,5 @@
 -- A datagram that asks an offer which the board plans: an entry is due by which it is accepted, whatever keys are drawn.
-use Rattle.std.proofs.Common.{◌≡◌, ◌∙◌, refl, sym, ap, subst, ℕ, zero, suc, ◌*◌, ◌++◌, Bool, true, false, cond, not, List, [], ◌∷◌, length, take, Option, Some, None, Ok}
+use Rattle.std.proofs.Common.{◌≡◌, ◌∙◌, refl, sym, ap, subst, ℕ, zero, suc, ◌*◌, ◌++◌, Bool, true, false, cond, not, List, [], ◌∷◌, length, Option, Some, None, Ok}
 use Rattle.std.specs.Prelude.{nat_lt, replicate, Result}
 use Rattle.std.specs.List.{list_any}
 use Rattle.relay_outside.specs.declared.address.Addr.{Addr}
@@ -19,7 +19,6 @@ use Rattle.offer_answer.specs.Offers.{key_count}
 use Rattle.call_board.specs.Acts as act
 use Rattle.call_board.specs.Acts.{Call, Given, Control, Turn, BoardEntry}
 use Rattle.call_board.specs.Calls.{find_call, rounds_of_call}
-use Rattle.call_board.specs.Pairs.{free}
 use Rattle.call_board.specs.KeptReplies.{kept_reply}
 use Rattle.call_board.specs.Requests.{ReadsBody, asked}
 use Rattle.call_board.specs.Answers.{offer_ask, offering, undoing, answering, answering_asked, answering_unless, spelled}
@@ -29,7 +28,7 @@ use Rattle.call_board.specs.Views.{view_of}
 use Rattle.call_board.specs.Plans.{Target, PlansOffer}
 use Rattle.call_board.specs.declared.board_plan.BoardPlan.{BoardPlan}
 use Rattle.call_board.proofs.Dues.{target_in, target_is, offer_leases}
-use Rattle.offer_command.specs.Offers.{IsDue, CanOffer, target_of, demand_of, offer_of}
+use Rattle.offer_command.specs.Offers.{IsDue, CanOffer, target_of, demand_of, pairs_for, offer_of}
 use Rattle.offer_command.proofs.Targets.{keys_count}
 
 -- the datagram has a frame, its body was read and asks this offer, whose chosen keys are those of its description, and no reply to
@@ -86,7 +85,7 @@ can_offer config h now source cookie body too_long pairs chosen id from_tag sdp 
     answer draws =
         ap (answering_asked config h (control draws)) a.asks
         ∙ offer_leases config h (given draws) id ask p plans
-        ∙ ap (λ (b : Bool). cond b (undoing h E15 (take (length (demand_of config h id ask).pairs) (free config h)) []) (offering config t.rounds (o draws)))
+        ∙ ap (λ (b : Bool). cond b (undoing h E15 (pairs_for config h id ask) []) (offering config t.rounds (o draws)))
         (none_fails (2 * length (demand_of config h id ask).pairs))
 
     same : (draws : List (List ℕ)) → demanded config h (control draws) ≡ demand_of config h id ask

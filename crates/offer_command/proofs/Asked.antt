@@ -12,7 +12,7 @@ use Rattle.offer_answer.specs.Rounds.{Round}
 use Rattle.offer_answer.specs.Plan as plan
 use Rattle.offer_answer.specs.Plan.{OfferRead}
 use Rattle.call_board.specs.Acts.{Call, BoardEntry}
-use Rattle.call_board.specs.Requests.{asked, sdp_error}
+use Rattle.call_board.specs.Requests.{asked, sdp_error_for}
 use Rattle.call_board.specs.Calls.{find_call, rounds_of_call}
 use Rattle.call_board.specs.Fits.{ReadsRequest, demanded, demanded_by}
 use Rattle.call_board.specs.Plans.{Target, PlansOffer}
@@ -86,9 +86,9 @@ one_fails (suc n) = one_fails n
 
 -- the description that was read has no error
 pub asks_for : (config : Config) (h : List BoardEntry) (moment : ℕ) (request : Request) (pairs : Option Entries) (input : OfferIn) (text : List ℕ) → IsAnew h moment request
-    → IsAsking request pairs (offer_says input) → text ≡ input.sdp.list → sdp_error config text ≡ None → AsksForOffer config h moment request pairs input
+    → IsAsking request pairs (offer_says input) → text ≡ input.sdp.list → sdp_error_for config input.options.family text ≡ None → AsksForOffer config h moment request pairs input
 asks_for config h moment request pairs input text anew asking is fine =
-    record { anew = anew; asking = asking; fine = subst (λ (t : List ℕ). sdp_error config t ≡ None) is fine }
+    record { anew = anew; asking = asking; fine = subst (λ (t : List ℕ). sdp_error_for config input.options.family t ≡ None) is fine }
 
 -- the lines of the description that was read
 pub lines_read : (input : OfferIn) (text : List ℕ) (lines : List (List ℕ)) → lines ≡ lines_of text → text ≡ input.sdp.list → lines_of input.sdp.list ≡ lines

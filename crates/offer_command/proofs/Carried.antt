@@ -18,7 +18,7 @@ use Rattle.media_ports.specs.Draws.{KeyBytes}
 use Rattle.call_board.specs.Acts as act
 use Rattle.call_board.specs.Acts.{BoardEntry}
 use Rattle.call_board.specs.Answers.{offering, spelled}
-use Rattle.call_board.specs.Requests.{asked, sdp_error}
+use Rattle.call_board.specs.Requests.{asked, sdp_error_for}
 use Rattle.call_board.specs.Boards.{BoardMatches}
 use Rattle.call_board.specs.Fits.{GivesFor, GivesUndone, FitsBoard, ReadsRequest}
 use Rattle.call_board.specs.Plans.{PlansOffer, board_code}
@@ -235,7 +235,7 @@ module _ {M I O T : Type 0} {g : _} where
   error_carries : (config : Config) (turns : Turns M (Part I O) Made T) (hand : Hand M (Part I O) Made T g) (entry_id : BoardEntryId) (request : Request) (pairs : Option Entries) (input : OfferIn) (chosen : List (Option CryptoLine))
       (code : ErrorCode) (done : CommandOutcome) (board : Board) (log : Option (List PortCall))
       → InTurn config turns hand entry_id board log → IsAnew (board_history (made_by hand) entry_id.number) entry_id.moment request → IsAsking request pairs (offer_says input)
-      → sdp_error config input.sdp.list ≡ Some code → Tells chosen (reply_datagram config request.cookie.now request.body.now (Fault code)) done
+      → sdp_error_for config input.options.family input.sdp.list ≡ Some code → Tells chosen (reply_datagram config request.cookie.now request.body.now (Fault code)) done
       → ExecutesCommand config hand hand entry_id (record_by request pairs done) done.reply board log
   error_carries config turns hand entry_id request pairs input chosen code done board log turn anew asking faulty tells =
       let h = board_history (made_by hand) entry_id.number in
@@ -249,7 +249,7 @@ module _ {M I O T : Type 0} {g : _} where
   pub misdescribed_carries : (config : Config) (turns : Turns M (Part I O) Made T) (hand : Hand M (Part I O) Made T g) (entry_id : BoardEntryId) (request : Request) (pairs : Option Entries) (input : OfferIn)
       (fault : DescriptionFault) (done : CommandOutcome) (board : Board) (log : Option (List PortCall))
       → InTurn config turns hand entry_id board log → IsAnew (board_history (made_by hand) entry_id.number) entry_id.moment request → IsAsking request pairs (offer_says input)
-      → IsErrorOf (sdp_error config input.sdp.list) fault → RefusesRequest request.cookie.now request.body.now [] (error_in fault) done
+      → IsErrorOf (sdp_error_for config input.options.family input.sdp.list) fault → RefusesRequest request.cookie.now request.body.now [] (error_in fault) done
       → ExecutesCommand config hand hand entry_id (record_by request pairs done) done.reply board log
   misdescribed_carries config turns hand entry_id request pairs input (faults.Error code) done board log turn anew asking faulty refuses =
       error_carries config turns hand entry_id request pairs input [] code done board log turn anew asking faulty (refuses config)

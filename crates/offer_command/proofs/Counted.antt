@@ -3,6 +3,7 @@ use Rattle.std.proofs.Common.{◌≡◌, ◌∙◌, sym, ap, subst, ℕ, ◌+◌
 use Rattle.std.proofs.lemmas.List.{length-map}
 use Rattle.histories.proofs.Lists.{mapped, has_it}
 use Rattle.relay_outside.specs.declared.settings.Config.{Config}
+use Rattle.relay_outside.specs.Settings.{AreFamilies}
 use Rattle.relay_outside.specs.declared.ports.PortCall.{PortCall}
 use Rattle.sdp_text.specs.Lines.{lines_of}
 use Rattle.sdp_text.specs.Descriptions.{fault_in}
@@ -54,10 +55,11 @@ free_is_not_held config h p among =
     free_not_held config h p leg.from (has_it p (free config h) among) leg.is_in leg.makes)
 
 -- in a turn of the board an offer may take what its plan demands
-pub may_lease : (config : Config) (h : List BoardEntry) (board : Board) (log : Option (List PortCall)) (p : BoardPlan) (v : View) → IsFitting config h → length h ≤ 2 ^ 56 →
+pub may_lease : (config : Config) (h : List BoardEntry) (board : Board) (log : Option (List PortCall)) (p : BoardPlan) (v : View) → AreFamilies config → IsFitting config h → length h ≤ 2 ^ 56 →
     HasRoomForPlan board p → pairs_of_plan p ≤ 16 → keys_of_plan p ≤ 24 → BoardMatches config board v → v.free ≡ free config h → v.leases ≡ times_leased h → v.drawn ≡ length (drawn h) →
     LogsHeld config log (map (λ (leg : Holder). leg.pair) (held h)) → CanLease config board log p
-may_lease config h board log p v fits short room pairs keys shows free_is leases_are drawn_is opens = record {
+may_lease config h board log p v families fits short room pairs keys shows free_is leases_are drawn_is opens = record {
+  families = families;
   room = room;
   view = v;
   shows = shows;

@@ -1,85 +1,75 @@
--- The front of the free pairs: what holds of its leases.
-use Rattle.std.proofs.Common.{◌≡◌, ◌∙◌, refl, sym, ap, subst, ℕ, zero, suc, ◌+◌, ◌≤◌, ◌<◌, ◌^◌, ◌⊎◌, inl, inr, Bool, true, false, List, [], ◌∷◌, map, length, take, drop, arith}
+-- The pairs that an offer's legs get, and what holds of their leases.
+use Rattle.std.proofs.Common.{◌≡◌, ◌∙◌, refl, sym, ap, subst, ℕ, ◌+◌, ◌≤◌, ◌<◌, ◌^◌, ◌⊎◌, inl, inr, not, Bool, true, false, List, [], ◌∷◌, map, length, arith}
 use Rattle.std.specs.Prelude.{count_by, nat_lt, ◌==◌}
-use Rattle.std.proofs.lemmas.List.{length-map, length-take-le, get_or_past}
+use Rattle.std.proofs.lemmas.List.{get_or_past}
 use Rattle.std.proofs.lemmas.Bool.Decides.{nat_tests}
+use Rattle.relay_outside.specs.declared.address.Family.{Family}
 use Rattle.relay_outside.specs.declared.settings.Config.{Config}
 use Rattle.histories.specs.Words.{In, here, there, has}
-use Rattle.histories.proofs.Lists.{it_has, has_it}
-use Rattle.port_pool.specs.Ports.{pair_count}
-use Rattle.port_pool.specs.Pools.{AreFree, generation}
-use Rattle.media_ports.specs.Addresses.{pairs_of_leases, HavePorts, AreLeased}
+use Rattle.histories.proofs.Lists.{filtered, it_has, has_it}
+use Rattle.port_pool.specs.Ports.{pair_count, pairs_of_family}
+use Rattle.port_pool.specs.Pools.{AreFree, free_pairs, generation}
+use Rattle.media_ports.specs.Addresses.{pairs_of_leases, AreLeased}
 use Rattle.media_ports.specs.OpenPorts.{AreOthers}
+use Rattle.offer_answer.specs.Rounds.{NewLeg}
+use Rattle.call_board.specs.Pairs.{is_short}
 use Rattle.call_board.specs.Views.{View, with_leases}
-use Rattle.call_board.specs.Boards.{BoardMatches, lease_at, front_leases, AreOut}
+use Rattle.call_board.specs.Boards.{BoardMatches, lease_at, leases_at, fronts_for, AreOut}
 use Rattle.call_board.specs.Returns.{MayReturnAll}
 use Rattle.call_board.specs.declared.board.Board.{Board}
 use Rattle.call_board.proofs.Once.{Once}
 use Rattle.call_board.proofs.Sieves.{is_out}
 use Rattle.call_board.proofs.Bounds.{once_count}
 use Rattle.call_board.proofs.Leases.{counted}
-use Rattle.call_board.proofs.FreeAfter.{taken_in, once_taken}
+use Rattle.call_board.proofs.Leased.{once_free}
+use Rattle.call_board.proofs.Free.{front_among, fronts_once, pairs_apart}
+use Rattle.call_board.proofs.Demands.{enough_of, fronts_length}
 use Rattle.call_board.proofs.Outs.{lease_pairs, returns_out}
 use Rattle.call_board.proofs.Entries.{draws_keep}
 use Rattle.offer_command.specs.Leases.{with_taken}
 
 -- Free pairs.
 
-not_in : (p : ℕ) (xs : List ℕ) → has xs p ≡ false → In p xs → ⊥
-not_in p xs out i = let there_it = it_has p xs i in let wrong = sym there_it ∙ out in cc
-
-once_free : (count : ℕ) (xs : List ℕ) → AreFree count xs → Once xs
-once_free count [] free = tt
-once_free count (x ∷ xs) free = (not_in x xs free.1, once_free count xs free.2)
+not_in : (p : ℕ) (xs : List ℕ) → not (has xs p) ≡ true → In p xs → ⊥
+not_in p xs out i = let there_it = it_has p xs i in let wrong : not true ≡ true = ap not (sym there_it) ∙ out in cc
 
 below_free : (count : ℕ) (xs : List ℕ) (p : ℕ) → AreFree count xs → In p xs → p < count
 below_free count [] p free i = elim i [ ]
 below_free count (x ∷ xs) p free (here is) = let low = free.0 in omega (arith, low, is)
 below_free count (x ∷ xs) p free (there i) = below_free count xs p free.2 i
 
-dropped_in : (p k : ℕ) (xs : List ℕ) → In p (drop k xs) → In p xs
-dropped_in p zero [] i = i
-dropped_in p zero (x ∷ xs) i = i
-dropped_in p (suc k) [] i = i
-dropped_in p (suc k) (x ∷ xs) i = there (dropped_in p k xs i)
-
-apart_taken : (p k : ℕ) (xs : List ℕ) → Once xs → In p (take k xs) → In p (drop k xs) → ⊥
-apart_taken p zero [] once i j = elim i [ ]
-apart_taken p zero (x ∷ xs) once i j = elim i [ ]
-apart_taken p (suc k) [] once i j = elim i [ ]
-apart_taken p (suc k) (x ∷ xs) once (here e) j = once.0 (subst (λ q. In q xs) e (dropped_in p k xs j))
-apart_taken p (suc k) (x ∷ xs) once (there i) j = apart_taken p k xs once.1 i j
-
 free_each : (count : ℕ) (xs : List ℕ) → Once xs → ((p : ℕ) → In p xs → p < count) → AreFree count xs
 free_each count [] once below = tt
 free_each count (x ∷ xs) once below = (below x (here refl), is_out x xs once.0, free_each count xs once.1 (λ p i. below p (there i)))
 
-free_taken : (count k : ℕ) (xs : List ℕ) → AreFree count xs → AreFree count (take k xs)
-free_taken count k xs free =
-    free_each count (take k xs) (once_taken k xs (once_free count xs free)) (λ p i. below_free count xs p free (taken_in p k xs i))
+-- the pairs that these legs get are of the range, each once
+pub fronts_free : (config : Config) (v : View) (legs : List NewLeg) → AreFree (pair_count config) v.free → AreFree (pair_count config) (fronts_for config v legs)
+fronts_free config v legs free =
+    free_each (pair_count config) (fronts_for config v legs)
+    (fronts_once (pairs_of_family config v.free) legs (pairs_apart config v.free (once_free (pair_count config) v.free free)))
+    (λ p i. below_free (pair_count config) v.free p free (front_among config v.free legs p i))
+
+-- there is one for each leg
+pub fronts_count : (config : Config) (v : View) (legs : List NewLeg) → is_short (pairs_of_family config v.free) legs ≡ false → length (fronts_for config v legs) ≡ length legs
+fronts_count config v legs enough = fronts_length (pairs_of_family config v.free) legs (enough_of (pairs_of_family config v.free) legs enough)
+
+-- where the board has enough for its plan, so has what it keeps
+pub enough_kept : (config : Config) (board : Board) (v : View) (legs : List NewLeg) → BoardMatches config board v → is_short (free_pairs board.pool) legs ≡ false →
+    is_short (pairs_of_family config v.free) legs ≡ false
+enough_kept config board v legs s enough = ap (λ (lists : Family → List ℕ). is_short lists legs) (sym (λ i family. s.pool_for.free_is family i)) ∙ enough
 
 -- Their leases.
 
-have_ports : (config : Config) (f : ℕ → ℕ) (pairs : List ℕ) → HavePorts config (map (lease_at config f) pairs)
-have_ports config f [] = tt
-have_ports config f (p ∷ pairs) = (refl, have_ports config f pairs)
-
 -- the leases are of different pairs of the configuration
-pub front_leased : (config : Config) (v : View) (count : ℕ) → AreFree (pair_count config) v.free → AreLeased config (front_leases config v count)
-front_leased config v count free = record {
-  differ = subst (AreFree (pair_count config)) (sym (lease_pairs config v.leases (take count v.free))) (free_taken (pair_count config) count v.free free);
-  ports = have_ports config v.leases (take count v.free);
-}
-
--- they are as many
-pub front_count : (config : Config) (v : View) (count : ℕ) → count ≤ length v.free → length (front_leases config v count) ≡ count
-front_count config v count enough = length-map (take count v.free) (lease_at config v.leases) ∙ length-take-le count v.free enough
+pub leases_leased : (config : Config) (v : View) (pairs : List ℕ) → AreFree (pair_count config) pairs → AreLeased config (leases_at config v pairs)
+leases_leased config v pairs free = record { differ = subst (AreFree (pair_count config)) (sym (lease_pairs config v.leases pairs)) free }
 
 -- none of them is of a pair that is held
-pub front_others : (config : Config) (v : View) (count : ℕ) (held : List ℕ) → AreOthers held v.free → AreOthers held (pairs_of_leases (front_leases config v count))
-front_others config v count held apart p among =
-    let taken : has (take count v.free) p ≡ true = ap (λ (ps : List ℕ). has ps p) (sym (lease_pairs config v.leases (take count v.free))) ∙ among in
-    apart p (it_has p v.free (taken_in p count v.free (has_it p (take count v.free) taken)))
+pub front_others : (config : Config) (v : View) (legs : List NewLeg) (held : List ℕ) → AreOthers held v.free → AreOthers held (pairs_of_leases (leases_at config v (fronts_for config v legs)))
+front_others config v legs held apart p among =
+    let pairs = fronts_for config v legs in
+    let taken : has pairs p ≡ true = ap (λ (ps : List ℕ). has ps p) (sym (lease_pairs config v.leases pairs)) ∙ among in
+    apart p (it_has p v.free (front_among config v.free legs p (has_it p pairs taken)))
 
 leases_return : (config : Config) (v : View) (f : ℕ → ℕ) (pairs : List ℕ) → Once pairs → ((p : ℕ) → In p pairs → p < pair_count config) → ((p : ℕ) → In p pairs → In p v.free → ⊥) →
     ((p : ℕ) → In p pairs → v.leases p ≡ f p + 1) → MayReturnAll config v (map (lease_at config f) pairs)
@@ -91,14 +81,12 @@ leases_return config v f (p ∷ pairs) once below out last = (
 )
 
 -- they may all be given back once they were made
-front_return : (config : Config) (v w : View) (count : ℕ) → AreFree (pair_count config) v.free → w.free ≡ drop count v.free → w.leases ≡ (with_leases v count).leases →
-    MayReturnAll config w (front_leases config v count)
-front_return config v w count free free_is leases_are =
-    let pairs = take count v.free in
-    let all = once_free (pair_count config) v.free free in
-    let once = once_taken count v.free all in
-    leases_return config w v.leases pairs once (λ p i. below_free (pair_count config) v.free p free (taken_in p count v.free i))
-    (λ p i j. apart_taken p count v.free all i (subst (λ (ps : List ℕ). In p ps) free_is j))
+leased_return : (config : Config) (v w : View) (pairs : List ℕ) → AreFree (pair_count config) pairs → w.free ≡ (with_leases v pairs).free → w.leases ≡ (with_leases v pairs).leases →
+    MayReturnAll config w (leases_at config v pairs)
+leased_return config v w pairs free free_is leases_are =
+    let once = once_free (pair_count config) pairs free in
+    leases_return config w v.leases pairs once (λ p i. below_free (pair_count config) pairs p free i)
+    (λ p i j. not_in p pairs (filtered (λ q. not (has pairs q)) v.free (subst (λ (ps : List ℕ). In p ps) free_is j)).1 i)
     (λ p i.
     let most = once_count p pairs once in
     let least = counted p pairs i in
@@ -106,12 +94,12 @@ front_return config v w count free free_is leases_are =
     omega (arith, most, least, same))
 
 -- also where keys were drawn since
-pub front_out : (config : Config) (board : Board) (v : View) (count keys : ℕ) → AreFree (pair_count config) v.free → BoardMatches config board (with_taken v count keys) →
-    AreOut board.pool (front_leases config v count)
-front_out config board v count keys free s =
-    let same = draws_keep (with_leases v count) keys in
-    returns_out config board (with_taken v count keys) (front_leases config v count) s
-    (front_return config v (with_taken v count keys) count free same.free_is same.leases_are)
+pub leased_out : (config : Config) (board : Board) (v : View) (pairs : List ℕ) (keys : ℕ) → AreFree (pair_count config) pairs → BoardMatches config board (with_taken v pairs keys) →
+    AreOut board.pool (leases_at config v pairs)
+leased_out config board v pairs keys free s =
+    let same = draws_keep (with_leases v pairs) keys in
+    returns_out config board (with_taken v pairs keys) (leases_at config v pairs) s
+    (leased_return config v (with_taken v pairs keys) pairs free same.free_is same.leases_are)
 
 -- Generations.
 

@@ -2,7 +2,6 @@
 use Rattle.std.proofs.Common.{◌≡◌, ◌∙◌, ap, sym, subst, true, List, ◌++◌, inl, inr, Option, Some, None, length, replicate, append_assoc}
 use Rattle.std.specs.List.{AllZip}
 use Rattle.relay_outside.specs.declared.address.Addr.{Addr}
-use Rattle.relay_outside.specs.declared.address.Ip.{Ip}
 use Rattle.relay_outside.specs.declared.ports.PortCall.{PortCall}
 use Rattle.relay_outside.specs.declared.settings.Config.{Config}
 use Rattle.relay_outside.specs.Ports.{IsOpen}
@@ -23,11 +22,11 @@ use Rattle.offer_command.specs.declared.lease.LeaseFault.{LeaseFault}
 use Rattle.offer_command.specs.declared.lease.LeaseFault.TheVariants.{Port, Key}
 use Rattle.offer_command.specs.Undo.{OpensAndCloses, UndoesPorts}
 
-pub gained_closed : (interface : Ip) (leases : List Lease) (old mid new : Option (List PortCall)) → Gained old mid (OpensPairs interface leases) →
-    Gained mid new (AllZip ClosesUncalled (addresses_of interface leases)) → Gained old new (OpensAndCloses (addresses_of interface leases))
-gained_closed interface leases old mid new opens closes =
-    gained_both old mid new (OpensPairs interface leases) (AllZip ClosesUncalled (addresses_of interface leases)) (OpensAndCloses (addresses_of interface leases))
-    (λ xs ys these those. record { closes = ys; opens = ap (λ (calls : List PortCall). calls ++ ys) (all_from_pairs interface leases xs these); closed = those }) opens closes
+pub gained_closed : (config : Config) (leases : List Lease) (old mid new : Option (List PortCall)) → Gained old mid (OpensPairs config leases) →
+    Gained mid new (AllZip ClosesUncalled (addresses_of config leases)) → Gained old new (OpensAndCloses (addresses_of config leases))
+gained_closed config leases old mid new opens closes =
+    gained_both old mid new (OpensPairs config leases) (AllZip ClosesUncalled (addresses_of config leases)) (OpensAndCloses (addresses_of config leases))
+    (λ xs ys these those. record { closes = ys; opens = ap (λ (calls : List PortCall). calls ++ ys) (all_from_pairs config leases xs these); closed = those }) opens closes
 
 -- the same addresses are open as before
 same_open : (ats : List Addr) (before more : List PortCall) → NoneOpen ats before → OpensAndCloses ats more → SameOpen before (before ++ more)
@@ -65,13 +64,13 @@ undone_uncalled config ats (Key drawn) calls are undone =
     (uncalled_both config (openings ats (replicate (length ats) true)) undone.closes (opened_uncalled config ats (replicate (length ats) true) are)
     (closed_uncalled config ats undone.closes are undone.closed))
 
-pub gained_pairs_uncalled : (config : Config) (leases : List Lease) (old new : Option (List PortCall)) → AreLeased config leases → Gained old new (OpensPairs config.interface leases) →
+pub gained_pairs_uncalled : (config : Config) (leases : List Lease) (old new : Option (List PortCall)) → AreLeased config leases → Gained old new (OpensPairs config leases) →
     Gained old new (GivesBackUncalled config)
 gained_pairs_uncalled config leases old new leased opens =
-    gained_less old new (OpensPairs config.interface leases) (GivesBackUncalled config) (λ calls these. pairs_uncalled config leases calls leased these) opens
+    gained_less old new (OpensPairs config leases) (GivesBackUncalled config) (λ calls these. pairs_uncalled config leases calls leased these) opens
 
 pub gained_undone_uncalled : (config : Config) (leases : List Lease) (fault : LeaseFault) (old new : Option (List PortCall)) → AreLeased config leases →
-    Gained old new (UndoesPorts (addresses_of config.interface leases) fault) → Gained old new (GivesBackUncalled config)
+    Gained old new (UndoesPorts (addresses_of config leases) fault) → Gained old new (GivesBackUncalled config)
 gained_undone_uncalled config leases fault old new leased undone =
-    let ats = addresses_of config.interface leases in
+    let ats = addresses_of config leases in
     gained_less old new (UndoesPorts ats fault) (GivesBackUncalled config) (λ calls these. undone_uncalled config ats fault calls (leased_of_pairs config leases leased) these) undone

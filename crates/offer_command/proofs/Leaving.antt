@@ -1,5 +1,5 @@
 -- What an accepted offer leaves: its legs have the out ends that were opened for them, and by its rows just the dropped legs go.
-use Rattle.std.proofs.Common.{◌≡◌, ◌∙◌, refl, sym, ap, subst, ℕ, ◌+◌, ◌++◌, List, [], ◌∷◌, Option, map, true, append_assoc}
+use Rattle.std.proofs.Common.{◌≡◌, ◌∙◌, refl, sym, ap, subst, ℕ, ◌++◌, List, [], ◌∷◌, Option, map, true, append_assoc}
 use Rattle.relay_outside.specs.declared.ports.InCall.{InCall}
 use Rattle.relay_outside.specs.declared.ports.OutCall.{OutCall}
 use Rattle.relay_outside.specs.declared.settings.Config.{Config}
@@ -17,9 +17,8 @@ use Rattle.call_cell.specs.declared.leg.Leg.{Leg}
 use Rattle.call_cell.specs.declared.prepare.Prepare as prepared
 use Rattle.call_cell.specs.CellEnds.{parts_of}
 use Rattle.call_cell.specs.Preparations.{PrepareFor, parts_added}
-use Rattle.port_pool.specs.Ports.{pair_port, port_at, port_address}
+use Rattle.port_pool.specs.Ports.{port_address}
 use Rattle.port_pool.specs.Signals.{NewKey}
-use Rattle.media_ports.specs.Addresses.{HavePorts}
 use Rattle.media_ports.specs.declared.ends.PairEnds.{PairEnds}
 use Rattle.media_ports.specs.Ends as ends
 use Rattle.media_ports.proofs.Given.{joined_to_nothing}
@@ -40,26 +39,19 @@ module _ {I O : Type 0} (taken : I → EndLog InCall) (sent : O → EndLog OutCa
     pub rtp : IsOpenedFor (port_address config part.0.pair Rtp) (sent part.1)
     pub rtcp : IsOpenedFor (port_address config part.0.pair Rtcp) (sent part.2)
 
-  new_part : (config : Config) (lease : Lease) (first : PairEnds I O) → lease.rtp_port ≡ pair_port config lease.pair → ends.IsPairOpened taken sent config.interface lease first
-      → AreNew config (lease, first.rtp_out, first.rtcp_out)
-  new_part config lease first is opened = record {
-    rtp = subst (λ (port : ℕ). IsOpenedFor (port_at config.interface port) (sent first.rtp_out)) is opened.rtp_out;
-    rtcp = subst (λ (port : ℕ). IsOpenedFor (port_at config.interface (port + 1)) (sent first.rtcp_out)) is opened.rtcp_out;
-  }
-
-  parts_new : (config : Config) (leases : List Lease) (opened : List (PairEnds I O)) → HavePorts config leases → ends.ArePairsOpened taken sent config.interface leases opened
+  parts_new : (config : Config) (leases : List Lease) (opened : List (PairEnds I O)) → ends.ArePairsOpened taken sent config leases opened
       → (part : Lease × O × O) → In part (leased_parts leases opened) → AreNew config part
-  parts_new config [] opened ports are part i = elim i [ ]
-  parts_new config (lease ∷ leases) [] ports are part i = elim i [ ]
-  parts_new config (lease ∷ leases) (first ∷ opened) ports are part (here is) = subst (AreNew config) (sym is) (new_part config lease first ports.0 are.0)
-  parts_new config (lease ∷ leases) (first ∷ opened) ports are part (there i) = parts_new config leases opened ports.1 are.1 part i
+  parts_new config [] opened are part i = elim i [ ]
+  parts_new config (lease ∷ leases) [] are part i = elim i [ ]
+  parts_new config (lease ∷ leases) (first ∷ opened) are part (here is) = subst (AreNew config) (sym is) (record { rtp = are.0.rtp_out; rtcp = are.0.rtcp_out })
+  parts_new config (lease ∷ leases) (first ∷ opened) are part (there i) = parts_new config leases opened are.1 part i
 
   -- the out ends of the prepared legs, which are those of the pairs that were opened, were opened for the ports of the legs' pairs
   pub legs_opened : (config : Config) (signal : prepared.Prepare O) (keys : List NewKey) (dropped : List ℕ) (leases : List Lease) (opened : List (PairEnds I O))
-      → parts_added signal ≡ leased_parts leases opened → HavePorts config leases → ends.ArePairsOpened taken sent config.interface leases opened
+      → parts_added signal ≡ leased_parts leases opened → ends.ArePairsOpened taken sent config leases opened
       → PrepareFor signal keys dropped → AreOpened sent config signal
-  legs_opened config signal keys dropped leases opened parts ports are for leg i =
-      let new = parts_new config leases opened ports are (parts_of leg) (subst (In (parts_of leg)) parts (maps (λ (l : Leg O). parts_of l) signal.legs.items i)) in
+  legs_opened config signal keys dropped leases opened parts are for leg i =
+      let new = parts_new config leases opened are (parts_of leg) (subst (In (parts_of leg)) parts (maps (λ (l : Leg O). parts_of l) signal.legs.items i)) in
       let pair : leg.lease.pair ≡ leg.holder.pair = (for.fresh leg i).pair in
       record {
         rtp = subst (λ (n : ℕ). IsOpenedFor (port_address config n Rtp) (sent leg.sending.rtp)) pair new.rtp;

@@ -1,6 +1,6 @@
 -- What was done of an offer's legs, and one leg more.
 use Rattle.std.proofs.Common.{◌≡◌, refl, sym, ◌∙◌, ap, subst, ℕ, suc, ◌+◌, ◌<◌, ◌++◌, List, [], ◌∷◌, length, map, false, true, Option, Some, None, arith, append_assoc}
-use Rattle.std.specs.Prelude.{slice_get}
+use Rattle.std.specs.Prelude.{option_map, slice_get}
 use Rattle.std.specs.Option.{option_to_list}
 use Rattle.std.specs.List.{AllZip}
 use Rattle.std.proofs.lemmas.List.{length_push, map_push}
@@ -16,7 +16,8 @@ use Rattle.port_pool.specs.declared.holder.Holder.{Holder}
 use Rattle.port_pool.specs.declared.holder.Side.{Side}
 use Rattle.port_pool.specs.declared.pairs.Lease.{Lease}
 use Rattle.offer_answer.specs.Rounds.{NewLeg, Demand}
-use Rattle.offer_answer.specs.Offers.{PlanFor, leg_asked}
+use Rattle.offer_answer.specs.Laws.{new_leg_place}
+use Rattle.offer_answer.specs.Offers.{PlanFor}
 use Rattle.offer_answer.specs.declared.plan.Plan.{Plan}
 use Rattle.call_board.specs.Acts.{Call}
 use Rattle.call_board.specs.Whole.{holders_of_new_legs, holder_of_new_leg}
@@ -36,28 +37,30 @@ use Rattle.offer_command.specs.LegBoxes.{AreShut, IsBoxOpened, leg_parts, leased
 
 -- The legs.
 
-legs_push : (of : Call) (done : List Lease) (lease : Lease) (asked : List NewLeg) (leg : NewLeg) → slice_get asked (length done) ≡ Some leg
-    → holders_of_new_legs of (done ++ lease ∷ []) asked ≡ holders_of_new_legs of done asked ++ holder_of_new_leg of lease leg ∷ []
-legs_push of [] lease [] leg q = absurd (let e : None ≡ Some leg = q in cc)
-legs_push of [] lease (x ∷ asked) leg q = let e : x ≡ leg = (let f : Some x ≡ Some leg = q in cc) in ap (λ (y : NewLeg). holder_of_new_leg of lease y ∷ []) e
-legs_push of (d ∷ done) lease [] leg q = absurd (let e : None ≡ Some leg = q in cc)
-legs_push of (d ∷ done) lease (x ∷ asked) leg q = ap (λ (legs : List Holder). holder_of_new_leg of d x ∷ legs) (legs_push of done lease asked leg q)
-
 -- the holder of the leg
 abbrev pub holder_for : (call cell : ℕ) → Lease → ℕ × Side → Holder
 holder_for call cell lease leg = record { cell = cell; call = call; section = leg.0; side = leg.1; pair = lease.pair; generation = lease.generation }
 
-holder_is : (of : Call) (call cell : ℕ) (lease : Lease) (leg : ℕ × Side) → of.number ≡ call → of.cell ≡ cell → holder_of_new_leg of lease (leg_asked leg) ≡ holder_for call cell lease leg
+legs_push : (of : Call) (done : List Lease) (lease : Lease) (asked : List NewLeg) (leg : ℕ × Side) → option_map new_leg_place (slice_get asked (length done)) ≡ Some leg
+    → holders_of_new_legs of (done ++ lease ∷ []) asked ≡ holders_of_new_legs of done asked ++ holder_for of.number of.cell lease leg ∷ []
+legs_push of [] lease [] leg q = absurd (let e : None ≡ Some leg = q in cc)
+legs_push of [] lease (x ∷ asked) leg q =
+    let e : new_leg_place x ≡ leg = (let f : Some (new_leg_place x) ≡ Some leg = q in cc) in
+    ap (λ (y : ℕ × Side). holder_for of.number of.cell lease y ∷ []) e
+legs_push of (d ∷ done) lease [] leg q = absurd (let e : None ≡ Some leg = q in cc)
+legs_push of (d ∷ done) lease (x ∷ asked) leg q = ap (λ (legs : List Holder). holder_of_new_leg of d x ∷ legs) (legs_push of done lease asked leg q)
+
+holder_is : (of : Call) (call cell : ℕ) (lease : Lease) (leg : ℕ × Side) → of.number ≡ call → of.cell ≡ cell → holder_for of.number of.cell lease leg ≡ holder_for call cell lease leg
 holder_is of call cell lease leg number place =
     ap (λ (n : ℕ). holder_for n of.cell lease leg) number ∙ ap (λ (n : ℕ). holder_for call n lease leg) place
 
 legs_more : (plan : Plan) (call cell : ℕ) (done : List Lease) (lease : Lease) (legs : List Holder) (i : ℕ) (leg : ℕ × Side) → LegsFor plan call cell done legs → length done ≡ i
-    → ((asked : Demand) → PlanFor plan asked → slice_get asked.pairs i ≡ Some (leg_asked leg))
+    → ((asked : Demand) → PlanFor plan asked → option_map new_leg_place (slice_get asked.pairs i) ≡ Some leg)
     → LegsFor plan call cell (done ++ lease ∷ []) (legs ++ holder_for call cell lease leg ∷ [])
 legs_more plan call cell done lease legs i leg are count says asked of demands number place =
     ap (λ (xs : List Holder). xs ++ holder_for call cell lease leg ∷ []) (are asked of demands number place)
     ∙ ap (λ (h : Holder). holders_of_new_legs of done asked.pairs ++ h ∷ []) (sym (holder_is of call cell lease leg number place))
-    ∙ sym (legs_push of done lease asked.pairs (leg_asked leg) (subst (λ (n : ℕ). slice_get asked.pairs n ≡ Some (leg_asked leg)) (sym count) (says asked demands)))
+    ∙ sym (legs_push of done lease asked.pairs leg (subst (λ (n : ℕ). option_map new_leg_place (slice_get asked.pairs n) ≡ Some leg) (sym count) (says asked demands)))
 
 -- The ends.
 
@@ -114,7 +117,7 @@ module _ {I O : Type 0} where
   pub one_done : (plan : Plan) (call cell : ℕ) (R : Holder → PairEnds I O → Type 0) (all left rest : List Lease) (opened open_left open_rest : List (PairEnds I O)) (i : ℕ)
       (legs more : List Holder) (before now after : List (Lease × O × O)) (lease : Lease) (ends : PairEnds I O) (leg : ℕ × Side)
       → AreDone plan call cell R all left opened open_left i legs before now → left ≡ lease ∷ rest → open_left ≡ ends ∷ open_rest
-      → ((asked : Demand) → PlanFor plan asked → slice_get asked.pairs i ≡ Some (leg_asked leg)) → R (holder_for call cell lease leg) ends
+      → ((asked : Demand) → PlanFor plan asked → option_map new_leg_place (slice_get asked.pairs i) ≡ Some leg) → R (holder_for call cell lease leg) ends
       → more ≡ legs ++ holder_for call cell lease leg ∷ [] → after ≡ now ++ leg_parts lease ends ∷ []
       → AreDone plan call cell R all rest opened open_rest (i + 1) more before after
   one_done plan call cell R all left rest opened open_left open_rest i legs more before now after lease ends leg done here_lease here_ends says opens more_is after_is = record {

@@ -1,5 +1,5 @@
 -- What an offer that is due demands is within the limits of its board.
-use Rattle.std.proofs.Common.{◌≡◌, ◌∙◌, refl, sym, ap, subst, ℕ, zero, suc, ◌≤◌, ◌<◌, ◌^◌, filter, length-append, List, [], ◌∷◌, length, take, Option, Some, None, arith}
+use Rattle.std.proofs.Common.{◌≡◌, ◌∙◌, refl, sym, ap, subst, ℕ, zero, suc, ◌≤◌, ◌<◌, ◌^◌, filter, length-append, List, [], ◌∷◌, length, Option, Some, None, arith}
 use Rattle.relay_outside.specs.declared.settings.Config.{Config}
 use Rattle.std.specs.Prelude.{replicate}
 use Rattle.std.specs.List.{filter_map, cons_option}
@@ -7,17 +7,16 @@ use Rattle.std.proofs.lemmas.List.{length-replicate}
 use Rattle.sdp_text.specs.Lines.{lines_of}
 use Rattle.sdp_text.specs.Descriptions.{fault_in}
 use Rattle.offer_answer.specs.Rounds.{OfferAsk}
-use Rattle.offer_answer.specs.Offers.{pairs_demanded, key_count}
+use Rattle.offer_answer.specs.Offers.{key_count}
 use Rattle.call_board.specs.Acts.{BoardEvent, BoardEntry}
 use Rattle.call_board.specs.Calls.{begun}
-use Rattle.call_board.specs.Pairs.{free}
 use Rattle.call_board.specs.Fits.{FitsAt, IsFitting}
 use Rattle.call_board.specs.declared.board.Board.{Board}
 use Rattle.call_board.specs.declared.board_plan.BoardPlan.{BoardPlan}
 use Rattle.call_board.specs.declared.board_plan.NewCall.{NewCall}
 use Rattle.call_board.specs.Views.{View, CallView, view_of, call_view, call_numbered}
 use Rattle.call_board.specs.Boards.{BoardMatches, KeepsCalls}
-use Rattle.call_board.specs.Plans.{HasRoomForPlan, CallRoom, BeginsFor, OfferPlanFor, leased}
+use Rattle.call_board.specs.Plans.{CallRoom, BeginsFor, OfferPlanFor, leased}
 use Rattle.call_board.specs.NextBoards.{MayApply}
 use Rattle.call_board.proofs.Bounds.{offer_sound, may_begin}
 use Rattle.call_board.proofs.Dues.{goes_on_with}
@@ -43,20 +42,6 @@ sound_of config h id ask p draws d =
 pub some_due : (config : Config) (h : List BoardEntry) (id : List ℕ) (ask : OfferAsk) (lines : List (List ℕ)) (p : BoardPlan) → CanOffer config h id ask lines p →
     IsDue config h id ask p (replicate (key_count p.plan) [])
 some_due config h id ask lines p can = can.due (replicate (key_count p.plan) []) (length-replicate (key_count p.plan) [])
-
-taken_length : (k : ℕ) (xs : List ℕ) → k ≤ length xs → length (take k xs) ≡ k
-taken_length zero [] low = refl
-taken_length zero (x ∷ xs) low = refl
-taken_length (suc k) [] low = absurd (omega (arith, low))
-taken_length (suc k) (x ∷ xs) low = let rest = taken_length k xs (omega (arith, low)) in omega (arith, rest)
-
--- there are as many free pairs as it demands
-pub enough_free : (config : Config) (h : List BoardEntry) (board : Board) (p : BoardPlan) (v : View) → BoardMatches config board v → v.free ≡ free config h → HasRoomForPlan board p →
-    length (take (pairs_demanded p.plan) (free config h)) ≡ pairs_demanded p.plan
-enough_free config h board p v shows same room =
-    let pairs = room.pairs in
-    let count : length board.pool.free ≡ length (free config h) = ap length (shows.pool_for.free_is ∙ same) in
-    taken_length (pairs_demanded p.plan) (free config h) (omega (arith, pairs, count))
 
 apply_case : (config : Config) (h : List BoardEntry) (id : List ℕ) (ask : OfferAsk) (p : BoardPlan) (old board : Board) (v : View) → IsFitting config h → BoardMatches config board v →
     v.calls ≡ (view_of config h).calls → v.begun ≡ length (begun h) → length h < 2 ^ 56 → KeepsCalls old board → p.call ≡ (target_of config h id).of.number →

@@ -12,6 +12,8 @@ use Rattle.call_cell.specs.declared.prepare.Prepare as prepared
 use Rattle.call_cell.specs.Cells.{since_end, Prepare}
 use Rattle.call_cell.specs.Preparations.{PrepareFor, CanCome, added, parts_added}
 use Rattle.call_board.specs.Acts.{Offer, BoardEntry}
+use Rattle.call_board.specs.Boards.{leases_at}
+use Rattle.call_board.specs.Views.{View}
 use Rattle.call_board.specs.declared.board_plan.BoardPlan.{BoardPlan}
 use Rattle.media_ports.specs.Addresses.{AreLeased}
 use Rattle.media_ports.specs.declared.ends.PairEnds.{PairEnds}
@@ -27,7 +29,7 @@ use Rattle.board_turns.proofs.After.{IsElsewhere, gained_elsewhere, still_new, s
 use Rattle.board_turns.proofs.Nesting.{gains_more}
 use Rattle.offer_command.specs.LegBoxes.{leased_parts}
 use Rattle.offer_command.specs.Offers.{IsDue, offer_of, bringing_of}
-use Rattle.offer_command.proofs.Leased.{ports_of_legs}
+use Rattle.offer_command.proofs.Leased.{ports_of_legs, families_of_legs}
 
 -- the boxes of legs come after the cells
 pub not_cell : (config : Config) (cell : ℕ) (legs : List Holder) → cell ≤ config.max_sessions → (w : Owed) → In w (map (open_owed config) legs) → w.place ≡ cell → ⊥
@@ -52,16 +54,16 @@ module _ {M S T : Type 0} {g : _} where
 
   -- the offer can come
   pub can_prepare : {I O : Type 0} (config : Config) (number moment : ℕ) (old new : Hand M S Made T g) (id : List ℕ) (ask : OfferAsk) (p : BoardPlan) (draws : List (List ℕ))
-      (signal : prepared.Prepare O) (leases : List Lease) (opened : List (PairEnds I O)) (legs : List Holder) (call cell : ℕ) (keys : List NewKey) (dropped : List ℕ) →
+      (v : View) (pairs : List ℕ) (signal : prepared.Prepare O) (leases : List Lease) (opened : List (PairEnds I O)) (legs : List Holder) (call cell : ℕ) (keys : List NewKey) (dropped : List ℕ) →
       Orderly config (made_by old) → IsAbove (made_by old) 0 number → config.port_max < 2 ^ 16 → IsDue config (board_history (made_by old) number) id ask p draws →
       cell ≤ config.max_sessions → cell ≡ (offer_of config (board_history (made_by old) number) id ask draws).of.cell →
       call ≡ (offer_of config (board_history (made_by old) number) id ask draws).of.number →
       added signal ≡ (offer_of config (board_history (made_by old) number) id ask draws).legs →
       keys ≡ (offer_of config (board_history (made_by old) number) id ask draws).keys →
       dropped ≡ (offer_of config (board_history (made_by old) number) id ask draws).dropped →
-      AreLeased config leases → parts_added signal ≡ leased_parts leases opened → PrepareFor signal keys dropped →
+      leases ≡ leases_at config v pairs → AreLeased config leases → parts_added signal ≡ leased_parts leases opened → PrepareFor signal keys dropped →
       GainsNested number moment (map (open_owed config) legs) old new → CanPrepare config (made_by new) cell signal call keys dropped
-  can_prepare {I} {O} config number moment old new id ask p draws signal leases opened legs call cell keys dropped orderly above_board most d high cell_is call_is legs_are keys_are dropped_are leased parts stands gains =
+  can_prepare {I} {O} config number moment old new id ask p draws v pairs signal leases opened legs call cell keys dropped orderly above_board most d high cell_is call_is legs_are keys_are dropped_are is leased parts stands gains =
       still_comes config (made_by old) (made_by new) cell signal call keys dropped (cell_elsewhere config number moment cell legs old new high gains) comes
     where
       h : List BoardEntry
@@ -77,7 +79,8 @@ module _ {M S T : Type 0} {g : _} where
           (subst (λ (ks : List NewKey). CanCome config (since_end (cell_history (made_by old) o.of.cell k)) signal o.of.number ks dropped) (sym keys_are)
           (subst (λ (ds : List ℕ). CanCome config (since_end (cell_history (made_by old) o.of.cell k)) signal o.of.number o.keys ds) (sym dropped_are)
           (offer_can_come config (made_by old) orderly number k d.entry o above_board d.fits d.acts (subst (λ (c : ℕ). IsAbove (made_by old) c k) cell_is above) signal legs_are
-          (ports_of_legs config signal leases opened keys dropped most leased parts stands)))))
+          (ports_of_legs config v pairs signal leases opened keys dropped is parts stands most leased)
+          (families_of_legs config v pairs signal leases opened keys dropped is parts stands)))))
 
   -- what was opened and prepared is what the offer brings
   pub brought : (config : Config) (number moment : ℕ) (old mid new : Hand M S Made T g) (o : Offer) (legs : List Holder) (call cell : ℕ) (holders : List Holder) (keys : List NewKey) (dropped : List ℕ) →

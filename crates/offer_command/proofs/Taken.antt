@@ -1,7 +1,8 @@
 -- What the board takes in by the plan of an offer that is due.
-use Rattle.std.proofs.Common.{◌≡◌, ◌∙◌, refl, sym, ap, subst, ℕ, zero, suc, ◌≤◌, Bool, true, List, [], ◌∷◌, map, length, take, Option, Some, None, arith}
+use Rattle.std.proofs.Common.{◌≡◌, ◌∙◌, refl, sym, ap, subst, ℕ, ◌≤◌, Bool, true, List, [], ◌∷◌, map, length, length-append, Option, Some, None, arith}
+use Rattle.relay_outside.specs.declared.address.Family.{Family}
 use Rattle.relay_outside.specs.declared.settings.Config.{Config}
-use Rattle.port_pool.specs.Ports.{pair_port}
+use Rattle.port_pool.specs.Ports.{pair_port, pairs_of_family}
 use Rattle.port_pool.specs.declared.pairs.Lease as pairs
 use Rattle.port_pool.specs.declared.holder.Holder.{Holder}
 use Rattle.offer_answer.specs.Rounds.{Round, OfferAsk, NewLeg, KeyPlace}
@@ -13,10 +14,10 @@ use Rattle.offer_answer.specs.Plans.{OfferFilled}
 use Rattle.offer_answer.specs.PortsAndKeys.{AreDemandedLegs}
 use Rattle.offer_answer.specs.Nexts.{numbered_keys}
 use Rattle.call_board.specs.Acts.{Call, BoardEntry}
-use Rattle.call_board.specs.Pairs.{free, drawn_keys_from, leased_new_legs}
+use Rattle.call_board.specs.Pairs.{first_of, without_front, fronts, free, drawn_keys_from, leased_new_legs}
 use Rattle.call_board.specs.Fits.{IsFitting}
 use Rattle.call_board.specs.Views.{View, CallView, call_view, view_of, call_numbered}
-use Rattle.call_board.specs.Boards.{lease_at, front_leases}
+use Rattle.call_board.specs.Boards.{lease_at, leases_at}
 use Rattle.call_board.specs.Answers.{ending_error}
 use Rattle.call_board.specs.Plans.{BeginsFor, fault_or_shortage}
 use Rattle.call_board.specs.NextBoards.{IsNext, IsPlanOf, TakesRoundIn, taken_in}
@@ -36,17 +37,23 @@ legs_pairs h c [] legs less = refl
 legs_pairs h c (p ∷ ps) [] less = absurd (omega (arith, less))
 legs_pairs h c (p ∷ ps) (leg ∷ legs) less = ap (λ (qs : List ℕ). p ∷ qs) (legs_pairs h c ps legs (omega (arith, less)))
 
-take_less : (k : ℕ) (xs : List ℕ) → length (take k xs) ≤ k
-take_less zero [] = omega arith
-take_less zero (x ∷ xs) = omega arith
-take_less (suc k) [] = omega arith
-take_less (suc k) (x ∷ xs) = let rest = take_less k xs in omega (arith, rest)
+one_at_most : (xs : List ℕ) → length (first_of xs) ≤ 1
+one_at_most [] = omega arith
+one_at_most (x ∷ xs) = omega arith
+
+fronts_less : (lists : Family → List ℕ) (legs : List NewLeg) → length (fronts lists legs) ≤ length legs
+fronts_less lists [] = omega arith
+fronts_less lists (leg ∷ legs) =
+    let rest = fronts_less (without_front lists leg.family) legs in
+    let one = one_at_most (lists leg.family) in
+    let both = length-append (first_of (lists leg.family)) (fronts (without_front lists leg.family) legs) in
+    omega (arith, rest, one, both)
 
 -- the pairs of its legs are those that it leases
 pub pairs_of_legs : (config : Config) (h : List BoardEntry) (id : List ℕ) (ask : OfferAsk) (draws : List (List ℕ)) →
     map (λ (leg : Holder). leg.pair) (offer_of config h id ask draws).legs ≡ pairs_for config h id ask
 pairs_of_legs config h id ask draws =
-    legs_pairs h (target_of config h id).of (pairs_for config h id ask) (demand_of config h id ask).pairs (take_less (length (demand_of config h id ask).pairs) (free config h))
+    legs_pairs h (target_of config h id).of (pairs_for config h id ask) (demand_of config h id ask).pairs (fronts_less (pairs_of_family config (free config h)) (demand_of config h id ask).pairs)
 
 ports_by : (config : Config) (f : ℕ → ℕ) (ps : List ℕ) → rtp_ports (map (lease_at config f) ps) ≡ map (pair_port config) ps
 ports_by config f [] = refl
@@ -56,12 +63,12 @@ ports_at : (config : Config) (legs : List Holder) → map (λ (leg : Holder). pa
 ports_at config [] = refl
 ports_at config (leg ∷ legs) = ap (λ (qs : List ℕ). pair_port config leg.pair ∷ qs) (ports_at config legs)
 
-pub ports_are : (config : Config) (h : List BoardEntry) (id : List ℕ) (ask : OfferAsk) (draws : List (List ℕ)) (count : ℕ) (leases : List pairs.Lease) →
-    leases ≡ front_leases config (view_of config h) count → count ≡ length (demand_of config h id ask).pairs → rtp_ports leases ≡ ports_of_legs config (offer_of config h id ask draws)
-ports_are config h id ask draws count leases is same =
+pub ports_are : (config : Config) (h : List BoardEntry) (id : List ℕ) (ask : OfferAsk) (draws : List (List ℕ)) (those : List ℕ) (leases : List pairs.Lease) →
+    leases ≡ leases_at config (view_of config h) those → those ≡ pairs_for config h id ask → rtp_ports leases ≡ ports_of_legs config (offer_of config h id ask draws)
+ports_are config h id ask draws those leases is same =
     ap rtp_ports is
-    ∙ ports_by config (view_of config h).leases (take count (free config h))
-    ∙ ap (λ (n : ℕ). map (pair_port config) (take n (free config h))) same
+    ∙ ports_by config (view_of config h).leases those
+    ∙ ap (map (pair_port config)) same
     ∙ ap (map (pair_port config)) (sym (pairs_of_legs config h id ask draws))
     ∙ sym (ports_at config (offer_of config h id ask draws).legs)
 

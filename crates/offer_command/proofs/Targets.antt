@@ -13,7 +13,7 @@ use Rattle.call_board.specs.Calls.{begun, rounds}
 use Rattle.call_board.specs.Pairs.{drawn, drawn_keys_from}
 use Rattle.call_board.specs.Fits.{IsFitting}
 use Rattle.call_board.specs.Views.{view_of}
-use Rattle.call_board.specs.Boards.{front_leases}
+use Rattle.call_board.specs.Boards.{leases_at, fronts_for}
 use Rattle.call_board.specs.Plans.{OfferPlanFor}
 use Rattle.call_board.specs.Whole.{holders_of_new_legs}
 use Rattle.call_board.specs.declared.board_plan.BoardPlan.{BoardPlan}
@@ -21,8 +21,9 @@ use Rattle.call_board.proofs.Calls.{offered_live}
 use Rattle.call_board.proofs.Cells.{live_cell}
 use Rattle.call_board.proofs.Dues.{goes_on_with, begins_new, legs_leased_are}
 use Rattle.relay_core.proofs.CallRounds.{no_rounds}
+use Rattle.offer_command.specs.Leases.{planned_pairs}
 use Rattle.offer_command.specs.Legs.{LegsFor}
-use Rattle.offer_command.specs.Offers.{IsDue, target_of, demand_of, offer_of}
+use Rattle.offer_command.specs.Offers.{IsDue, target_of, demand_of, pairs_for, offer_of}
 
 rounds_case : (config : Config) (h : List BoardEntry) (id : List ℕ) → IsFitting config h → (b : Bool) → (target_of config h id).begins ≡ b →
     (target_of config h id).rounds ≡ rounds h (target_of config h id).of.number
@@ -51,16 +52,21 @@ pub keys_count : (config : Config) (h : List BoardEntry) (id : List ℕ) (ask : 
     key_count p.plan ≡ length (demand_of config h id ask).keys
 keys_count config h id ask p planned = sym (length-map p.plan.key_places.items key_asked) ∙ ap length planned.plan_for.demands.keys_are
 
+-- and leases the pairs that the board planned
+pub planned_are : (config : Config) (h : List BoardEntry) (id : List ℕ) (ask : OfferAsk) (p : BoardPlan) → OfferPlanFor config (target_of config h id) ask p →
+    planned_pairs config (view_of config h) p ≡ pairs_for config h id ask
+planned_are config h id ask p planned = ap (fronts_for config (view_of config h)) planned.plan_for.demands.pairs_are
+
 -- its legs are those that the leases give
 pub legs_are : (config : Config) (h : List BoardEntry) (id : List ℕ) (ask : OfferAsk) (p : BoardPlan) (draws : List (List ℕ)) (leases : List pairs.Lease) (legs : List Holder) →
-    OfferPlanFor config (target_of config h id) ask p → leases ≡ front_leases config (view_of config h) (pairs_demanded p.plan) → LegsFor p.plan p.call p.cell leases legs →
+    OfferPlanFor config (target_of config h id) ask p → leases ≡ leases_at config (view_of config h) (planned_pairs config (view_of config h) p) → LegsFor p.plan p.call p.cell leases legs →
     legs ≡ (offer_of config h id ask draws).legs
 legs_are config h id ask p draws leases legs planned is made =
     let of = (target_of config h id).of in
     let asked = demand_of config h id ask in
     made asked of planned.plan_for.demands (sym planned.call_is) (sym planned.cell_is)
-    ∙ ap (λ (ls : List pairs.Lease). holders_of_new_legs of ls asked.pairs) (is ∙ ap (front_leases config (view_of config h)) (pairs_count config h id ask p planned))
-    ∙ sym (legs_leased_are config h of (length asked.pairs) asked.pairs)
+    ∙ ap (λ (ls : List pairs.Lease). holders_of_new_legs of ls asked.pairs) (is ∙ ap (leases_at config (view_of config h)) (planned_are config h id ask p planned))
+    ∙ sym (legs_leased_are config h of (pairs_for config h id ask) asked.pairs)
 
 -- its keys are those that were drawn
 pub keys_are : (config : Config) (h : List BoardEntry) (id : List ℕ) (ask : OfferAsk) (p : BoardPlan) (draws : List (List ℕ)) (first : ℕ) (keys : List NewKey) →

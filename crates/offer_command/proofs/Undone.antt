@@ -1,6 +1,5 @@
 -- An offer that is undone did what its entry owes.
-use Rattle.std.proofs.Common.{◌≡◌, ◌∙◌, refl, sym, ap, subst, ℕ, true, cond, not, filter, List, [], ◌∷◌, ◌++◌, map, length, take, Option}
-use Rattle.std.proofs.lemmas.List.{length-map}
+use Rattle.std.proofs.Common.{◌≡◌, ◌∙◌, refl, sym, ap, subst, ℕ, true, cond, not, filter, List, [], ◌∷◌, ◌++◌, map, length, Option}
 use Rattle.relay_outside.specs.declared.ports.PortCall.{PortCall}
 use Rattle.relay_outside.specs.declared.settings.Config.{Config}
 use Rattle.ng_reply.specs.declared.code.ErrorCode.{ErrorCode}
@@ -11,11 +10,10 @@ use Rattle.offer_answer.specs.Rounds.{OfferAsk}
 use Rattle.call_board.specs.Acts as act
 use Rattle.call_board.specs.Acts.{Act, Call, Lease, BoardEvent, Turn, Tick, Stop, BoardEntry}
 use Rattle.call_board.specs.Calls.{ended_by_act}
-use Rattle.call_board.specs.Pairs.{held, free, next_lease, closes_leg_act, legs_of_act}
+use Rattle.call_board.specs.Pairs.{held, closes_leg_act, legs_of_act}
 use Rattle.call_board.specs.declared.board.Board.{Board}
-use Rattle.call_board.specs.Views.{View, view_of, view_at_moment, with_leases, with_returned}
+use Rattle.call_board.specs.Views.{View, view_of, view_at_moment}
 use Rattle.call_board.specs.Boards.{BoardMatches}
-use Rattle.call_board.specs.Whole.{with_draws}
 use Rattle.call_board.proofs.FreeAfter.{pairs_leased}
 use Rattle.relay_core.specs.Entries.{board_history}
 use Rattle.relay_core.specs.Records.{Made}
@@ -53,12 +51,11 @@ script_case config h now (Stop calls) code leases draws is = absurd (let e = is 
 
 module _ {M I O T : Type 0} {g : _} where
   pub does_undone : (config : Config) (hand : Hand M (Part I O) Made T g) (entry_id : BoardEntryId) (e : BoardEntry) (board : Board) (log : Option (List PortCall)) (id : List ℕ) (ask : OfferAsk) (code : ErrorCode)
-      (draws : List (List ℕ)) (count : ℕ) → act.act e ≡ act.Undone code (undone_leases config (board_history (made_by hand) entry_id.number) id ask) draws →
-      pairs_for config (board_history (made_by hand) entry_id.number) id ask ≡ take count (free config (board_history (made_by hand) entry_id.number)) →
-      length (take count (free config (board_history (made_by hand) entry_id.number))) ≡ count →
-      BoardMatches config board (with_undone (view_at_moment (view_of config (board_history (made_by hand) entry_id.number)) entry_id.moment) count (length draws)) →
+      (draws : List (List ℕ)) (pairs : List ℕ) → act.act e ≡ act.Undone code (undone_leases config (board_history (made_by hand) entry_id.number) id ask) draws →
+      pairs_for config (board_history (made_by hand) entry_id.number) id ask ≡ pairs →
+      BoardMatches config board (with_undone (view_at_moment (view_of config (board_history (made_by hand) entry_id.number)) entry_id.moment) pairs (length draws)) →
       LogsHeld config log (leg_pairs (held (board_history (made_by hand) entry_id.number))) → DoesAct config hand hand entry_id e board log
-  does_undone config hand entry_id e board log id ask code draws count acts pairs_are enough shows opens = record {
+  does_undone config hand entry_id e board log id ask code draws pairs acts pairs_are shows opens = record {
     gained = subst (λ (ws : List Owed). GainsNested entry_id.number entry_id.moment ws hand hand)
         (sym (script_case config h e.moment e.event code (undone_leases config h id ask) draws acts)) (gains_nothing entry_id.number entry_id.moment hand);
     shows = subst (λ (w : View). BoardMatches config board w) (sym same) shows;
@@ -71,13 +68,8 @@ module _ {M I O T : Type 0} {g : _} where
       v : View
       v = view_at_moment (view_of config h) entry_id.moment
 
-      leases_count : length (undone_leases config h id ask) ≡ count
-      leases_count = length-map (pairs_for config h id ask) (next_lease h) ∙ ap length pairs_are ∙ enough
-
-      leases_pairs : map (λ (lease : Lease). lease.pair) (undone_leases config h id ask) ≡ take count (free config h)
+      leases_pairs : map (λ (lease : Lease). lease.pair) (undone_leases config h id ask) ≡ pairs
       leases_pairs = pairs_leased h (pairs_for config h id ask) ∙ pairs_are
 
-      same : acted h e (act.act e) v ≡ with_undone v count (length draws)
-      same = ap (λ (a : Act). acted h e a v) acts
-          ∙ ap (λ (n : ℕ). with_returned (with_draws (with_leases v n) (length draws)) (map (λ (lease : Lease). lease.pair) (undone_leases config h id ask))) leases_count
-          ∙ ap (with_returned (with_draws (with_leases v count) (length draws))) leases_pairs
+      same : acted h e (act.act e) v ≡ with_undone v pairs (length draws)
+      same = ap (λ (a : Act). acted h e a v) acts ∙ ap (λ (ps : List ℕ). with_undone v ps (length draws)) leases_pairs

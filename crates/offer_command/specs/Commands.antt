@@ -11,7 +11,7 @@ use Rattle.sdes_lines.specs.declared.crypto_line.CryptoLine.{CryptoLine}
 use Rattle.offer_answer.specs.Rounds.{OfferAsk}
 use Rattle.call_board.specs.Acts.{BoardEntry}
 use Rattle.call_board.specs.Answers.{offer_ask}
-use Rattle.call_board.specs.Requests.{sdp_error}
+use Rattle.call_board.specs.Requests.{sdp_error_for}
 use Rattle.call_board.specs.Replies.{Reply, reply_datagram}
 use Rattle.offer_command.specs.declared.lease.LeaseFault.{LeaseFault}
 use Rattle.offer_command.specs.declared.lease.LeaseFault.TheVariants.{Port, Key}
@@ -29,11 +29,11 @@ offer_says input = Offer input.call_id.list input.from_tag.list input.sdp.list i
 abbrev pub ask_of_offer : OfferIn → List (Option CryptoLine) → OfferAsk
 ask_of_offer input chosen = offer_ask input.from_tag.list input.sdp.list input.options chosen
 
--- no reply is kept for the datagram, by its dictionary it asks for this offer, and the description of that has no error
+-- no reply is kept for the datagram, by its dictionary it asks for this offer, and neither the family of that nor its description has an error
 pub record AsksForOffer (config : Config) (h : List BoardEntry) (moment : ℕ) (request : Request) (pairs : Option Entries) (input : OfferIn) : Type 0 where
   pub anew : IsAnew h moment request
   pub asking : IsAsking request pairs (offer_says input)
-  pub fine : sdp_error config input.sdp.list ≡ None
+  pub fine : sdp_error_for config input.options.family input.sdp.list ≡ None
 
 -- How it is carried out.
 

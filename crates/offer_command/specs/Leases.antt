@@ -2,15 +2,16 @@
 use Rattle.std.specs.Prelude.{◌≤◌, ◌+◌, ◌^◌, ℕ, Option, List}
 use Rattle.relay_outside.specs.declared.ports.PortCall.{PortCall}
 use Rattle.relay_outside.specs.declared.settings.Config.{Config}
+use Rattle.relay_outside.specs.Settings.{AreFamilies}
 use Rattle.port_pool.specs.Ports as ports
 use Rattle.port_pool.specs.Pools.{AreFree}
 use Rattle.media_ports.specs.OpenPorts.{LogsHeld, AreOthers}
-use Rattle.offer_answer.specs.Offers.{pairs_demanded, key_count}
+use Rattle.offer_answer.specs.Offers.{pairs_demanded, legs_demanded, key_count}
 use Rattle.call_board.specs.declared.board.Board.{Board}
 use Rattle.call_board.specs.declared.board_plan.BoardPlan.{BoardPlan}
 use Rattle.call_board.specs.Plans.{HasRoomForPlan}
 use Rattle.call_board.specs.Views.{View, with_leases}
-use Rattle.call_board.specs.Boards.{BoardMatches}
+use Rattle.call_board.specs.Boards.{BoardMatches, fronts_for}
 use Rattle.call_board.specs.Whole.{with_draws}
 
 -- how many pairs and keys the plan demands
@@ -20,10 +21,15 @@ pairs_of_plan p = pairs_demanded p.plan
 abbrev pub keys_of_plan : BoardPlan → ℕ
 keys_of_plan p = key_count p.plan
 
+-- the pairs that it leases by what the board keeps: for each leg the pair of its family that has been free for longest
+abbrev pub planned_pairs : Config → View → BoardPlan → List ℕ
+planned_pairs config v p = fronts_for config v (legs_demanded p.plan)
+
 -- The board has the room and the pairs that the plan demands, the free pairs are pairs of the configuration, each once, and
--- neither the leases of a pair nor the drawn keys reach the end of their count. Where the port maker tells, just the ports of
--- some pairs are open, no free one among them
+-- neither the leases of a pair nor the drawn keys reach the end of their count. The interfaces are of the families that they
+-- serve. Where the port maker tells, just the ports of some pairs are open, no free one among them
 pub record CanLease (config : Config) (board : Board) (log : Option (List PortCall)) (p : BoardPlan) : Type 0 where
+  pub families : AreFamilies config
   pub room : HasRoomForPlan board p
   pub view : View
   pub shows : BoardMatches config board view
@@ -34,6 +40,6 @@ pub record CanLease (config : Config) (board : Board) (log : Option (List PortCa
   pub opens : LogsHeld config log held
   pub apart : AreOthers held view.free
 
--- what the board keeps once it leased that many pairs and that many keys were drawn
-abbrev pub with_taken : View → (pairs keys : ℕ) → View
+-- what the board keeps once it leased these pairs and that many keys were drawn
+abbrev pub with_taken : View → (pairs : List ℕ) → (keys : ℕ) → View
 with_taken v pairs keys = with_draws (with_leases v pairs) keys

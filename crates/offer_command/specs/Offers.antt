@@ -1,5 +1,5 @@
 -- The offer that the board's next entry accepts: which one it is, and when it is due.
-use Rattle.std.specs.Prelude.{◌≡◌, ◌&&◌, ◌==◌, ℕ, List, [], ◌∷◌, ◌++◌, Ok, filter, length, map, take, if◌then◌else◌}
+use Rattle.std.specs.Prelude.{◌≡◌, ◌&&◌, ◌==◌, ℕ, List, [], ◌∷◌, ◌++◌, Ok, filter, length, map, if◌then◌else◌}
 use Rattle.relay_outside.specs.declared.settings.Config.{Config}
 use Rattle.sdp_text.specs.Lines.{lines_of}
 use Rattle.histories.specs.Words.{has}
@@ -11,9 +11,10 @@ use Rattle.offer_answer.specs.Rounds as round
 use Rattle.offer_answer.specs.Plan.{demand, offer_text}
 use Rattle.offer_answer.specs.Offers.{key_count}
 use Rattle.call_board.specs.Acts.{Lease, Offer, Offered, BoardEntry, act}
-use Rattle.call_board.specs.Pairs.{drawn, free, held, next_lease, drawn_keys_from, leased_new_legs}
+use Rattle.call_board.specs.Pairs.{drawn, held, next_lease, drawn_keys_from, leased_new_legs}
 use Rattle.call_board.specs.Fits.{FitsBoard}
 use Rattle.call_board.specs.Views.{View, view_of, view_at_moment, with_leases}
+use Rattle.call_board.specs.Boards.{fronts_for}
 use Rattle.call_board.specs.Whole.{with_draws, with_first, with_more}
 use Rattle.call_board.specs.Plans.{Target, target, PlansOffer}
 use Rattle.call_board.specs.declared.board_plan.BoardPlan.{BoardPlan}
@@ -31,9 +32,9 @@ target_of config h id = target (view_of config h) id
 abbrev pub demand_of : Config → List BoardEntry → (id : List ℕ) → OfferAsk → Demand
 demand_of config h id ask = demand (target_of config h id).rounds ask
 
--- the pairs that it leases, from the front of the free ones
+-- the pairs that it leases: for each new leg the pair of its family that has been free for longest
 abbrev pub pairs_for : Config → List BoardEntry → (id : List ℕ) → OfferAsk → List ℕ
-pairs_for config h id ask = take (length (demand_of config h id ask).pairs) (free config h)
+pairs_for config h id ask = fronts_for config (view_of config h) (demand_of config h id ask).pairs
 
 -- the accepted offer, where these keys were drawn for it
 abbrev pub offer_of : Config → List BoardEntry → (id : List ℕ) → OfferAsk → (draws : List (List ℕ)) → Offer
@@ -83,8 +84,8 @@ ports_of_legs config o = map (λ leg. pair_port config leg.pair) o.legs
 abbrev pub offered_text : Config → List BoardEntry → (id : List ℕ) → Offer → List ℕ
 offered_text config h id o = offer_text config (target_of config h id).rounds o.ask (ports_of_legs config o) o.keys
 
--- what the board keeps at that moment, once that many pairs were leased and that many keys drawn
-abbrev pub leased_view : Config → List BoardEntry → (moment pairs keys : ℕ) → View
+-- what the board keeps at that moment, once these pairs were leased and that many keys drawn
+abbrev pub leased_view : Config → List BoardEntry → (moment : ℕ) → (pairs : List ℕ) → (keys : ℕ) → View
 leased_view config h moment pairs keys = with_draws (with_leases (view_at_moment (view_of config h) moment) pairs) keys
 
 -- the offer is taken in at that moment, as the first one of its call or as one more

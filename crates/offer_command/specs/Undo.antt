@@ -1,5 +1,5 @@
 -- An offer that is undone: what it gives back, and what the port maker and the key source were asked.
-use Rattle.std.specs.Prelude.{◌≡◌, ◌<◌, ◌*◌, ◌++◌, ℕ, Bool, true, false, Option, List, [], ◌∷◌, length, replicate, take}
+use Rattle.std.specs.Prelude.{◌≡◌, ◌<◌, ◌*◌, ◌++◌, ℕ, Bool, true, false, Option, List, [], ◌∷◌, length, replicate}
 use Rattle.std.specs.List.{AllZip}
 use Rattle.relay_outside.specs.declared.address.Addr.{Addr}
 use Rattle.relay_outside.specs.declared.keys.KeyCall.{KeyCall}
@@ -23,10 +23,10 @@ abbrev pub opens_before : (pairs : ℕ) → LeaseFault → List Bool
 opens_before pairs (Port opened) = replicate opened true ++ false ∷ []
 opens_before pairs (Key drawn) = replicate (2 * pairs) true
 
--- what the board keeps once an offer that leased that many pairs and drew that many keys is undone: the keys are used up, the
--- pairs wait after all that were free
-abbrev pub with_undone : View → (pairs keys : ℕ) → View
-with_undone v pairs keys = with_returned (with_taken v pairs keys) (take pairs v.free)
+-- what the board keeps once an offer that leased these pairs and drew that many keys is undone: the keys are used up, the pairs
+-- wait after all that were free
+abbrev pub with_undone : View → (pairs : List ℕ) → (keys : ℕ) → View
+with_undone v pairs keys = with_returned (with_taken v pairs keys) pairs
 
 -- not all of the ports were opened, or not all of the keys drawn
 abbrev pub ComesEarly : (pairs keys : ℕ) → LeaseFault → Type 0

@@ -5,11 +5,11 @@ ghost use Rattle.offer_answer.specs.Rounds.{OfferAsk};
 ghost use Rattle.offer_answer.specs.Offers.{pairs_demanded, key_count};
 ghost use Rattle.offer_answer.specs.Widths.{WritesFrom};
 ghost use Rattle.call_board.specs.Plans.{HasRoomForPlan};
-ghost use Rattle.call_board.specs.Pairs.{free};
+ghost use Rattle.call_board.specs.Views.{view_of};
 ghost use Rattle.media_ports.specs.Openings.{OpensAt};
 ghost use Rattle.media_ports.specs.Draws.{AreDrawn};
 ghost use Rattle.board_turns.specs.BoardTurns.{Begins, Works, past_of};
-ghost use Rattle.offer_command.specs.Leases.{pairs_of_plan, keys_of_plan};
+ghost use Rattle.offer_command.specs.Leases.{pairs_of_plan, keys_of_plan, planned_pairs};
 ghost use Rattle.offer_command.specs.Undo.{ComesEarly, DrawsBefore, HasRisen, opens_before};
 ghost use Rattle.offer_command.specs.Offers.{CanOffer};
 ghost use Rattle.offer_command.specs.Brings.{HasOfferRoom};
@@ -71,14 +71,14 @@ pub fn offer_act<P: PortMaker, K: KeySource, R: Wait>(
     ensures within { IfOk result (λ accepted. length accepted.text.list ≤ offer.entry.plan.plan.reply_len) }
     ensures count { IfOk result (λ accepted. length accepted.drawn.list ≡ key_count offer.entry.plan.plan) }
     ensures opens { let config = turn.old.main.config.now in
-        IfOk result (λ accepted. Gained (P.log turn.old.ports.now) (P.log turn.new.ports.now) (OpensAt config (free config (past_of turn.old.main)) (replicate (2 * pairs_demanded offer.entry.plan.plan) true))) }
+        IfOk result (λ accepted. Gained (P.log turn.old.ports.now) (P.log turn.new.ports.now) (OpensAt config (planned_pairs config (view_of config (past_of turn.old.main)) offer.entry.plan) (replicate (2 * pairs_demanded offer.entry.plan.plan) true))) }
     ensures draws { IfOk result (λ accepted. Gained (K.log keys.old) (K.log keys.new) (AreDrawn accepted.drawn.list)) }
 
     // One that is undone does what its entry owes.
     ensures undoes { IfErr result (Undoes P.log turn.old turn.new offer.entry.sdp.now offer.entry.plan) }
     ensures early { IfErr result (ComesEarly (pairs_of_plan offer.entry.plan) (keys_of_plan offer.entry.plan)) }
     ensures opens_before { let config = turn.old.main.config.now in
-        IfErr result (λ fault. Gained (P.log turn.old.ports.now) (P.log turn.new.ports.now) (OpensAt config (free config (past_of turn.old.main)) (opens_before (pairs_demanded offer.entry.plan.plan) fault))) }
+        IfErr result (λ fault. Gained (P.log turn.old.ports.now) (P.log turn.new.ports.now) (OpensAt config (planned_pairs config (view_of config (past_of turn.old.main)) offer.entry.plan) (opens_before (pairs_demanded offer.entry.plan.plan) fault))) }
     ensures draws_before { IfErr result (λ fault. DrawsBefore fault (K.log keys.old) (K.log keys.new)) }
     ensures cause { IfErr result (λ fault. HasRisen fault (P.faults turn.old.ports.now) (P.faults turn.new.ports.now) (K.faults keys.old) (K.faults keys.new)) }
 {

@@ -6,7 +6,7 @@ ghost use Rattle.port_pool.specs.Signals.{NewKey};
 ghost use Rattle.offer_answer.specs.Rounds.{Round, OfferAsk, Demand};
 ghost use Rattle.offer_answer.specs.Plan.{demand};
 ghost use Rattle.offer_answer.specs.Offers.{PlanFor, pairs_demanded, key_count};
-ghost use Rattle.call_board.specs.Boards.{front_leases};
+ghost use Rattle.call_board.specs.Boards.{leases_at};
 ghost use Rattle.call_board.specs.Pairs.{drawn_keys_from};
 ghost use Rattle.call_board.specs.Views.{view_of};
 ghost use Rattle.call_cell.specs.Preparations.{PrepareFor, key_room};
@@ -18,6 +18,7 @@ ghost use Rattle.board_turns.specs.BoardTurns.{CanNest, MakesNested, Nests, hand
 ghost use Rattle.board_turns.specs.Departures.{AreLeasesOf};
 ghost use Rattle.board_turns.specs.Ties.{LegsLeave};
 ghost use Rattle.offer_command.specs.Brings.{HasLegRoom};
+ghost use Rattle.offer_command.specs.Leases.{planned_pairs};
 ghost use Rattle.offer_command.specs.PreparedLegs.{SameLegs, drawn_key};
 ghost use Rattle.offer_command.specs.Offers.{IsDue, next_key_number, offer_of, dropped_legs, bringing_of};
 
@@ -115,10 +116,11 @@ pub(crate) fn prepare_offer<I: InEnd, O: OutEnd, R: Wait>(
     requires above { IsAbove (hand_list main.old) 0 main.old.entry_id.number }
     requires orderly { Orderly main.old.config.now (hand_list main.old) }
     requires due { (id : List ℕ) × (ask : OfferAsk) × IsDue main.old.config.now (past_of main.old) id ask taken.now.plan taken.now.drawn.list }
-    requires leases { pairs.leases.list ≡ front_leases main.old.config.now (view_of main.old.config.now (past_of main.old)) (pairs_demanded taken.now.plan.plan) }
+    requires leases { let v = view_of main.old.config.now (past_of main.old) in
+        pairs.leases.list ≡ leases_at main.old.config.now v (planned_pairs main.old.config.now v taken.now.plan) }
     requires count { length pairs.leases.list ≡ pairs_demanded taken.now.plan.plan }
     requires opened { length pairs.opened.list ≡ pairs_demanded taken.now.plan.plan }
-    requires ends { ArePairsOpened I.log O.log main.old.config.now.interface pairs.leases.list pairs.opened.list }
+    requires ends { ArePairsOpened I.log O.log main.old.config.now pairs.leases.list pairs.opened.list }
     requires first { taken.now.first_key ≡ next_key_number (past_of main.old) }
     requires low { taken.now.first_key ≤ 2 ^ 63 }
     requires keys { length taken.now.drawn.list ≡ key_count taken.now.plan.plan }

@@ -2,9 +2,9 @@
 ghost use Rattle.std.specs.Prelude.{◌≤◌, ◌<◌, ◌^◌, Option, length};
 ghost use Rattle.ng_bencode.specs.Tree.{Entries};
 ghost use Rattle.ng_command.specs.Meanings.{Offer};
-ghost use Rattle.call_board.specs.Pairs.{free};
 ghost use Rattle.board_turns.specs.BoardTurns.{Begins, CarriesOut, Works, past_of};
 ghost use Rattle.board_turns.specs.Commands.{record_by};
+ghost use Rattle.board_turns.specs.Controls.{entry_pairs};
 ghost use Rattle.board_turns.specs.DeviceAnswers.{given_by, IsGivenBy};
 ghost use Rattle.board_turns.specs.PlainReplies.{IsAnew, IsAsking};
 
@@ -34,7 +34,8 @@ pub fn offer<P: PortMaker, K: KeySource, R: Wait>(
     ensures carries { (pairs : Option Entries) → IsAsking asked.now.request.now pairs (Offer asked.now.input.now.call_id.list asked.now.input.now.from_tag.list asked.now.input.now.sdp.list asked.now.input.now.options) →
         CarriesOut P.log turn.old turn.new (record_by asked.now.request.now pairs result) result.reply }
     ensures later { K.faults keys.old ≤ K.faults keys.new }
-    ensures given { IsGivenBy turn.old.main.config.now (free turn.old.main.config.now (past_of turn.old.main)) (given_by result.device_answers) (P.faults turn.old.ports.now) (P.faults turn.new.ports.now)
+    ensures given { (pairs : Option Entries) → IsAsking asked.now.request.now pairs (Offer asked.now.input.now.call_id.list asked.now.input.now.from_tag.list asked.now.input.now.sdp.list asked.now.input.now.options) →
+        IsGivenBy turn.old.main.config.now (entry_pairs turn.old.main.config.now (past_of turn.old.main) turn.old.main.entry_id.moment (record_by asked.now.request.now pairs result)) (given_by result.device_answers) (P.faults turn.old.ports.now) (P.faults turn.new.ports.now)
         (K.faults keys.old) (K.faults keys.new) (P.log turn.old.ports.now) (P.log turn.new.ports.now) (K.log keys.old) (K.log keys.new) }
 {
     let AskedCommand {
@@ -42,7 +43,8 @@ pub fn offer<P: PortMaker, K: KeySource, R: Wait>(
         input,
         alloc,
     } = *asked;
-    let sdp = match read_description(alloc, turn.main.config, input.sdp.as_slice()) {
+    let family = input.options.family;
+    let sdp = match read_description(alloc, turn.main.config, family, input.sdp.as_slice()) {
         Ok(sdp) => sdp,
         Err(fault) => return misdescribed(alloc, request, fault),
     };

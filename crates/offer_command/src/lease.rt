@@ -2,25 +2,28 @@
 ghost use Rattle.std.specs.Prelude.{◌≡◌, ◌≤◌, ◌<◌, ◌+◌, ◌*◌, ◌^◌, ℕ, List, [], length, IfOk, IfErr, OnOk, OnErr};
 ghost use Rattle.relay_outside.specs.declared.settings.Config.{Config};
 ghost use Rattle.relay_outside.specs.DeviceLogs.{Gained, WhereLogged};
-ghost use Rattle.media_ports.specs.Addresses.{addresses_of, ports_of, ArePorts};
+ghost use Rattle.relay_outside.specs.Settings.{AreFamilies};
+ghost use Rattle.port_pool.specs.Ports.{pair_count};
+ghost use Rattle.port_pool.specs.Pools.{AreFree};
+ghost use Rattle.media_ports.specs.Addresses.{addresses_of, AreLeased};
 ghost use Rattle.media_ports.specs.Calls.{OpensPairs, NoneOpen, SameOpen, WhereBothLogged};
 ghost use Rattle.media_ports.specs.Draws.{AreDrawn};
 ghost use Rattle.media_ports.specs.Ends.{ArePairsOpened};
 ghost use Rattle.media_ports.specs.ReturnedEnds.{GivesBackUncalled};
 ghost use Rattle.media_ports.specs.OpenPorts.{LogsHeld, HasBoth};
-ghost use Rattle.call_board.specs.Boards.{BoardMatches, KeepsCalls, KeepsReplies, front_leases, pairs_in};
+ghost use Rattle.call_board.specs.Boards.{BoardMatches, KeepsCalls, KeepsReplies, leases_at, pairs_in};
 ghost use Rattle.call_board.specs.Plans.{leased};
 ghost use Rattle.call_board.specs.Views.{View};
 ghost use Rattle.call_board.specs.Whole.{with_draws};
 ghost use Rattle.offer_command.specs.Brings.{HasLeaseRoom, rtp_ports};
-ghost use Rattle.offer_command.specs.Leases.{CanLease, pairs_of_plan, keys_of_plan, with_taken};
+ghost use Rattle.offer_command.specs.Leases.{CanLease, pairs_of_plan, keys_of_plan, planned_pairs, with_taken};
 ghost use Rattle.offer_command.specs.Undo.{ComesEarly, DrawsBefore, HasRisen, UndoesPorts, keys_before, with_undone};
 
 use crate::description::list_ports;
 use call_board::{Board, BoardPlan};
 use media_ports::{DrawnList, OpenedPairs, close_opened, draw_keys, open_pairs};
 use port_pool::Leases;
-use relay_outside::{Config, Ip, KeySource, PortMaker};
+use relay_outside::{Config, KeySource, PortMaker};
 
 /// Why an offer was undone.
 #[derive(Drop)]
@@ -115,24 +118,25 @@ fn count_draws(board: &mut Board, count: usize)
 fn open_and_draw<P: PortMaker, K: KeySource>(
     ports: &mut P,
     keys: &mut K,
-    interface: Ip,
+    config: &Config,
     leases: &Leases,
     count: usize,
     room: LeaseRoom<P::In, P::Out>,
 ) -> Result<LeaseRoom<P::In, P::Out>, LeaseFault>
     requires opened { (room.opened.list ≡ []) × (length leases.now.list ≤ room.opened.room) }
     requires drawn { (room.drawn.list ≡ []) × (count ≤ room.drawn.room) }
-    requires ports { ArePorts (ports_of leases.now.list) }
-    requires closed { WhereLogged (P.log ports.old) (NoneOpen (addresses_of interface leases.now.list)) }
+    requires families { AreFamilies config.now }
+    requires leased { AreLeased config.now leases.now.list }
+    requires closed { WhereLogged (P.log ports.old) (NoneOpen (addresses_of config.now leases.now.list)) }
 
-    ensures opens { OnOk result (Gained (P.log ports.old) (P.log ports.new) (OpensPairs interface leases.now.list)) }
+    ensures opens { OnOk result (Gained (P.log ports.old) (P.log ports.new) (OpensPairs config.now leases.now.list)) }
     ensures pairs { IfOk result (λ taken. length taken.opened.list ≡ length leases.now.list) }
-    ensures are_opened { IfOk result (λ taken. ArePairsOpened P.In.log P.Out.log interface leases.now.list taken.opened.list) }
+    ensures are_opened { IfOk result (λ taken. ArePairsOpened P.In.log P.Out.log config.now leases.now.list taken.opened.list) }
     ensures draws { IfOk result (λ taken. Gained (K.log keys.old) (K.log keys.new) (AreDrawn taken.drawn.list)) }
     ensures count { IfOk result (λ taken. length taken.drawn.list ≡ count) }
     ensures rest { IfOk result (λ taken. taken.numbers ≡ room.numbers) }
 
-    ensures closes { IfErr result (λ fault. Gained (P.log ports.old) (P.log ports.new) (UndoesPorts (addresses_of interface leases.now.list) fault)) }
+    ensures closes { IfErr result (λ fault. Gained (P.log ports.old) (P.log ports.new) (UndoesPorts (addresses_of config.now leases.now.list) fault)) }
     ensures early { IfErr result (ComesEarly (length leases.now.list) count) }
     ensures same { OnErr result (WhereBothLogged (P.log ports.old) (P.log ports.new) SameOpen) }
     ensures draws_before { IfErr result (λ fault. DrawsBefore fault (K.log keys.old) (K.log keys.new)) }
@@ -144,14 +148,14 @@ fn open_and_draw<P: PortMaker, K: KeySource>(
         numbers,
         mut drawn,
     } = room;
-    if let Err(fault) = open_pairs(ports, interface, leases, &mut opened) {
+    if let Err(fault) = open_pairs(ports, config, leases, &mut opened) {
         opened.destroy_empty();
         return Err(LeaseFault::Port {
             opened: fault.opened,
         });
     }
     if draw_keys(keys, count, &mut drawn).is_err() {
-        close_opened(ports, interface, leases, &mut opened);
+        close_opened(ports, config, leases, &mut opened);
         opened.destroy_empty();
         return Err(LeaseFault::Key { drawn });
     }
@@ -162,8 +166,8 @@ fn open_and_draw<P: PortMaker, K: KeySource>(
     })
 }
 
-/// Takes what a plan of an offer demands: leases its pairs from the front of the free ones, opens their ports pair by pair, that
-/// for RTP first, and draws and numbers its keys. It takes no memory: the lists are empty, and have room.
+/// Takes what a plan of an offer demands: leases its pairs, for each leg the one of its family that has been free for longest, opens
+/// their ports pair by pair, that for RTP first, and draws and numbers its keys. It takes no memory: the lists are empty, and have room.
 /// The plan is that of the last call on this board which planned or changed anything.
 ///
 /// After a fault all of it is undone: the ports that were opened are closed in the order of their openings and the pairs wait
@@ -180,14 +184,16 @@ pub fn lease_offer<P: PortMaker, K: KeySource>(
     requires room { HasLeaseRoom plan.plan room }
 
     // What the plan demands is leased, opened, drawn and numbered.
-    ensures taken { IfOk result (λ took. (v : View) → BoardMatches config.now board.old v → BoardMatches config.now board.new (with_taken v (pairs_of_plan plan) (length took.plan.drawn.list))) }
+    ensures taken { IfOk result (λ took. (v : View) → BoardMatches config.now board.old v → AreFree (pair_count config.now) v.free →
+        BoardMatches config.now board.new (with_taken v (planned_pairs config.now v plan) (length took.plan.drawn.list))) }
     ensures plan { IfOk result (λ took. took.plan.plan ≡ leased plan) }
-    ensures leases { IfOk result (λ took. (v : View) → BoardMatches config.now board.old v → took.pairs.leases.list ≡ front_leases config.now v (pairs_of_plan plan)) }
+    ensures leases { IfOk result (λ took. (v : View) → BoardMatches config.now board.old v → AreFree (pair_count config.now) v.free →
+        took.pairs.leases.list ≡ leases_at config.now v (planned_pairs config.now v plan)) }
     ensures pairs { IfOk result (λ took. length took.pairs.leases.list ≡ pairs_of_plan plan) }
     ensures ports { IfOk result (λ took. took.plan.numbers.items ≡ rtp_ports took.pairs.leases.list) }
     ensures opened { IfOk result (λ took. length took.pairs.opened.list ≡ length took.pairs.leases.list) }
-    ensures are_opened { IfOk result (λ took. ArePairsOpened P.In.log P.Out.log config.now.interface took.pairs.leases.list took.pairs.opened.list) }
-    ensures opens { IfOk result (λ took. Gained (P.log ports.old) (P.log ports.new) (OpensPairs config.now.interface took.pairs.leases.list)) }
+    ensures are_opened { IfOk result (λ took. ArePairsOpened P.In.log P.Out.log config.now took.pairs.leases.list took.pairs.opened.list) }
+    ensures opens { IfOk result (λ took. Gained (P.log ports.old) (P.log ports.new) (OpensPairs config.now took.pairs.leases.list)) }
     ensures are_open { IfOk result (λ took. (held now : List ℕ) → LogsHeld config.now (P.log ports.old) held → HasBoth held (pairs_in took.pairs.leases.list) now → LogsHeld config.now (P.log ports.new) now) }
     ensures keys { IfOk result (λ took. length took.plan.drawn.list ≡ keys_of_plan plan) }
     ensures draws { IfOk result (λ took. Gained (K.log keys.old) (K.log keys.new) (AreDrawn took.plan.drawn.list)) }
@@ -195,10 +201,11 @@ pub fn lease_offer<P: PortMaker, K: KeySource>(
     ensures low { IfOk result (λ took. took.plan.first_key ≤ 2 ^ 63) }
 
     // After a fault all of it is undone, but for the keys that were drawn.
-    ensures undone { IfErr result (λ fault. (v : View) → BoardMatches config.now board.old v → BoardMatches config.now board.new (with_undone v (pairs_of_plan plan) (length (keys_before fault)))) }
+    ensures undone { IfErr result (λ fault. (v : View) → BoardMatches config.now board.old v → AreFree (pair_count config.now) v.free →
+        BoardMatches config.now board.new (with_undone v (planned_pairs config.now v plan) (length (keys_before fault)))) }
     ensures early { IfErr result (ComesEarly (pairs_of_plan plan) (keys_of_plan plan)) }
-    ensures closes { IfErr result (λ fault. (v : View) → BoardMatches config.now board.old v →
-        Gained (P.log ports.old) (P.log ports.new) (UndoesPorts (addresses_of config.now.interface (front_leases config.now v (pairs_of_plan plan))) fault)) }
+    ensures closes { IfErr result (λ fault. (v : View) → BoardMatches config.now board.old v → AreFree (pair_count config.now) v.free →
+        Gained (P.log ports.old) (P.log ports.new) (UndoesPorts (addresses_of config.now (leases_at config.now v (planned_pairs config.now v plan))) fault)) }
     ensures same { OnErr result (WhereBothLogged (P.log ports.old) (P.log ports.new) SameOpen) }
     ensures still_open { OnErr result ((held : List ℕ) → LogsHeld config.now (P.log ports.old) held → LogsHeld config.now (P.log ports.new) held) }
     ensures draws_before { IfErr result (λ fault. DrawsBefore fault (K.log keys.old) (K.log keys.new)) }
@@ -215,7 +222,7 @@ pub fn lease_offer<P: PortMaker, K: KeySource>(
     let first_key = board.next_key();
     let leases = board.lease(&mut plan);
     let count = plan.planned().keys();
-    match open_and_draw(ports, keys, config.interface, &leases, count, room) {
+    match open_and_draw(ports, keys, config, &leases, count, room) {
         Ok(taken) => {
             let LeaseRoom {
                 opened,

@@ -1,7 +1,7 @@
 //! The new legs of an offer: their boxes are opened, and the call's cell is prepared with them, in the order of leases.
 ghost use Rattle.std.specs.Prelude.{◌≡◌, ◌≤◌, ◌<◌, ◌+◌, ◌++◌, ℕ, List, [], ◌∷◌, length, map};
 ghost use Rattle.std.specs.List.{AllZip};
-ghost use Rattle.port_pool.specs.Ports.{pair_count, pair_port};
+ghost use Rattle.port_pool.specs.Ports.{pair_count};
 ghost use Rattle.port_pool.specs.Signals.{NewKey};
 ghost use Rattle.offer_answer.specs.Offers as offering;
 ghost use Rattle.offer_answer.specs.Offers.{PlanFor};
@@ -41,8 +41,7 @@ fn open_leg<I: InEnd, O: OutEnd, R: Wait>(
     requires generation { lease.generation ≡ holder.generation }
     requires cell { (1 ≤ holder.cell) × (holder.cell ≤ main.old.config.now.max_sessions) }
     requires shut { IsShut (hand_list main.old) (box_of main.old.config.now holder.pair) }
-    requires port { lease.rtp_port ≡ pair_port main.old.config.now holder.pair }
-    requires ends { pair_ends.IsPairOpened I.log O.log main.old.config.now.interface lease ends }
+    requires ends { pair_ends.IsPairOpened I.log O.log main.old.config.now lease ends }
     requires room { 0 < leg_room prepare.old }
     ensures nests { Nests main.old main.new }
     ensures gained { MakesNested (open_owed main.old.config.now holder ∷ []) main.old main.new }
@@ -79,7 +78,7 @@ pub fn open_legs<I: InEnd, O: OutEnd, R: Wait>(
     requires pairs { length pairs.opened.list ≡ offering.pairs_demanded plan.now.plan }
     requires leased { AreLeased main.old.config.now pairs.leases.list }
     requires shut { AreShut main.old.config.now (hand_list main.old) (pairs_of_leases pairs.leases.list) }
-    requires opened { pair_ends.ArePairsOpened I.log O.log main.old.config.now.interface pairs.leases.list pairs.opened.list }
+    requires opened { pair_ends.ArePairsOpened I.log O.log main.old.config.now pairs.leases.list pairs.opened.list }
     requires room { offering.pairs_demanded plan.now.plan ≤ leg_room prepare.old }
     requires none { added prepare.old ≡ [] }
 

@@ -17,8 +17,8 @@ use std::thread::Threads;
 /// Runs the relay as the words of a command line say, over the devices that it is handed, and returns how
 /// it ended.
 ///
-/// `serve --interface=ADDRESS [--listen-ng=ADDRESS:PORT] [--port-min=PORT] [--port-max=PORT] [--max-sessions=NUMBER] [--timeout=SECONDS]
-/// [--offer-timeout=SECONDS] [--turns=NUMBER] [--num-threads=NUMBER]`
+/// `serve --interface=ADDRESS [--interface6=ADDRESS] [--listen-ng=ADDRESS:PORT] [--port-min=PORT] [--port-max=PORT] [--max-sessions=NUMBER]
+/// [--timeout=SECONDS] [--offer-timeout=SECONDS] [--turns=NUMBER] [--num-threads=NUMBER]`
 /// binds the control link and replies to the datagrams that it takes until the link gives no more, a take
 /// fails, or `--turns` takes gave a datagram or nothing. Calls begin, are answered and end as the datagrams ask: their ports are
 /// opened and closed by the port maker, their keys drawn from the key source. Once a second of the timer, calls end whose last activity is
@@ -28,7 +28,7 @@ use std::thread::Threads;
 /// At the end the threads end, then all calls, and a line of totals is printed. The timer, in milliseconds, is asked once for each take
 /// of the link. Where no thread can be started, each thread's work is done after the last take.
 ///
-/// `replay [--interface=ADDRESS] [--seed=NUMBER] [--port-min=PORT] [--port-max=PORT] [--max-sessions=NUMBER] [--timeout=SECONDS]
+/// `replay [--interface=ADDRESS] [--interface6=ADDRESS] [--seed=NUMBER] [--port-min=PORT] [--port-max=PORT] [--max-sessions=NUMBER] [--timeout=SECONDS]
 /// [--offer-timeout=SECONDS]` reads the script, makes its steps over devices in memory, and prints a line for each event. It leaves the control link, the ports, the keys, the timer, the
 /// clock and the gate alone.
 ///

@@ -1,6 +1,7 @@
 //! The command `replay`.
 ghost use Rattle.std.specs.Prelude.{◌≡◌, None, Some};
 ghost use Rattle.relay_outside.specs.DeviceLogs.{Rose};
+ghost use Rattle.relay_outside.specs.Settings.{AreFamilies};
 ghost use Rattle.relay_app.specs.Run.{status_of, StatusByWords, ReplayedBy};
 
 use command_line::ReplaySettings;
@@ -24,7 +25,7 @@ fn status_of(ended: Ended) -> Status
     }
 }
 
-/// Replays the script.
+/// Replays the script, with interfaces of the families that they serve.
 pub(crate) fn replay_script<S: LineSource, O: LineSink, R: Wait>(
     rt: &R,
     alloc: Global,
@@ -32,6 +33,7 @@ pub(crate) fn replay_script<S: LineSource, O: LineSink, R: Wait>(
     script: &mut S,
     out: &mut O,
 ) -> Status
+    requires families { AreFamilies settings.now.config }
     ensures status { StatusByWords None (Some settings.now) None result }
     ensures replayed { ReplayedBy None (Some settings.now) result (S.log script.old) (S.log script.new) (O.log out.old) (O.log out.new) }
     ensures script_read { result ≡ Status.ScriptRead → Rose (S.faults script.old) (S.faults script.new) }

@@ -23,7 +23,7 @@ use Rattle.call_board.specs.Acts.{Call, Act, Given, Control, BoardEvent, Turn, T
 use Rattle.call_board.specs.Calls.{live, find_call, new_call, rounds, rounds_of_call, is_ending}
 use Rattle.call_board.specs.Pairs.{free_in, is_short}
 use Rattle.call_board.specs.KeptReplies.{kept_reply}
-use Rattle.call_board.specs.Requests.{asked, asked_by, command_in, sdp_error, description_error, unless, code_if, v6_error}
+use Rattle.call_board.specs.Requests.{asked, asked_by, command_in, sdp_error, description_error, unless, code_if, v6_error, family_error}
 use Rattle.call_board.specs.Replies.{Fault, Done, reply_datagram}
 use Rattle.call_board.specs.Answers.{failing, ending_error, deleting, offer_ask, answer_ask, leased_pairs, offer_leased, offer_unless, offer_to, answer_unless, answer_to, delete_of, nothing_to_end, names_side, query_of, answering_command, answering_asked, answering, answering_unless, spelled, Answered}
 use Rattle.call_board.specs.Fits.{FitsControl}
@@ -303,6 +303,10 @@ first_none : {X : Type 0} (a b : Option X) → or_else a b ≡ None → a ≡ No
 first_none None b q = refl
 first_none (Some x) b q = absurd (let e = q in cc)
 
+later_none : {X : Type 0} (a b : Option X) → or_else a b ≡ None → b ≡ None
+later_none None b q = q
+later_none (Some x) b q = absurd (let e = q in cc)
+
 no_fault_if : (o : Option SdpFault) → code_if o ≡ None → o ≡ None
 no_fault_if None q = refl
 no_fault_if (Some f) q = absurd (let e = q in cc)
@@ -317,7 +321,7 @@ offered_fault : (config : Config) (r : Result Said ErrorCode) (id from_tag sdp :
 offered_fault config (Err code) id from_tag sdp options q = absurd (let e = q in cc)
 offered_fault config (Ok says) id from_tag sdp options q =
     let u = unless_none (description_error config says) says (said.Offer id from_tag sdp options) q in
-    ap (description_error config) (sym u.1) ∙ u.0
+    later_none (family_error options.family config.interface6) (sdp_error config sdp) (ap (description_error config) (sym u.1) ∙ u.0)
 
 -- an offer in which crypto lines are chosen has at most 8 sections
 pub offers_few : (config : Config) (too_long : Bool) (pairs : Option Entries) (id from_tag sdp : List ℕ) (options : Options)

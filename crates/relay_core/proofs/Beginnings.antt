@@ -8,6 +8,7 @@ use Rattle.call_board.specs.Pairs.{free}
 use Rattle.relay_core.specs.declared.part.Part.TheVariants as part
 use Rattle.relay_core.proofs.Turns.{filter_every}
 use Rattle.relay_outside.specs.declared.settings.Config.{Config}
+use Rattle.relay_outside.specs.Settings.{AreFamilies}
 use Rattle.relay_core.specs.declared.part.Part.{Part}
 use Rattle.relay_core.specs.FirstPlaces.{IsCell, IsBox, AreCells, AreBoxes, AddsCells, AddsBoxes, AreParts}
 
@@ -50,22 +51,11 @@ module _ {I O : Type 0} where
         (subst (λ (n : ℕ). IsBox config (n + (config.max_sessions + 1)) x) (sym adds.as_many) is);
   }
 
-numbers_count : (n count : ℕ) → length (numbers n count) ≡ count
-numbers_count n zero = refl
-numbers_count n (suc count) = ap (λ (k : ℕ). suc k) (numbers_count (suc n) count)
-
--- at first all pairs are free
-pub all_free : (config : Config) → length (free config []) ≡ pair_count config
-all_free config =
-    ap (λ (xs : List ℕ). length xs)
-    (nothing_behind (filter (λ p. not (has [] p)) (numbers 0 (pair_count config)))
-    ∙ filter_every (λ p. not (has [] p)) (numbers 0 (pair_count config)) (λ p i. refl))
-    ∙ numbers_count 0 (pair_count config)
-
 module _ {I O : Type 0} where
-  pub parts_begin : (config : Config) (b : board.Board) (none one two three : List (Part I O)) (pairs : ℕ) → none ≡ [] → one ≡ none ++ part.Board b ∷ []
-      → AddsCells config one two config.max_sessions → AddsBoxes config two three pairs → pairs ≡ pair_count config → BoardFor config b [] → AreParts config three
-  parts_begin config b none one two three pairs empty first cells boxes count for = record {
+  pub parts_begin : (config : Config) (b : board.Board) (none one two three : List (Part I O)) → AreFamilies config → none ≡ [] → one ≡ none ++ part.Board b ∷ []
+      → AddsCells config one two config.max_sessions → AddsBoxes config two three (pair_count config) → BoardFor config b [] → AreParts config three
+  parts_begin config b none one two three families empty first cells boxes for = record {
+    families = families;
     board = b;
     cells = cells.added;
     boxes = boxes.added;
@@ -75,6 +65,6 @@ module _ {I O : Type 0} where
     board_for = for;
     cell_count = cells.as_many;
     are_cells = cells.are;
-    box_count = boxes.as_many ∙ count;
+    box_count = boxes.as_many;
     are_boxes = boxes.are;
   }

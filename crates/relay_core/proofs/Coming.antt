@@ -7,7 +7,7 @@ use Rattle.relay_outside.specs.declared.settings.Config.{Config}
 use Rattle.rtp_packet.specs.declared.head.Half.{Half}
 use Rattle.histories.specs.Words.{In}
 use Rattle.histories.proofs.Lists.{maps, in_left, in_right, keeps, equal}
-use Rattle.port_pool.specs.Ports.{half_port}
+use Rattle.port_pool.specs.Ports.{pair_family, half_port}
 use Rattle.port_pool.specs.declared.holder.Side.{Side}
 use Rattle.port_pool.specs.declared.holder.Side.TheVariants.{A, B}
 use Rattle.port_pool.specs.declared.holder.Holder.{Holder}
@@ -133,8 +133,9 @@ one_each_after config h x p good fits q new same =
 comes_after : {O : Type 0} (config : Config) (h : List BoardEntry) (x : BoardEntry) (p : act.Offer) → IsFitting config h → FitsBoard config h x → act.act x ≡ act.Offered p
     → (brought : prepared.Prepare O) → added brought ≡ p.legs
     → ((leg : Leg O) → In leg brought.legs.items → (half : Half) → port_by half leg.lease.rtp_port ≡ half_port config leg.holder.pair half)
+    → ((leg : Leg O) → In leg brought.legs.items → leg.lease.family ≡ pair_family config leg.holder.pair)
     → CanCome config (entries_of p.of.number (rounds h p.of.number)) brought p.of.number p.keys p.dropped
-comes_after {O} config h x p good fits q brought same ports =
+comes_after {O} config h x p good fits q brought same ports families =
     let n = p.of.number in
     let rs = rounds h n in
     let r = offer_round config h x p good fits q in
@@ -145,6 +146,7 @@ comes_after {O} config h x p good fits q brought same ports =
           (let within = new_within rs p.ask p.legs p.keys r.comes leg.holder (new leg.holder (maps (λ (y : Leg O). y.holder) brought.legs.items i)) in
           let few = r.few in omega (arith, within, few));
       ports = ports;
+      families = families;
       differ = subst (λ (l : List Holder). AllPairs AreTwo l) (sym same) (legs_are_two config h x p good fits q);
       new_lease = λ leg other i j. lease_anew config h x p good fits q leg other (new leg i) j;
       free_place = λ leg other i j stays sections sides.
@@ -158,12 +160,13 @@ comes_after {O} config h x p good fits q brought same ports =
 pub offer_can_come : {O : Type 0} (config : Config) (l : List Entry) → Orderly config l → (n k : ℕ) (x : BoardEntry) (p : act.Offer) → IsAbove l 0 n
     → FitsBoard config (board_history l n) x → act.act x ≡ act.Offered p → IsAbove l p.of.cell k → (brought : prepared.Prepare O) → added brought ≡ p.legs
     → ((leg : Leg O) → In leg brought.legs.items → (half : Half) → port_by half leg.lease.rtp_port ≡ half_port config leg.holder.pair half)
+    → ((leg : Leg O) → In leg brought.legs.items → leg.lease.family ≡ pair_family config leg.holder.pair)
     → CanCome config (since_end (cell_history l p.of.cell k)) brought p.of.number p.keys p.dropped
-offer_can_come config l o n k x p above_board fits q above brought same ports =
+offer_can_come config l o n k x p above_board fits q above brought same ports families =
     let s = offer_cell_is config l o n k x p above_board fits q above in
     can_come_same config (entries_of p.of.number (rounds (board_history l n) p.of.number)) (since_end (cell_history l p.of.cell k)) brought p.of.number p.keys p.dropped
     (turned (since_end (cell_history l p.of.cell k)) (entries_of p.of.number (rounds (board_history l n) p.of.number)) s)
-    (comes_after config (board_history l n) x p (good_history config l o n) fits q brought same ports)
+    (comes_after config (board_history l n) x p (good_history config l o n) fits q brought same ports families)
 
 -- An answer.
 

@@ -2,6 +2,7 @@
 use Rattle.std.proofs.Common.{◌≡◌, ◌∙◌, sym, ap, subst, refl, ℕ, zero, suc, List, [], ◌∷◌, ◌++◌, Bool, true, false, Option, Some, None, map, length, filter}
 use Rattle.std.specs.List.{filter_map, cons_option}
 use Rattle.relay_outside.specs.declared.settings.Config.{Config}
+use Rattle.relay_outside.specs.declared.address.Family.{Family}
 use Rattle.histories.specs.Words.{In}
 use Rattle.call_cell.specs.declared.outcome.Outcome.{Outcome}
 use Rattle.call_cell.specs.declared.outcome.Outcome.TheVariants as outcomes
@@ -139,11 +140,11 @@ filled_history config l numbered place n =
 
 -- What is recorded of a fitting history tells it.
 
-none_sent : (o : Outcome) → ((port : ℕ) → o ≡ outcomes.Lost (lost.SendFault port) → ⊥) → sent_ok o ≡ true
-none_sent (outcomes.Lost (lost.SendFault port)) other = absurd (other port refl)
+none_sent : (o : Outcome) → ((family : Family) (port : ℕ) → o ≡ outcomes.Lost (lost.SendFault family port) → ⊥) → sent_ok o ≡ true
+none_sent (outcomes.Lost (lost.SendFault family port)) other = absurd (other family port refl)
 none_sent (outcomes.Lost cause) other = refl
 none_sent (outcomes.Refused cause) other = refl
-none_sent (outcomes.Sent port to len) other = refl
+none_sent (outcomes.Sent family port to len) other = refl
 
 outcome_tells : (config : Config) (w : Sending) (ok : Bool) → sent_ok (sent_outcome config w ok) ≡ ok
 outcome_tells config w true = refl
@@ -154,7 +155,7 @@ answer_case : (config : Config) (h : List CellEntry) (p : Receipt) (ok : Bool) (
 answer_case config h p ok (Some w) q answered = ap (λ (x : Outcome). sent_ok x) (outcome_of_send config h p ok w q) ∙ outcome_tells config w ok
 answer_case config h p ok None q answered =
     none_sent (deed config h p ok).outcome
-    (λ port f. let s = send_failed config h p ok port f in let clash : Some s.sending ≡ None = sym s.is_sending ∙ q in cc)
+    (λ family port f. let s = send_failed config h p ok family port f in let clash : Some s.sending ≡ None = sym s.is_sending ∙ q in cc)
     ∙ sym answered
 
 -- the outcome of a relay tells what its send returned

@@ -5,7 +5,7 @@ use Rattle.std.proofs.lemmas.Bool.Decides.{nat_tests}
 use Rattle.std.proofs.lemmas.List.{length-map}
 use Rattle.histories.specs.Words.{In, has, numbers}
 use Rattle.histories.proofs.Lists.{in_append, filtered, equal}
-use Rattle.ng_reply.specs.declared.code.ErrorCode.TheVariants.{E8, E10, E11, E12}
+use Rattle.ng_reply.specs.declared.code.ErrorCode.TheVariants.{E8, E10, E11, E12, E20}
 use Rattle.port_pool.specs.declared.holder.Side.{Side}
 use Rattle.port_pool.specs.declared.holder.Holder.{Holder}
 use Rattle.port_pool.specs.declared.signal.SectionSignal.{SectionSignal}
@@ -14,7 +14,7 @@ use Rattle.offer_answer.specs.Rounds.{Round, Offered, Answered, OfferAsk, Answer
 use Rattle.offer_answer.specs.Sides.{MadeOffer, is_begun, last_offer, offered_sdp, has_answer, is_some_sides}
 use Rattle.offer_answer.specs.Sections.{most_sections, section_count, all_sections, active_sections, is_active_in, leases, section_life, has_pairs, is_committed, committed_count}
 use Rattle.offer_answer.specs.Keys.{leg_keys}
-use Rattle.offer_answer.specs.Faults.{is_strangers, lacks_line, may_answer, takes_no_line, fault_of_answer_to}
+use Rattle.offer_answer.specs.Faults.{is_strangers, lacks_line, may_answer, takes_no_line, fault_of_answer_to, misfits_offerer, misfits_answerer}
 use Rattle.offer_answer.specs.Signals.{answer_signal, section_signal}
 use Rattle.offer_answer.specs.Plan.{demand, signal, offer_fault, answer_fault}
 use Rattle.offer_answer.specs.Laws.{leg_place, new_leg_place, IsOfferRound, IsAnswerRound, AreRounds}
@@ -122,12 +122,13 @@ has_committed : (rounds : List Round) (ask : OfferAsk) → offer_fault rounds as
 unfolding offer_fault
 has_committed rounds ask e =
     not_below (section_count ask.sdp) (committed_count rounds)
-    (go (is_strangers rounds ask) (nat_lt (section_count ask.sdp) (committed_count rounds)) (list_any (lacks_line ask) (active_sections ask.sdp)) e)
+    (go (is_strangers rounds ask) (nat_lt (section_count ask.sdp) (committed_count rounds)) (list_any (misfits_offerer rounds ask) (active_sections ask.sdp))
+    (list_any (lacks_line ask) (active_sections ask.sdp)) e)
   where
-    go : (x y z : Bool) → (if x then Some E10 else if y then Some E12 else if z then Some E8 else None) ≡ None → y ≡ false
-    go true y z e = cc
-    go false true z e = cc
-    go false false z e = refl
+    go : (x y d z : Bool) → (if x then Some E10 else if y then Some E12 else if d then Some E20 else if z then Some E8 else None) ≡ None → y ≡ false
+    go true y d z e = cc
+    go false true d z e = cc
+    go false false d z e = refl
 
 -- Sections with pairs are sections of the last offer, and those that were committed are sections of the last committed one.
 pub record IsWithin (rounds : List Round) (section : ℕ) : Type 0 where
@@ -200,21 +201,21 @@ answers : (rounds : List Round) (ask : AnswerAsk) → answer_fault rounds ask �
 unfolding answer_fault
 answers rounds ask e = go (not (is_some_sides rounds ask.from_tag && may_answer rounds ask)) (last_offer rounds) refl e
   where
-    counts : (offer : MadeOffer) (own many lacks : Bool) → (section_count ask.sdp == section_count offer.ask.sdp) ≡ many
-        → (if not own then Some E11 else if not many then Some E12 else if lacks then Some E8 else None) ≡ None → section_count ask.sdp ≡ section_count offer.ask.sdp
-    counts offer own true lacks q f = grind (arith, q)
-    counts offer true false lacks q f = absurd (let g : Some E12 ≡ None = f in cc)
-    counts offer false false lacks q f = absurd (let g : Some E11 ≡ None = f in cc)
+    counts : (offer : MadeOffer) (own many differs lacks : Bool) → (section_count ask.sdp == section_count offer.ask.sdp) ≡ many
+        → (if not own then Some E11 else if not many then Some E12 else if differs then Some E20 else if lacks then Some E8 else None) ≡ None → section_count ask.sdp ≡ section_count offer.ask.sdp
+    counts offer own true differs lacks q f = grind (arith, q)
+    counts offer true false differs lacks q f = absurd (let g : Some E12 ≡ None = f in cc)
+    counts offer false false differs lacks q f = absurd (let g : Some E11 ≡ None = f in cc)
 
     go : (b : Bool) (o : Option MadeOffer) → last_offer rounds ≡ o
-        → (if b then Some E10 else elim o [ None ↦ Some E10 | Some offer ↦ fault_of_answer_to offer ask ]) ≡ None → Answers rounds ask
+        → (if b then Some E10 else elim o [ None ↦ Some E10 | Some offer ↦ fault_of_answer_to rounds offer ask ]) ≡ None → Answers rounds ask
     go true o l f = absurd (let g : Some E10 ≡ None = f in cc)
     go false None l f = absurd (let g : Some E10 ≡ None = f in cc)
     go false (Some offer) l f = record {
       offer = offer;
       is_last = l;
       as_many = counts offer (Rattle.std.specs.Str.bytes_eq ask.from_tag offer.ask.from_tag) (section_count ask.sdp == section_count offer.ask.sdp)
-          (list_any (takes_no_line offer ask) (all_sections ask.sdp)) refl f;
+          (list_any (misfits_answerer rounds offer ask) (active_sections ask.sdp)) (list_any (takes_no_line offer ask) (all_sections ask.sdp)) refl f;
     }
 
 numbers_length : (k n : ℕ) → length (numbers k n) ≡ n

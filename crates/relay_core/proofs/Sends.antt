@@ -1,9 +1,10 @@
 -- Each packet that was sent is what one received packet is turned into, sent once, to the opposite endpoint.
 use Rattle.std.proofs.Common.{◌≡◌, ◌∙◌, sym, ap, subst, ℕ, List, Some, length}
 use Rattle.relay_outside.specs.declared.address.Addr.{Addr}
+use Rattle.relay_outside.specs.declared.address.Family.{Family}
 use Rattle.relay_outside.specs.declared.settings.Config.{Config}
 use Rattle.histories.specs.Words.{In}
-use Rattle.port_pool.specs.Ports.{half_port}
+use Rattle.port_pool.specs.Ports.{pair_family, half_port}
 use Rattle.port_pool.specs.declared.holder.Holder.{Holder}
 use Rattle.call_cell.specs.declared.outcome.Outcome.TheVariants.{Sent}
 use Rattle.call_cell.specs.Cells.{Relay, Relayed, Sending, Shield, Deed, legs, opposite}
@@ -46,13 +47,14 @@ sent_right config l g e x w i q t =
       sent_once = λ f y j r same_pair same_take. sym (g.once e f x y i j q r same_pair same_take);
     }
 
-pub sent_sends : (config : Config) (l : List Entry) → Legal config l → (e : Entry) (x : Relayed) (port : ℕ) (to : Addr) (len : ℕ) → In e l → e.event ≡ Cell (Relay x)
-    → x.deed.outcome ≡ Sent port to len
-    → (w : Sending) × (x.deed.sending ≡ Some w) × (w.to ≡ to) × (length w.bytes ≡ len) × (port ≡ half_port config w.pair w.half)
-sent_sends config l g e x port to len i q t =
+pub sent_sends : (config : Config) (l : List Entry) → Legal config l → (e : Entry) (x : Relayed) (family : Family) (port : ℕ) (to : Addr) (len : ℕ) → In e l → e.event ≡ Cell (Relay x)
+    → x.deed.outcome ≡ Sent family port to len
+    → (w : Sending) × (x.deed.sending ≡ Some w) × (w.to ≡ to) × (length w.bytes ≡ len) × (family ≡ pair_family config w.pair)
+    × (port ≡ half_port config w.pair w.half)
+sent_sends config l g e x family port to len i q t =
     let d = deed_is config l g e x i q in
-    let s = sent config (cell_before l e) x.packet x.sent_ok port to len (ap (λ (z : Deed). z.outcome) (sym d) ∙ t) in
-    (s.sending, ap (λ (z : Deed). z.sending) d ∙ s.is_sending, s.to_is, s.len_is, s.port_is)
+    let s = sent config (cell_before l e) x.packet x.sent_ok family port to len (ap (λ (z : Deed). z.outcome) (sym d) ∙ t) in
+    (s.sending, ap (λ (z : Deed). z.sending) d ∙ s.is_sending, s.to_is, s.len_is, s.family_is, s.port_is)
 
 pub protected_by : (config : Config) (l : List Entry) → Legal config l → (e : Entry) (x : Relayed) (s : Shield) → In e l → e.event ≡ Cell (Relay x)
     → x.deed.shield ≡ Some s → IsProtectedBy l e x s

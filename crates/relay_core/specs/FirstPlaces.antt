@@ -1,6 +1,7 @@
 -- What the places of a relay hold before its first step.
 use Rattle.std.specs.Prelude.{◌≡◌, ◌≤◌, ◌<◌, ◌+◌, ◌-◌, ℕ, suc, List, [], ◌∷◌, ◌++◌, length, None}
 use Rattle.relay_outside.specs.declared.settings.Config.{Config}
+use Rattle.relay_outside.specs.Settings.{AreFamilies}
 use Rattle.rtp_packet.specs.declared.head.Half.TheVariants.{Rtp}
 use Rattle.port_pool.specs.Ports.{pair_count, port_address}
 use Rattle.port_pool.specs.PairBoxes.{BoxFor, ends_in, at_of, cells_of}
@@ -48,8 +49,10 @@ module _ {I O : Type 0} where
     pub as_many : length added ≡ count
     pub are : AreBoxes config (config.max_sessions + 1) added
 
-  -- the board, a cell for each call that may be live, and the box of each port pair
+  -- Each interface has an address of its family, and these are the board, a cell for each call that may be live, and the box of each
+  -- port pair.
   pub record AreParts (config : Config) (parts : List (Part I O)) : Type 0 where
+    pub families : AreFamilies config
     pub board : board.Board
     pub cells : List (Part I O)
     pub boxes : List (Part I O)

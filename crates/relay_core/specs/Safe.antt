@@ -1,6 +1,7 @@
 -- What a safe list promises.
 use Rattle.std.specs.Prelude.{◌≡◌, ◌<◌, ℕ, suc, ◌&&◌, nat_lt, true, false, List, [], map, length, Option, Some, None, filter, filter_map, Ok, IsSome}
 use Rattle.relay_outside.specs.declared.address.Addr.{Addr}
+use Rattle.relay_outside.specs.declared.address.Family.{Family}
 use Rattle.relay_outside.specs.declared.settings.Config.{Config}
 use Rattle.ng_command.specs.Meanings as said
 use Rattle.ng_reply.specs.declared.code.ErrorCode.TheVariants.{E13, E14, E15, E16, E17}
@@ -10,7 +11,7 @@ use Rattle.port_pool.specs.declared.signal.LegSignal.{LegSignal}
 use Rattle.port_pool.specs.declared.signal.SectionSignal.{SectionSignal}
 use Rattle.port_pool.specs.Signals.{NewKey, signal_at}
 use Rattle.port_pool.specs.Boxes.{BoxEvent, Open, Close, Take, Datagram, holder}
-use Rattle.port_pool.specs.Ports.{half_port}
+use Rattle.port_pool.specs.Ports.{pair_family, half_port}
 use Rattle.offer_answer.specs.Plan as plan
 use Rattle.offer_answer.specs.Rounds.{OfferAsk}
 use Rattle.offer_answer.specs.Profiles.{is_srtp_leg, profile_offered}
@@ -186,8 +187,9 @@ pub record Safe (config : Config) (l : List Entry) : Type 0 where
   pub deeds_are : (e : Entry) (x : Relayed) → In e l → e.event ≡ Cell (Relay x) → x.deed ≡ deed config (cell_before l e) x.packet x.sent_ok
   -- every packet sent is the transform of one received packet, sent once, to the opposite endpoint, by the leg that held the port
   pub sent_right : (e : Entry) (x : Relayed) (w : Sending) → In e l → e.event ≡ Cell (Relay x) → x.deed.sending ≡ Some w → IsSentRight config l e x w
-  pub sent_sends : (e : Entry) (x : Relayed) (port : ℕ) (to : Addr) (len : ℕ) → In e l → e.event ≡ Cell (Relay x)
-      → x.deed.outcome ≡ Sent port to len → (w : Sending) × (x.deed.sending ≡ Some w) × (w.to ≡ to) × (length w.bytes ≡ len) × (port ≡ half_port config w.pair w.half)
+  pub sent_sends : (e : Entry) (x : Relayed) (family : Family) (port : ℕ) (to : Addr) (len : ℕ) → In e l → e.event ≡ Cell (Relay x)
+      → x.deed.outcome ≡ Sent family port to len → (w : Sending) × (x.deed.sending ≡ Some w) × (w.to ≡ to) × (length w.bytes ≡ len) × (family ≡ pair_family config w.pair)
+      × (port ≡ half_port config w.pair w.half)
   -- no key, source and index protects two packets
   pub shields_apart : (e f : Entry) (s : Shield) → In e l → In f l → shield_at e ≡ Some s → shield_at f ≡ Some s → e ≡ f
   pub protected_by : (e : Entry) (x : Relayed) (s : Shield) → In e l → e.event ≡ Cell (Relay x) → x.deed.shield ≡ Some s → IsProtectedBy l e x s

@@ -9,7 +9,7 @@ use Rattle.port_pool.specs.declared.holder.Side.TheVariants.{A, B}
 use Rattle.port_pool.specs.declared.holder.Holder.{Holder}
 use Rattle.port_pool.specs.Signals.{NewKey}
 use Rattle.port_pool.specs.Boxes.{Take, Datagram, Close}
-use Rattle.port_pool.specs.Ports.{half_port}
+use Rattle.port_pool.specs.Ports.{pair_family, half_port}
 use Rattle.call_cell.specs.declared.outcome.Outcome.TheVariants.{Refused, Sent}
 use Rattle.call_cell.specs.declared.outcome.Refused.TheVariants.{Stale}
 use Rattle.call_cell.specs.Cells.{Relay, Expire, End, Relayed, Shield, Sending}
@@ -38,7 +38,7 @@ pub record CarriesPacket (config : Config) (l : List Entry) (from to : Holder) :
   pub is_taken : Occurs l (box_of config from.pair) (Box (Take relay.packet.half (Datagram from relay.packet.source relay.packet.bytes)))
   pub sending : Sending
   pub sends : relay.deed.sending ≡ Some sending
-  pub is_sent : relay.deed.outcome ≡ Sent (half_port config to.pair sending.half) sending.to (length sending.bytes)
+  pub is_sent : relay.deed.outcome ≡ Sent (pair_family config to.pair) (half_port config to.pair sending.half) sending.to (length sending.bytes)
 
 -- An offer begins a call and draws keys, its datagram comes again, the offer is answered, a tick finds that the call has not
 -- timed out, and it is deleted, which ends its cell and closes the boxes of its legs. In between a packet of side A is sent on to

@@ -1,14 +1,16 @@
 //! The places of a relay before its first step.
 
 ghost use Rattle.std.specs.Prelude.{◌≡◌, IfOk, OnOk};
+ghost use Rattle.relay_outside.specs.Settings.{AreFamilies};
 ghost use Rattle.port_pool.specs.Ports.{pair_count};
 ghost use Rattle.relay_core.specs.FirstPlaces.{AreParts, AddsCells, AddsBoxes};
 
 use crate::part::Part;
 use call_board::Board;
 use call_cell::Cell;
-use port_pool::{PairBox, rtp_address};
+use port_pool::{PairBox, port_address};
 use relay_outside::{Config, InEnd, OutEnd, OutOfMemory};
+use rtp_packet::Half;
 use std::alloc::Global;
 
 /// Adds an empty cell for each call that may be live.
@@ -29,33 +31,31 @@ fn add_cells<I: InEnd + Drop, O: OutEnd + Drop>(
 fn add_boxes<I: InEnd + Drop, O: OutEnd + Drop>(
     parts: &mut Vec<Part<I, O>>,
     config: &Config,
-    pairs: usize,
 ) -> Result<(), OutOfMemory>
-    requires { pairs ≡ pair_count config.now }
-    ensures { OnOk result (AddsBoxes config.now parts.old.items parts.new.items pairs) }
+    ensures { OnOk result (AddsBoxes config.now parts.old.items parts.new.items (pair_count config.now)) }
 {
-    for pair in 0..pairs {
-        let at = rtp_address(config, pair);
+    for pair in 0..config.pairs() {
+        let at = port_address(config, pair, Half::Rtp);
         parts.push(Part::Pair(PairBox::empty(config.max_sessions, at)))?;
     }
     Ok(())
 }
 
 /// What the places of a relay hold before its first step: the board, an empty cell for each call that may be live, and a
-/// closed box for each port pair.
+/// closed box for each port pair. Each interface of the configuration has an address of its family.
 /// A board and a cell stand for histories under one configuration, which is read off them: so what the places begin as
 /// is said once (`AreParts`).
 pub fn parts<I: InEnd + Drop, O: OutEnd + Drop>(
     alloc: Global,
     config: &Config,
 ) -> Result<Vec<Part<I, O>>, OutOfMemory>
+    requires { AreFamilies config.now }
     ensures { IfOk result (λ parts. AreParts config.now parts.items) }
 {
     let board = Board::new(alloc, config)?;
-    let pairs = board.free_count();
     let mut parts = Vec::new(alloc);
     parts.push(Part::Board(board))?;
     add_cells(alloc, &mut parts, config)?;
-    add_boxes(&mut parts, config, pairs)?;
+    add_boxes(&mut parts, config)?;
     Ok(parts)
 }

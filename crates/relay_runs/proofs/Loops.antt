@@ -9,14 +9,14 @@ use Rattle.relay_outside.specs.declared.ports.PortCall.{PortCall}
 use Rattle.relay_outside.specs.declared.settings.Config.{Config}
 use Rattle.relay_outside.proofs.Telling.{gained_none, gained_one, gained_both, gained_less}
 use Rattle.histories.specs.Words.{here, there}
-use Rattle.media_ports.specs.Openings.{pair_addresses, NoneOpened, OpensAt}
+use Rattle.media_ports.specs.Addresses.{pair_addresses}
+use Rattle.media_ports.specs.Openings.{NoneOpened, OpensAt}
 use Rattle.media_ports.specs.Calls as port_calls
 use Rattle.media_ports.proofs.Asked.{opens_with_both, opens_with_closed, opens_these_both, opens_none_at}
 use Rattle.turn_table.specs.declared.hands.Turns.{Turns}
 use Rattle.turn_table.specs.declared.hands.Hand.{Hand}
 use Rattle.turn_table.specs.Hands.{entries}
 use Rattle.call_board.specs.Acts.{Call, Given, BoardEntry}
-use Rattle.call_board.specs.Pairs.{free}
 use Rattle.relay_core.specs.declared.part.Part.{Part}
 use Rattle.relay_core.specs.Records.{Made, list_of}
 use Rattle.relay_core.specs.Turns.{made_by}
@@ -24,7 +24,7 @@ use Rattle.media_lane.specs.Visits.{Row}
 use Rattle.board_turns.specs.Between.{board_of, IsBetween}
 use Rattle.board_turns.specs.Ties.{AreTied, PortsFollowRows}
 use Rattle.board_turns.specs.Ticks.{tick_entry}
-use Rattle.board_turns.specs.Controls.{RequestRecord}
+use Rattle.board_turns.specs.Controls.{RequestRecord, entry_pairs, moment_at}
 use Rattle.board_turns.specs.DeviceAnswers.{IsGivenBy}
 use Rattle.ng_server.specs.declared.control_turn.ControlTurn.{ControlTurn}
 use Rattle.ng_server.specs.ControlTurns.{FollowsTake, GaveFor, DidTurn, Turned}
@@ -50,11 +50,11 @@ gave_one before after now gains = gained_one before after now (λ ys. ys ≡ now
 
 -- the openings of a turn
 opened_for : (config : Config) (history : List BoardEntry) (now : ℕ) (made : Option RequestRecord) (p p2 q q2 : ℕ) (o0 o1 o2 : Option (List PortCall)) (k1 k2 : Option (List KeyCall))
-    → Gained o0 o1 (OpensBy config history) → GaveFor config history made p p2 q q2 o1 o2 k1 k2 → Gained o0 o2 (OpensBy config (with_entry history (entry_due config history now made)))
+    → Gained o0 o1 (OpensBy config history) → GaveFor config history now made p p2 q q2 o1 o2 k1 k2 → Gained o0 o2 (OpensBy config (with_entry history (entry_due config history now made)))
 opened_for config history now None p p2 q q2 o0 o1 o2 k1 k2 opened gave =
     subst (λ (o : Option (List PortCall)). Gained o0 o (OpensBy config history)) (sym gave.0) opened
 opened_for config history now (Some x) p p2 q q2 o0 o1 o2 k1 k2 opened gave =
-    let pairs = free config history in
+    let pairs = entry_pairs config history (moment_at history now) x in
     gained_both o0 o1 o2 (OpensBy config history) (OpensAt config pairs x.given.opens) (OpensBy config (with_entry history (entry_due config history now (Some x))))
     (λ xs ys these those. record {
       answered = opens_with_both (opening_results history) x.given.opens xs ys these.answered those.answered;
@@ -74,7 +74,7 @@ opened_alone config history o0 o1 o2 opened closes =
 
 -- the draws of a turn
 drew_for : (config : Config) (history : List BoardEntry) (now : ℕ) (made : Option RequestRecord) (p p2 q q2 : ℕ) (o1 o2 : Option (List PortCall)) (k0 k1 k2 : Option (List KeyCall))
-    → Gave k0 k1 (draws_made history) → GaveFor config history made p p2 q q2 o1 o2 k1 k2 → Gave k0 k2 (draws_made (with_entry history (entry_due config history now made)))
+    → Gave k0 k1 (draws_made history) → GaveFor config history now made p p2 q q2 o1 o2 k1 k2 → Gave k0 k2 (draws_made (with_entry history (entry_due config history now made)))
 drew_for config history now None p p2 q q2 o1 o2 k0 k1 k2 drew gave =
     subst (λ (k : Option (List KeyCall)). Gave k0 k (draws_made history)) (sym gave.1) drew
 drew_for config history now (Some x) p p2 q q2 o1 o2 k0 k1 k2 drew gave = gave_more k0 k1 k2 (draws_made history) _ drew gave.draws
@@ -90,14 +90,14 @@ caused_later then later given p q port key caused = record {
 module _ (config : Config) (history : List BoardEntry) (now : ℕ) (then later : Outside) (causes : HaveCauses then history)
     (p : then.port_faults ≡ later.port_faults) (q : then.key_faults ≡ later.key_faults) (p_low : then.port_faults ≤ then.port_faults_now) (q_low : then.key_faults ≤ then.key_faults_now)
     (port : then.port_faults_now ≤ later.port_faults_now) (key : then.key_faults_now ≤ later.key_faults_now) (o1 o2 : Option (List PortCall)) (k1 k2 : Option (List KeyCall)) where
-  caused_now : (x : RequestRecord) → IsGivenBy config (free config history) x.given then.port_faults_now later.port_faults_now then.key_faults_now later.key_faults_now o1 o2 k1 k2 → IsCaused later x.given
+  caused_now : (x : RequestRecord) → IsGivenBy config (entry_pairs config history (moment_at history now) x) x.given then.port_faults_now later.port_faults_now then.key_faults_now later.key_faults_now o1 o2 k1 k2 → IsCaused later x.given
   caused_now x by = record {
     port_fault = λ f. (let rose = by.port_fault f in omega (arith, rose, p, p_low));
     key_fault = λ f. (let rose = by.key_fault f in omega (arith, rose, q, q_low));
   }
 
   -- the causes of the entries, and of one more
-  causes_for : (made : Option RequestRecord) → GaveFor config history made then.port_faults_now later.port_faults_now then.key_faults_now later.key_faults_now o1 o2 k1 k2
+  causes_for : (made : Option RequestRecord) → GaveFor config history now made then.port_faults_now later.port_faults_now then.key_faults_now later.key_faults_now o1 o2 k1 k2
       → HaveCauses later (with_entry history (entry_due config history now made))
   causes_for None gave entry given i is = caused_later then later given p q port key (causes entry given i is)
   causes_for (Some x) gave entry given (here same) is =
@@ -195,8 +195,8 @@ module _ {M I O : Type 0} {g : _} where
     timer : Gave t0 t2 (moments running.rounds ++ now ∷ [])
     timer = gave_more t0 t1 t2 (moments running.rounds) (now ∷ []) running.timer (gave_one t1 t2 now asked)
 
-    given : GaveFor config h made p1 p2 q1 q2 o1 o2 k1 k2
-    given = subst (λ (k : List BoardEntry). GaveFor config k made p1 p2 q1 q2 o1 o2 k1 k2) running.board_is turned.given
+    given : GaveFor config h now made p1 p2 q1 q2 o1 o2 k1 k2
+    given = subst (λ (k : List BoardEntry). GaveFor config k now made p1 p2 q1 q2 o1 o2 k1 k2) running.board_is turned.given
 
     ports : Gained o0 o2 (OpensBy config h2)
     ports = opened_for config h now made p1 p2 q1 q2 o0 o1 o2 k1 k2 running.ports given

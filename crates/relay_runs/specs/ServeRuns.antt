@@ -9,10 +9,11 @@ use Rattle.relay_outside.specs.declared.settings.Config.{Config}
 use Rattle.relay_outside.specs.DeviceLogs.{Gained, Rose}
 use Rattle.relay_outside.specs.Link.{datagrams, sent}
 use Rattle.histories.specs.Words.{In}
-use Rattle.media_ports.specs.Openings.{pair_addresses, OpensWith, OpensThese}
+use Rattle.media_ports.specs.Addresses.{pair_addresses}
+use Rattle.media_ports.specs.Openings.{OpensWith, OpensThese}
 use Rattle.media_ports.specs.Calls as port_calls
-use Rattle.call_board.specs.Acts.{BoardEvent, Turn, Tick, Stop, BoardEntry, Given}
-use Rattle.call_board.specs.Pairs.{free}
+use Rattle.call_board.specs.Acts.{BoardEvent, Turn, Tick, Stop, BoardEntry, Given, act}
+use Rattle.call_board.specs.Pairs.{leased_by_act}
 use Rattle.board_turns.specs.DeviceAnswers.{draws_of}
 use Rattle.ng_server.specs.ControlTurns.{DidTurn}
 use Rattle.ng_server.specs.declared.control_turn.ControlTurn.{ControlTurn}
@@ -60,16 +61,15 @@ abbrev pub opening_results : List BoardEntry → List Bool
 opening_results [] = []
 opening_results (entry ∷ history) = opening_results history ++ openings_in (given_in entry.event)
 
--- the openings that go with what an entry after this history tells: of the ports of the pairs that are free then, from the front, pair by
--- pair and that for RTP before that for RTCP
-abbrev pub opening_calls_in : Config → List BoardEntry → Option Given → List PortCall
-opening_calls_in config history None = []
-opening_calls_in config history (Some given) = port_calls.openings (pair_addresses config (free config history)) given.opens
+-- the openings of an entry: of the ports of the pairs that it leased, in lease order, pair by pair and that for RTP before that for RTCP,
+-- with the results that it tells
+abbrev pub opening_calls_in : Config → BoardEntry → List PortCall
+opening_calls_in config entry = port_calls.openings (pair_addresses config (leased_by_act (act entry))) (openings_in (given_in entry.event))
 
 -- the openings of a history, in order, each with its address and its answer
 abbrev pub opening_calls_of : Config → List BoardEntry → List PortCall
 opening_calls_of config [] = []
-opening_calls_of config (entry ∷ history) = opening_calls_of config history ++ opening_calls_in config history (given_in entry.event)
+opening_calls_of config (entry ∷ history) = opening_calls_of config history ++ opening_calls_in config entry
 
 -- the openings among these calls are those of the history, and none of its results is left out
 pub record OpensBy (config : Config) (history : List BoardEntry) (calls : List PortCall) : Type 0 where

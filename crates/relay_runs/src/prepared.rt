@@ -1,5 +1,6 @@
 //! What a run prepares before its control turns.
 ghost use Rattle.std.specs.Prelude.{◌≡◌, ◌*◌, ◌<◌, Some, IfOk};
+ghost use Rattle.relay_outside.specs.Settings.{AreFamilies};
 ghost use Rattle.relay_runs.specs.Preparations.{IsPreparedRun};
 ghost use Rattle.relay_runs.specs.Threads.{due_in};
 ghost use Rattle.relay_runs.specs.declared.lane_shares.Due.{Due};
@@ -27,7 +28,7 @@ where
 }
 
 impl<P: PortMaker> Prepared<P> {
-    /// Takes the memory of a run with this configuration, whose lanes are shared out so. Where it is known how many datagrams come, each thread has
+    /// Takes the memory of a run with this configuration, of which each interface has an address of its family, and whose lanes are shared out so. Where it is known how many datagrams come, each thread has
     /// one lane, and knows how many come to that.
     pub(crate) fn reserve(
         alloc: Global,
@@ -38,6 +39,7 @@ impl<P: PortMaker> Prepared<P> {
     where
         P::In: Drop,
         P::Out: Drop,
+        requires { AreFamilies config }
         ensures prepared { IfOk result (λ prepared. IsPreparedRun config share.threads share.lanes prepared) }
         ensures due { (all : Due) → due ≡ Some all → 0 < share.threads → IfOk result (λ prepared. due_in prepared.room.threads.items ≡ all.pairs * all.packets) }
     {

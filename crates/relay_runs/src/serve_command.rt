@@ -1,6 +1,7 @@
 //! The command `serve`.
 ghost use Rattle.std.specs.Prelude.{◌≡◌, ◌≤◌, ◌<◌, ◌^◌, [], Some, IfOk};
 ghost use Rattle.relay_outside.specs.DeviceLogs.{Rose};
+ghost use Rattle.relay_outside.specs.Settings.{AreFamilies};
 ghost use Rattle.media_ports.specs.OpenPorts.{LogsHeld};
 ghost use Rattle.relay_runs.specs.Devices.{AreSame, AreUnasked};
 ghost use Rattle.relay_runs.specs.Run.{Serves, IsServed};
@@ -34,6 +35,7 @@ pub(crate) fn line_room(alloc: Global) -> Result<Text, OutOfMemory>
 /// Serves the ng control protocol as the settings say: binds the control link, makes its control turns while threads of media relay packets, ends all
 /// calls, and prints a line of totals. `OutOfMemory` comes before any device is asked; `ControlFault` where the link was not bound, and then nothing is printed, or
 /// where a take of it failed; `PrintFault` takes the place of any other status. After each of these the table is closed and no port of a call is open.
+/// Each interface of the settings has an address of its family.
 ///
 /// That the link's count of faults rose at the very call that failed is no clause: it follows from the meaning of the link.
 pub fn serve<N, P, K, T, C, G, O, R>(
@@ -55,6 +57,7 @@ where
     G: Gate + Sync,
     O: LineSink,
     R: Threads + Wait + Sync,
+    requires families { AreFamilies settings.now.config }
     requires turns { settings.now.turns < 2 ^ 63 }
     requires threads { settings.now.threads ≤ 16 }
     requires open { LogsHeld settings.now.config (P.log devices.old.ports.now) [] }

@@ -14,7 +14,6 @@ use Rattle.relay_outside.specs.declared.ports.PortCall.{PortCall}
 use Rattle.relay_outside.specs.declared.settings.Config.{Config}
 use Rattle.relay_outside.specs.Link.{datagram_of, sent_of}
 use Rattle.relay_outside.proofs.Telling.{gained_none, gained_less}
-use Rattle.call_board.specs.Pairs.{free}
 use Rattle.media_ports.specs.Openings.{OpensAt}
 use Rattle.turn_table.specs.declared.machine.Entry as table
 use Rattle.turn_table.specs.declared.hands.Hand.{Hand}
@@ -25,7 +24,7 @@ use Rattle.relay_core.specs.Records.{Made, entry_of, list_of}
 use Rattle.relay_core.specs.Turns.{made_by}
 use Rattle.relay_core.proofs.Recording.{turn_list}
 use Rattle.board_turns.specs.Between.{board_of, MakesTurn}
-use Rattle.board_turns.specs.Controls.{RequestRecord, control_of, entry_at, moment_at}
+use Rattle.board_turns.specs.Controls.{RequestRecord, control_of, entry_at, moment_at, entry_pairs}
 use Rattle.ng_server.specs.declared.control_turn.ControlTurn.{ControlTurn}
 use Rattle.ng_server.specs.declared.control_turn.ControlTurn.TheVariants as turn
 use Rattle.board_turns.specs.DeviceAnswers.{draws_of}
@@ -100,7 +99,7 @@ module _ (config : Config) {M I O T : Type 0} {g : _} where
   unanswered old new now answer (Some x) unsent follows = absurd (let k : false ≡ true = sym unsent ∙ follows.0 in cc)
 
   module _ (now : ℕ) (source : Addr) (bytes : List ℕ) (reply_fails : Bool) (e : Printed) (old new : Hand M (Part I O) Made T g) (answer : ControlTurn) (x : RequestRecord) (opened : List PortCall)
-      (drawn : List KeyCall) (opens : OpensAt config (free config (board_of (made_by old))) x.given.opens opened) (draws : drawn ≡ draws_of x.given) (follows : FollowsTake config old new now answer (Some x)) where
+      (drawn : List KeyCall) (opens : OpensAt config (entry_pairs config (board_of (made_by old)) (moment_at (board_of (made_by old)) now) x) x.given.opens opened) (draws : drawn ≡ draws_of x.given) (follows : FollowsTake config old new now answer (Some x)) where
     reply : List ℕ
     reply = (control_of config (board_of (made_by old)) (moment_at (board_of (made_by old)) now) x).reply
 
@@ -185,7 +184,7 @@ module _ (config : Config) {M I O T : Type 0} {g : _} where
 
     -- nothing was called, and nothing was done
     idle : (read_fails : Bool) (answer : ControlTurn) (made : Option RequestRecord) → is_answered answer ≡ false → FollowsTake config old new now answer made
-        → GaveFor config (board_of (made_by old)) made ports ports_now keys keys_now opened opened_now drew drew_now
+        → GaveFor config (board_of (made_by old)) now made ports ports_now keys keys_now opened opened_now drew drew_now
         → (IsIdle [] [] (made_by old) (made_by new) → Controls config now (made_by old) source bytes read_fails reply_fails [] [] e (made_by new)) → Made_so read_fails
     idle read_fails answer None unsent follows gave so =
         subst (λ (o : Option (List PortCall)). Gained opened o (λ opens. Gained drew drew_now (λ draws. Controls config now (made_by old) source bytes read_fails reply_fails opens draws e (made_by new))))
@@ -195,16 +194,16 @@ module _ (config : Config) {M I O T : Type 0} {g : _} where
     idle read_fails answer (Some x) unsent follows gave so = absurd (let k : false ≡ true = sym unsent ∙ follows.0 in cc)
 
     answers : (answer : ControlTurn) (made : Option RequestRecord) (before after : Option (List LinkCall)) → is_answered answer ≡ true → FollowsTake config old new now answer made
-        → GaveFor config (board_of (made_by old)) made ports ports_now keys keys_now opened opened_now drew drew_now → Gained before after (DidTurn config (board_of (made_by old)) now answer made)
+        → GaveFor config (board_of (made_by old)) now made ports ports_now keys keys_now opened opened_now drew drew_now → Gained before after (DidTurn config (board_of (made_by old)) now answer made)
         → TellsTaken after source bytes → IsOfTurn answer reply_fails after e → Made_so false
     answers answer None before after sent follows gave gained tells of = absurd (let k : false ≡ true = sym follows.0 ∙ sent in cc)
     answers answer (Some x) before after sent follows gave gained tells of =
-        gained_less opened opened_now (OpensAt config (free config (board_of (made_by old))) x.given.opens) _
+        gained_less opened opened_now (OpensAt config (entry_pairs config (board_of (made_by old)) (moment_at (board_of (made_by old)) now) x) x.given.opens) _
         (λ opens opens_are. gained_less drew drew_now (λ draws. draws ≡ draws_of x.given) _
         (λ draws draws_are. inr (taken_told now source bytes reply_fails e old new answer x opens draws opens_are draws_are follows sent before after tells of gained)) gave.draws) gave.opens
 
     controls_line : (read_fails : Bool) (answer : ControlTurn) (before after : Option (List LinkCall)) (made : Option RequestRecord) → FollowsTake config old new now answer made
-        → GaveFor config (board_of (made_by old)) made ports ports_now keys keys_now opened opened_now drew drew_now → Gained before after (DidTurn config (board_of (made_by old)) now answer made)
+        → GaveFor config (board_of (made_by old)) now made ports ports_now keys keys_now opened opened_now drew drew_now → Gained before after (DidTurn config (board_of (made_by old)) now answer made)
         → TellsTurn answer read_fails reply_fails after source bytes e → Made_so read_fails
     controls_line read_fails turn.ReadFault before after made follows gave gained tells =
         subst Made_so (sym tells.0) (idle true turn.ReadFault made refl follows gave (λ is. (tells.1, is)))

@@ -2,6 +2,7 @@ pub mod Holdings
 pub mod Turned
 pub mod Controls
 pub mod Openings
+pub mod PortsOfEnds
 pub mod Courses
 pub mod Watchings
 pub mod Commands

@@ -11,9 +11,8 @@ use Rattle.rtp_packet.specs.declared.head.Half.{Half}
 use Rattle.histories.specs.Words.{In, here, there, has}
 use Rattle.histories.proofs.Lists.{it_has}
 use Rattle.port_pool.specs.declared.holder.Holder.{Holder}
-use Rattle.port_pool.specs.Ports.{pair_count, half_port}
+use Rattle.port_pool.specs.Ports.{pair_count, port_address}
 use Rattle.call_board.specs.Pairs.{held}
-use Rattle.media_ports.specs.Addresses.{port_at}
 use Rattle.media_ports.proofs.Opened.{open_before}
 use Rattle.relay_core.specs.Entries.{Entry, box_of, front}
 use Rattle.relay_core.specs.Legal.{Orderly}
@@ -30,14 +29,13 @@ leg_in leg [] i = elim i [ ]
 leg_in leg (x ∷ legs) (here q) = here (ap (λ (l : Holder). l.pair) q)
 leg_in leg (x ∷ legs) (there i) = there (leg_in leg legs i)
 
-pub shut_unless : (config : Config) (l : List Entry) → Orderly config l → (log : List PortCall) (pair : ℕ) (half : Half) (port : ℕ) → OpensJust config (board_of l) (Some log)
-    → pair < pair_count config → half_port config pair half ≡ port → IsShutUnless config l pair (IsOpen log (port_at config.interface port))
-shut_unless config l o log pair half port opens in_range port_is not_open n above =
+pub shut_unless : (config : Config) (l : List Entry) → Orderly config l → (log : List PortCall) (pair : ℕ) (half : Half) → OpensJust config (board_of l) (Some log)
+    → pair < pair_count config → IsShutUnless config l pair (IsOpen log (port_address config pair half))
+shut_unless config l o log pair half opens in_range not_open n above =
     box_now config l o (box_of config pair) (front l 0) n (λ e i at. below_front l e 0 i at) above
     ∙ none_if _ (λ leg h.
     let s = held_is_box config l o (front l 0) pair leg h in
-    not_open (subst (λ (p : ℕ). IsOpen log (port_at config.interface p)) port_is
-    ((opens pair half in_range).1 (subst (λ (q : ℕ). has (leg_pairs (held (board_of l))) q ≡ true) s.0 (it_has leg.pair (leg_pairs (held (board_of l))) (leg_in leg (held (board_of l)) s.1))))))
+    not_open ((opens pair half in_range).1 (subst (λ (q : ℕ). has (leg_pairs (held (board_of l))) q ≡ true) s.0 (it_has leg.pair (leg_pairs (held (board_of l))) (leg_in leg (held (board_of l)) s.1)))))
 
 -- after one more call
 pub shut_opened : (calls : List PortCall) (here_at at : Addr) (done : Bool) → (IsOpen calls at → ⊥) → (here_at ≡ at → done ≡ true → ⊥) → IsOpen (calls ++ Open here_at done ∷ []) at → ⊥

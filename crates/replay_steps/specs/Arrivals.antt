@@ -1,10 +1,10 @@
 -- Which end of a pair a packet of a script arrives at, and what its take leaves.
 use Rattle.std.specs.Prelude.{◌≡◌, ◌<◌, ℕ, List, Option, Some, None}
 use Rattle.relay_outside.specs.declared.address.Ip.{Ip}
-use Rattle.relay_outside.specs.declared.address.Ip.TheVariants as ip
 use Rattle.relay_outside.specs.declared.settings.Config.{Config}
+use Rattle.relay_outside.specs.Settings.{ip_family}
 use Rattle.rtp_packet.specs.declared.head.Half.{Half}
-use Rattle.port_pool.specs.Ports.{pair_count, half_port}
+use Rattle.port_pool.specs.Ports.{pair_count, pair_family, half_port}
 use Rattle.call_cell.specs.Cells.{Receipt}
 use Rattle.port_pool.specs.Boxes.{holder}
 use Rattle.relay_core.specs.Entries.{Entry, box_of, box_history}
@@ -18,16 +18,11 @@ use Rattle.replay_steps.specs.Receipts.{taken_with_pair}
 abbrev pub End : Type 0
 End = ℕ × Half
 
--- an address of version 4: all pairs are of that family
-abbrev pub IsIpv4 : Ip → Type 0
-IsIpv4 (ip.V4 bytes) = Unit {0}
-IsIpv4 (ip.V6 bytes) = ⊥
-
 -- The end has this port, in the family of this address
 pub record IsEndAt (config : Config) (port : ℕ) (source : Ip) (e : End) : Type 0 where
   pub in_range : e.0 < pair_count config
   pub port_is : half_port config e.0 e.1 ≡ port
-  pub family : IsIpv4 source
+  pub family : pair_family config e.0 ≡ ip_family source
 
 -- no pair of the range has the port in that family
 abbrev pub IsNoEnd : Config → (port : ℕ) → Ip → Type 0

@@ -13,7 +13,6 @@ use Rattle.port_pool.specs.Boxes as box
 use Rattle.port_pool.specs.Boxes.{Taken, FitsTaken, holder}
 use Rattle.call_board.specs.Acts.{Call, BoardEntry}
 use Rattle.call_board.specs.Calls.{live}
-use Rattle.call_board.specs.Pairs.{free}
 use Rattle.call_board.specs.Views.{board_last_moment}
 use Rattle.call_cell.specs.declared.outcome.Outcome.{Outcome}
 use Rattle.call_cell.specs.Cells as cells
@@ -27,7 +26,7 @@ use Rattle.relay_core.specs.Turns.{IsAbove, IsTurn, with_turn}
 use Rattle.board_turns.specs.Between.{board_of}
 use Rattle.board_turns.specs.Stops.{stop_entry}
 use Rattle.board_turns.specs.Ticks.{EndsRightly, tick_entry}
-use Rattle.board_turns.specs.Controls.{RequestRecord, control_of, entry_at, moment_at}
+use Rattle.board_turns.specs.Controls.{RequestRecord, control_of, entry_at, moment_at, entry_pairs}
 use Rattle.board_turns.specs.DeviceAnswers.{draws_of}
 use Rattle.ng_server.specs.ControlTurns.{is_too_long}
 use Rattle.media_ports.specs.Openings.{OpensAt}
@@ -122,12 +121,12 @@ Replying false source reply e = e ≡ event.Reply source reply
 
 -- The datagram is replied to in one turn of the board, whose entry and reply are those that the board's history demands at that
 -- moment for what is recorded. The port maker's openings in the turn are those that the entry tells, with their results: of the ports of the
--- pairs that were free before it, from the front, pair by pair, that for RTP first. The draws of the key source are those that the entry tells
+-- pairs that it leased, in lease order, pair by pair, that for RTP first. The draws of the key source are those that the entry tells
 pub record Answers (config : Config) (clock : ℕ) (l : List Entry) (source : Addr) (bytes : List ℕ) (failing : Bool) (opened : List PortCall) (drawn : List KeyCall) (e : Printed) (new : List Entry) : Type 0 where
   pub heard : RequestRecord
   pub is_heard : IsRecordFrom heard source bytes
   pub turns : TurnsBoard config l (entry_at config (board_of l) (moment_at (board_of l) clock) heard) new
-  pub opens : OpensAt config (free config (board_of l)) heard.given.opens opened
+  pub opens : OpensAt config (entry_pairs config (board_of l) (moment_at (board_of l) clock) heard) heard.given.opens opened
   pub draws : drawn ≡ draws_of heard.given
   pub replies : Replying failing source (control_of config (board_of l) (moment_at (board_of l) clock) heard).reply e
 

@@ -4,7 +4,7 @@ use Rattle.relay_outside.specs.declared.keys.KeyCall.{KeyCall}
 use Rattle.relay_outside.specs.declared.ports.PortCall.{PortCall}
 use Rattle.relay_outside.specs.declared.settings.Config.{Config}
 use Rattle.rtp_packet.specs.declared.head.Half.{Half}
-use Rattle.port_pool.specs.Ports.{half_port}
+use Rattle.port_pool.specs.Ports.{pair_family, half_port}
 use Rattle.call_cell.specs.Cells as cells
 use Rattle.media_lane.specs.Steps.{RelayedOnce}
 use Rattle.replay_devices.specs.Devices.{Happening, send_fails}
@@ -13,6 +13,7 @@ use Rattle.replay_steps.specs.declared.ended.Untold.{Untold}
 use Rattle.replay_steps.specs.declared.ended.Untold.TheVariants as untold
 use Rattle.replay_steps.specs.declared.step.Stepped.{Stepped}
 use Rattle.replay_steps.specs.declared.step.Stepped.TheVariants as stepped
+use Rattle.call_cell.specs.declared.outcome.LocalPort.{LocalPort}
 use Rattle.call_cell.specs.declared.outcome.Lost.{Lost}
 use Rattle.call_cell.specs.declared.outcome.Lost.TheVariants as lost
 use Rattle.call_cell.specs.declared.outcome.Outcome.{Outcome}
@@ -45,25 +46,26 @@ StepsSo config seed (stepped.Untold why) old new P = Unit {0}
 
 -- By which port a relay with this outcome sent, and whether its send returned Ok
 
-abbrev pub failed_send_of : Lost → Option (ℕ × Bool)
-failed_send_of (lost.SendFault port) = Some (port, false)
+abbrev pub failed_send_of : Lost → Option (LocalPort × Bool)
+failed_send_of (lost.SendFault family port) = Some (record { family = family; port = port }, false)
 failed_send_of lost.Hold = None
 failed_send_of lost.OutTooOld = None
 failed_send_of lost.IndexUsed = None
 failed_send_of lost.OutSources = None
 failed_send_of lost.KeySpent = None
 
-abbrev pub send_in : Outcome → Option (ℕ × Bool)
-send_in (outcomes.Sent port to len) = Some (port, true)
+abbrev pub send_in : Outcome → Option (LocalPort × Bool)
+send_in (outcomes.Sent family port to len) = Some (record { family = family; port = port }, true)
 send_in (outcomes.Lost cause) = failed_send_of cause
 send_in (outcomes.Refused cause) = None
 
 -- it sent by a port, and the send failed where it had not to, or did not where it had to, by whatever happened before
 pub record SendsOther (outcome : Outcome) (old : WatchState) : Type 0 where
-  pub port : ℕ
+  pub from : LocalPort
   pub done : Bool
-  pub send_is : send_in outcome ≡ Some (port, done)
-  pub other : (config : Config) (seed : ℕ) (past : List Happening) (pair : ℕ) (half : Half) → half_port config pair half ≡ port → WatchStandsFor config seed past old
+  pub send_is : send_in outcome ≡ Some (from, done)
+  pub other : (config : Config) (seed : ℕ) (past : List Happening) (pair : ℕ) (half : Half) → pair_family config pair ≡ from.family
+      → half_port config pair half ≡ from.port → WatchStandsFor config seed past old
       → done ≡ send_fails config past pair half
 
 -- a packet was relayed, and its send was another than the lines ask for

@@ -19,9 +19,9 @@ use crate::ended::Untold;
 use crate::ends::find_end;
 use crate::open_ports::is_open;
 use crate::state::{ReplayState, Replayer};
-use call_cell::{Lost, Outcome};
+use call_cell::{LocalPort, Lost, Outcome};
 use media_lane::{Receipt, Received, receive_between, relay_between};
-use port_pool::MOST_PACKET;
+use port_pool::{MOST_PACKET, port_address};
 use relay_outside::Addr;
 use relay_script::{FailKind, Printed};
 use replay_devices::Watch;
@@ -107,11 +107,7 @@ pub(crate) fn arrive<'a, R: Wait>(
     let Some(log) = state.devices.ports.calls() else {
         return (Arrived::Untold(Untold::OutOfMemory), state);
     };
-    let at = Addr {
-        ip: config.interface,
-        port: packet.port,
-    };
-    let opened = is_open(log, at);
+    let opened = is_open(log, port_address(config, pair, half));
     let turns = replayer.server.turns();
     let mut state = state;
     let (received, hand) = receive_between(replayer.rt, turns, state.hand, config, pair, half);
@@ -120,22 +116,22 @@ pub(crate) fn arrive<'a, R: Wait>(
 }
 
 /// By which port a relay with this outcome sent, and whether its send succeeded. `None`: it sent nothing.
-fn send_of(outcome: Outcome) -> Option<(u16, bool)>
+fn send_of(outcome: Outcome) -> Option<(LocalPort, bool)>
     ensures { result ≡ send_in outcome }
 {
     match outcome {
-        Outcome::Sent { port, .. } => Some((port, true)),
+        Outcome::Sent { family, port, .. } => Some((LocalPort { family, port }, true)),
         Outcome::Lost(cause) => failed_send_of(cause),
         Outcome::Refused(_) => None,
     }
 }
 
 /// The same of a lost packet.
-fn failed_send_of(cause: Lost) -> Option<(u16, bool)>
+fn failed_send_of(cause: Lost) -> Option<(LocalPort, bool)>
     ensures { result ≡ failed_send_of cause }
 {
     match cause {
-        Lost::SendFault { port } => Some((port, false)),
+        Lost::SendFault { family, port } => Some((LocalPort { family, port }, false)),
         Lost::Hold => None,
         Lost::OutTooOld => None,
         Lost::IndexUsed => None,
@@ -150,11 +146,11 @@ fn note_send(watch: &mut Watch, outcome: Outcome) -> bool
         Watches config seed watch.old watch.new (SendsAsked config outcome (deed_after config h p outcome).sending) }
     ensures other { result ≡ false → SendsOther outcome watch.old }
 {
-    let Some((port, done)) = send_of(outcome) else {
+    let Some((from, done)) = send_of(outcome) else {
         return true;
     };
-    let failing = watch.send_fails(port);
-    watch.sent(port);
+    let failing = watch.send_fails(from);
+    watch.sent(from);
     done != failing
 }
 

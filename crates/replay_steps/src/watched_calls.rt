@@ -8,6 +8,7 @@ ghost use Rattle.replay_steps.specs.Steps.{OpensAsked, DrawsAsked};
 ghost use Rattle.replay_steps.specs.WatchNotes.{Watches, WatchesTurn};
 
 use crate::ends::find_end;
+use call_cell::LocalPort;
 use relay_outside::{Config, KeyAndSalt, KeyCall, PortCall};
 use relay_script::FailKind;
 use replay_devices::{ReplayKeys, ReplayPorts, Watch};
@@ -19,7 +20,11 @@ fn note_opening(watch: &mut Watch, config: &Config, call: &PortCall) -> bool
     match call {
         PortCall::Open { at, done } => {
             let failing = watch.fails(FailKind::Open);
-            watch.opened(at.port, *done);
+            let opened = LocalPort {
+                family: at.ip.family(),
+                port: at.port,
+            };
+            watch.opened(opened, *done);
             if *done == failing {
                 return false;
             }

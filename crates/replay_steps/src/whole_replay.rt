@@ -1,6 +1,7 @@
 //! A whole replay.
 ghost use Rattle.std.specs.Prelude.{◌≡◌, ◌≢◌, ◌⊎◌, ◌≤◌, ℕ, [], IfOk, Option, Some, map, length};
 ghost use Rattle.relay_outside.specs.DeviceLogs.{Rose};
+ghost use Rattle.relay_outside.specs.Settings.{AreFamilies};
 ghost use Rattle.turn_table.specs.Hands.{IsSameHand};
 ghost use Rattle.relay_core.specs.Turns.{made_by};
 ghost use Rattle.board_turns.specs.Between.{IsBetween, MakesTurn, board_of};
@@ -113,6 +114,7 @@ fn begin<'r, 'a, R>(
     steps: &'a [Step],
     timetable: &'a Timetable<'a>,
 ) -> Result<(Replayer<'r, 'a, R>, ReplayState<'a>), OutOfMemory>
+    requires { AreFamilies config.now }
     ensures { IfOk result (λ begun. IsFirst config.now seed begun.0 begun.1) }
 {
     let watch = Watch::new(alloc, seed)?;
@@ -148,6 +150,7 @@ pub fn replay<S: LineSource, O: LineSink, R: Wait>(
     source: &mut S,
     out: &mut O,
 ) -> Ended
+    requires { AreFamilies config.now }
     ensures replayed { Replays config.now seed result (S.log source.old) (S.log source.new) (O.log out.old) (O.log out.new) }
     ensures script_read { result ≡ Ended.ScriptRead → Rose (S.faults source.old) (S.faults source.new) }
     ensures print_fault { result ≡ Ended.PrintFault → Rose (O.faults out.old) (O.faults out.new) }

@@ -5,7 +5,7 @@ use Rattle.relay_outside.specs.declared.address.Addr.{Addr}
 use Rattle.relay_outside.specs.declared.address.Ip.TheVariants as ips
 use Rattle.ng_frame.specs.Frame.{frame}
 use Rattle.cookie_cache.specs.Keepings as cache
-use Rattle.port_pool.specs.Ports.{pair_count}
+use Rattle.port_pool.specs.Ports.{range_pairs, pair_count}
 use Rattle.offer_answer.specs.Plan as plan
 use Rattle.call_board.specs.Acts as act
 use Rattle.call_board.specs.Acts.{Call, Given, Control, Turn, Tick, BoardEntry}
@@ -44,7 +44,7 @@ offer_turn = record {
 }
 
 offer_is_answered : answered_in offer_turn ≡ answering_unless config [] offer_turn (kept_reply [] controller (codes "1") 1000)
-unfolding cache.kept pair_count
+unfolding cache.kept pair_count range_pairs
 offer_is_answered = rw (offer_is_asked, offer_is_faultless, offer_demands) refl
 
 offer_is_framed : frame (codes "1" ++ 32 ∷ offer_body) ≡ Some (codes "1", offer_body)
@@ -203,7 +203,7 @@ next_turn = record {
 }
 
 next_is_answered : answered_in next_turn ≡ answering_unless config after_delete next_turn (kept_reply after_delete controller (codes "4") 6000)
-unfolding cache.kept pair_count
+unfolding cache.kept pair_count range_pairs
 next_is_answered = rw (next_is_asked, next_is_faultless, next_demands) refl
 
 next_is_framed : frame (codes "4" ++ 32 ∷ next_body) ≡ Some (codes "4", next_body)
@@ -247,7 +247,7 @@ last_turn = record next_turn {
 }
 
 last_is_answered : answered_in last_turn ≡ answering_unless config after_timeout last_turn (kept_reply after_timeout controller (codes "5") 3607000)
-unfolding cache.kept pair_count
+unfolding cache.kept pair_count range_pairs
 last_is_answered = rw (next_is_asked, next_is_faultless, next_demands) refl
 
 last_is_framed : frame (codes "5" ++ 32 ∷ next_body) ≡ Some (codes "5", next_body)

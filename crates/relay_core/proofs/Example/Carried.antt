@@ -5,6 +5,7 @@ use Rattle.rtp_packet.specs.declared.head.Half.TheVariants.{Rtp}
 use Rattle.histories.specs.Words.{here, there}
 use Rattle.port_pool.specs.declared.holder.Holder.{Holder}
 use Rattle.port_pool.specs.Boxes.{Close}
+use Rattle.port_pool.specs.Ports.{range_pairs}
 use Rattle.call_cell.specs.Cells.{Expire}
 use Rattle.relay_core.specs.Entries.{Event, Cell, Box, Entry, box_of}
 use Rattle.relay_core.specs.WholeCalls.{OccursOf, CarriesPacket, CarriesCalls}
@@ -46,6 +47,7 @@ unasked finds o =
     (together (o.0.board == over.number) (asks o.0.event) (equal_is o.0.board over.number o.4) (ap asks o.3))
 
 to_b : CarriesPacket config entries leg_a leg_b
+unfolding range_pairs
 to_b = record {
   relay = relayed;
   is_relayed = (sent, at_place entries 8 refl, refl, refl);
@@ -56,6 +58,7 @@ to_b = record {
 }
 
 to_a : CarriesPacket config entries leg_b leg_a
+unfolding range_pairs
 to_a = record {
   relay = relayed_back;
   is_relayed = (sent_back, at_place entries 10 refl, refl, refl);

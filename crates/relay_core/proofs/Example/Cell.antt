@@ -4,10 +4,12 @@ use Rattle.std.proofs.Common.{◌≡◌, ◌∙◌, sym, ap, refl, ℕ, List, []
 use Rattle.std.specs.Prelude.{Result, Ok, Err, not, is_some, nat_lt, if◌then◌else◌}
 use Rattle.std.specs.Option.{option_map_or}
 use Rattle.relay_outside.specs.declared.address.Addr.{Addr}
+use Rattle.relay_outside.specs.declared.address.Family.TheVariants as families
 use Rattle.relay_outside.specs.declared.address.Ip.TheVariants as ips
 use Rattle.rtp_packet.specs.declared.head.Half.TheVariants.{Rtp}
 use Rattle.rtp_packet.specs.declared.head.RtpHead.{RtpHead}
 use Rattle.rtp_packet.specs.Head.{rtp_head}
+use Rattle.port_pool.specs.Ports.{range_pairs}
 use Rattle.replay_window.specs.Indices.{near, nearest_lifted, fresh}
 use Rattle.srtp_sources.specs.Notes.{Note, indices, sources, has_room}
 use Rattle.srtp_keys.specs.declared.faults.UnprotectFault.{UnprotectFault}
@@ -56,7 +58,7 @@ relayed = record {
   packet = receipt;
   sent_ok = true;
   deed = record {
-    outcome = Sent 30000 signal_b.rtp (length sending.bytes);
+    outcome = Sent families.V4 30000 signal_b.rtp (length sending.bytes);
     kind = Rtp;
     noted = None;
     shield = Some (record { key = 0; note = record { half = Rtp; ssrc = 286331153; index = 100 } });
@@ -65,7 +67,7 @@ relayed = record {
 }
 
 pub relay_fits : FitsRelay config answered relayed
-unfolding packet deed rtp_head wrapped_under srtp_out.wrapping srtp_out.sent_index near nearest_lifted fresh indices sources has_room
+unfolding packet deed rtp_head range_pairs wrapped_under srtp_out.wrapping srtp_out.sent_index near nearest_lifted fresh indices sources has_room
 relay_fits = record { does = refl; answered = tt }
 
 -- From side B to side A.
@@ -137,7 +139,7 @@ relayed_back = record {
   packet = receipt_back;
   sent_ok = true;
   deed = record {
-    outcome = Sent 30002 source_a (length reply);
+    outcome = Sent families.V4 30002 source_a (length reply);
     kind = Rtp;
     noted = Some reply_note;
     shield = None;
@@ -146,7 +148,7 @@ relayed_back = record {
 }
 
 pub relay_back_fits : FitsRelay config after_relay relayed_back
-unfolding deed
+unfolding deed range_pairs
 relay_back_fits = record { does = sym (ap (deed_judged config after_relay receipt_back true leg_b) is_judged); answered = tt }
 
 pub is_wire : receipt_back.bytes ≡ srtp.protect answerers_key Tag80 sending_back.bytes 200

@@ -21,7 +21,7 @@ use Rattle.port_pool.specs.declared.signal.SectionSignal.{SectionSignal}
 use Rattle.port_pool.specs.declared.signal.SectionSignal.TheVariants.{Commit}
 use Rattle.port_pool.specs.Signals.{NewKey}
 use Rattle.offer_answer.specs.Rounds.{Round, Offered, OfferAsk, AnswerAsk}
-use Rattle.offer_answer.specs.Demands.{new_leg}
+use Rattle.relay_outside.specs.declared.address.Family.TheVariants.{V4}
 use Rattle.offer_answer.specs.Plan as plan
 use Rattle.call_board.specs.Requests.{ReadsBody, asked, sdp_error}
 
@@ -47,7 +47,14 @@ abbrev pub tag_b : List ℕ
 tag_b = codes "b"
 
 abbrev pub plain : Options
-plain = record { flags = record { strict = false; handover = false; asymmetric = false }; replace_origin = false; replace_session = false; transport = None; source = None }
+plain = record {
+  flags = record { strict = false; handover = false; asymmetric = false };
+  replace_origin = false;
+  replace_session = false;
+  transport = None;
+  source = None;
+  family = None;
+}
 
 abbrev pub towards_srtp : Options
 towards_srtp = record plain { transport = Some Savp }
@@ -81,7 +88,7 @@ unfolding plan.offer_fault offer_sdp
 offer_is_faultless = refl
 
 pub offer_demands : plan.demand [] offer ≡ record {
-  pairs = new_leg 0 B ∷ new_leg 0 A ∷ [];
+  pairs = record { section = 0; side = B; family = V4 } ∷ record { section = 0; side = A; family = V4 } ∷ [];
   keys = record { section = 0; side = B; suite = Tag80 } ∷ record { section = 0; side = B; suite = Tag32 } ∷ [];
   dropped = [];
 }
@@ -253,7 +260,11 @@ pub next_is_faultless : plan.offer_fault [] next_offer ≡ None
 unfolding plan.offer_fault offer_sdp
 next_is_faultless = refl
 
-pub next_demands : plan.demand [] next_offer ≡ record { pairs = new_leg 0 B ∷ new_leg 0 A ∷ []; keys = []; dropped = [] }
+pub next_demands : plan.demand [] next_offer ≡ record {
+  pairs = record { section = 0; side = B; family = V4 } ∷ record { section = 0; side = A; family = V4 } ∷ [];
+  keys = [];
+  dropped = [];
+}
 unfolding plan.demand offer_sdp
 next_demands = refl
 

@@ -29,12 +29,11 @@ use Rattle.board_turns.specs.Departures.{legs_in}
 use Rattle.board_turns.proofs.Nesting.{above_rows}
 use Rattle.board_turns.specs.CallEnds.{leg_pairs}
 use Rattle.board_turns.proofs.CloseAfter.{can_close_after}
-use Rattle.board_turns.proofs.Ended.{ports_are}
 use Rattle.board_turns.proofs.Tying.{legs_leave, ties_gone}
 use Rattle.board_turns.proofs.Unopened.{gone_open_none}
 use Rattle.answer_command.specs.Due.{due_answer}
 use Rattle.answer_command.proofs.Taken.{no_pairs, no_keys, may_apply, takes_in, taken_with}
-use Rattle.answer_command.proofs.Done.{went_closed, does_answer}
+use Rattle.answer_command.proofs.Done.{went_closed, closed_leased, does_answer}
 use Rattle.answer_command.proofs.act.answer_act.Goals as goal
 
 pub write_answer-requires-clause-pairs : goal.write_answer-requires-clause-pairs
@@ -169,7 +168,7 @@ returns-clause-does g c e of ask d =
 
 pub returns-clause-closes : goal.returns-clause-closes
 returns-clause-closes g c =
-    gone_open_none g.P.Out.OutEnd.log c.commit_cell.new.main.config.now.interface c.commit_cell.new.gone (g.P.PortMaker.log c.args.turn.now.ports.now)
+    gone_open_none g.P.Out.OutEnd.log c.commit_cell.new.main.config.now c.commit_cell.new.gone (g.P.PortMaker.log c.args.turn.now.ports.now)
     (g.P.PortMaker.log c.close_legs.new.turn.ports.now) c.close_legs.ensures.closes
 
 pub returns-clause-works : goal.returns-clause-works
@@ -185,12 +184,21 @@ returns-clause-works g c =
     let gone = c.commit_cell.new.gone in
     let cell = c.cell-cell.result in
     let signal = c.signal.result.now in
-    let was = c.commit_cell.ensures.committed.was in
     let rows = entries old.main.hand.now in
-    let went = c.commit_cell.ensures.went was.number (above_rows rows cell was.number was.given.above) in
-    let rejected = filter (λ leg. is_rejected signal leg.section) (legs_in (made_by old.main.hand.now) cell was.number) in
+    let n = old.main.entry_id.number in
+    let l = made_by old.main.hand.now in
+    let e = c.requires.due.0 in
+    let of = c.requires.due.1 in
+    let ask = c.requires.due.2 in
+    let d = c.requires.due.3 in
+    let turn = c.requires.begins.in_turn in
+    let at : cell ≡ of.cell = c.cell-cell.ensures ∙ ap (λ (p : BoardPlan). p.cell) c.write_answer.ensures.rest ∙ d.plan_for.cell_is in
+    let said : signal ≡ (due_answer (board_history l n) of ask).signal = c.signal.ensures ∙ ap (λ p. p.signal) c.planned.ensures ∙ c.write_answer.ensures.signal ∙ d.plan_for.plan_for.signal_is in
+    let was = c.commit_cell.ensures.committed.was in
+    let are = went_closed config l n old.main.entry_id.moment e of ask c.args.answer.sdp.now c.args.answer.plan cell was.number signal gone turn.orderly turn.above d at said c.commit_cell.ensures.went
+    (above_rows rows cell was.number was.given.above) in
     let takes = subst (λ (x : Config). TiesTakes x before after (entries mid.hand.now) (entries new.main.hand.now)) same c.close_legs.ensures.takes in
-    let closes = subst (λ (x : Config). Gained before after (ClosesLegs sent x.interface gone)) same c.close_legs.ensures.closes in
+    let closes = subst (λ (x : Config). Gained before after (ClosesLegs sent x gone)) same c.close_legs.ensures.closes in
     record {
       stays = stays_both g.P.PortMaker.log g.P.PortMaker.faults old _ new
           (record {
@@ -200,7 +208,8 @@ returns-clause-works g c =
             later = omega arith;
           })
           c.close_legs.ensures.stays;
-      ties = ties_gone sent config before after rows (entries mid.hand.now) (entries new.main.hand.now) gone (ports_are config gone rejected went)
+      ties = ties_gone sent config before after rows (entries mid.hand.now) (entries new.main.hand.now) gone
+          turn.may.parts.families (closed_leased config (board_history l n) e of gone (good_history config l turn.orderly n) are)
           (legs_leave sent gone cell (Cell (Commit signal)) old.main.hand.now mid.hand.now refl c.commit_cell.ensures.row) takes closes;
       empty = c.close_legs.ensures.empty;
     }

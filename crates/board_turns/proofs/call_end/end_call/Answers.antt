@@ -20,7 +20,7 @@ use Rattle.board_turns.proofs.Staying.{may_again, same_config, nests_both, makes
 use Rattle.board_turns.specs.BoardTurns.{MakesNested}
 use Rattle.board_turns.specs.Closings.{CanClose, ClosesLegs, closings_of, leases_of_legs, pairs_left}
 use Rattle.board_turns.specs.CallEnds.{ClosesTheirs, ending_of}
-use Rattle.board_turns.proofs.Ended.{cell_is, went_are, pairs_are, ports_are, closings_are, can_close}
+use Rattle.board_turns.proofs.Ended.{cell_is, went_are, pairs_are, may_return_alike, may_be_leased, closings_are, can_close}
 use Rattle.board_turns.proofs.Tying.{legs_leave, ties_gone}
 use Rattle.board_turns.proofs.call_end.end_call.Goals as goal
 
@@ -130,9 +130,9 @@ returns-clause-closes g c of legs can =
     (above_rows (entries c.args.turn.now.main.hand.now) cell was.number was.given.above) in
     let same = same_config c.args.turn.now.main c.end_cell.new.main c.end_cell.ensures.nests in
     let after = g.P.PortMaker.log c.close_legs.new.turn.ports.now in
-    gained_less log after (ClosesLegs g.P.Out.OutEnd.log config.interface gone)
+    gained_less log after (ClosesLegs g.P.Out.OutEnd.log config gone)
     (ClosesTheirs g.P.Out.OutEnd.log config legs) (λ calls closes. (gone, are, closes))
-    (subst (λ (k : Config). Gained log after (ClosesLegs g.P.Out.OutEnd.log k.interface gone)) same c.close_legs.ensures.closes)
+    (subst (λ (k : Config). Gained log after (ClosesLegs g.P.Out.OutEnd.log k gone)) same c.close_legs.ensures.closes)
 
 pub returns-clause-open : goal.returns-clause-open
 returns-clause-open g c of legs can held opens =
@@ -181,8 +181,8 @@ returns-clause-works g c =
         later = closed.later;
       };
       ties = ties_gone sent config log after (entries main.hand.now) (entries mid.hand.now) (entries new.hand.now) gone
-          (ports_are config gone legs are) (legs_leave sent gone cell (Cell End) main.hand.now mid.hand.now refl c.end_cell.ensures.row)
+          c.requires.may.parts.families (may_be_leased config (without_call can.view c.args.call) (leases_of_legs gone) (may_return_alike config (without_call can.view c.args.call) gone legs are can.may_return)) (legs_leave sent gone cell (Cell End) main.hand.now mid.hand.now refl c.end_cell.ensures.row)
           (subst (λ (k : Config). TiesTakes k log after (entries mid.hand.now) (entries new.hand.now)) same c.close_legs.ensures.takes)
-          (subst (λ (k : Config). Gained log after (ClosesLegs sent k.interface gone)) same c.close_legs.ensures.closes);
+          (subst (λ (k : Config). Gained log after (ClosesLegs sent k gone)) same c.close_legs.ensures.closes);
       empty = c.close_legs.ensures.empty;
     }

@@ -37,7 +37,7 @@ loop-leg-init g c =
       gained = gains_nothing turn.main.entry_id.number turn.main.entry_id.moment turn.main.hand.now;
       returned = λ config v shows. subst (λ w. BoardMatches config turn.board.now w) (sym (returned_none v)) shows;
       calls = record { calls_are = refl; begun_is = refl };
-      closes = gained_none log (ClosesLegs g.P.Out.OutEnd.log config.interface []) refl;
+      closes = gained_none log (ClosesLegs g.P.Out.OutEnd.log config []) refl;
       opens = λ held opens. told_alike config log held (pairs_left [] held) (left_none held) opens;
       takes = ties_takes_none config log (entries turn.main.hand.now);
     }
@@ -87,7 +87,7 @@ loop-leg-preserved g c =
     let rest = now.rest in
     let same = same_config old.main turn.main was.stays.nests in
     let gained = subst (λ (k : Config). MakesNested (closings_of k one) turn.main new.main) same now.gained in
-    let closes = subst (λ (k : Config). Gained log after (ClosesLegs sent k.interface one)) same now.closes in
+    let closes = subst (λ (k : Config). Gained log after (ClosesLegs sent k one)) same now.closes in
     let opens = subst (λ (k : Config). (held : List ℕ) → WhereLogged log (λ calls. OpensHeld k calls held) → WhereLogged after (λ calls. OpensHeld k calls (pairs_left (leg.0.pair ∷ []) held))) same now.«open» in
     let takes = subst (λ (k : Config). TiesTakes k log after (entries turn.main.hand.now) (entries new.main.hand.now)) same now.takes in
     let all_gained = makes_both (closings_of config some) (closings_of config one) old.main turn.main new.main was.stays.nests was.gained gained in
@@ -110,8 +110,8 @@ loop-leg-preserved g c =
           (returned_more v pairs (leg.0.pair ∷ []) ∙ ap (with_returned v) (sym (pairs_more some one)))
           (now.returned other (with_returned v pairs) (was.returned other v shows));
       calls = record { calls_are = now.calls.calls_are ∙ was.calls.calls_are; begun_is = now.calls.begun_is ∙ was.calls.begun_is };
-      closes = gained_both before log after (ClosesLegs sent config.interface some) (ClosesLegs sent config.interface one) (ClosesLegs sent config.interface (some ++ one))
-          (λ xs ys. closes_more sent config.interface some one xs ys) was.closes closes;
+      closes = gained_both before log after (ClosesLegs sent config some) (ClosesLegs sent config one) (ClosesLegs sent config (some ++ one))
+          (λ xs ys. closes_more sent config some one xs ys) was.closes closes;
       opens = λ held before_open. told_alike config after (pairs_left (leg.0.pair ∷ []) (pairs_left pairs held)) (pairs_left (pairs_in (leases_of_legs (some ++ one))) held)
           (λ q. left_twice pairs (leg.0.pair ∷ []) held q ∙ ap (λ (ps : List ℕ). has (pairs_left ps held) q) (sym (pairs_more some one)))
           (opens (pairs_left pairs held) (was.opens held before_open));
@@ -163,7 +163,7 @@ returns-clause-closes g c =
     let was = c.loop-leg.invariant in
     let none = c.in_default.ensures.takes ∙ c.in_default.ensures.none refl in
     let all = was.split ∙ ap (λ legs. was.closed ++ legs) none ∙ append-nil was.closed in
-    subst (λ gone. Gained (g.P.PortMaker.log c.args.turn.now.ports.now) (g.P.PortMaker.log c.loop-leg.turn.ports.now) (ClosesLegs g.P.Out.OutEnd.log c.args.turn.now.main.config.now.interface gone)) (sym all) was.closes
+    subst (λ gone. Gained (g.P.PortMaker.log c.args.turn.now.ports.now) (g.P.PortMaker.log c.loop-leg.turn.ports.now) (ClosesLegs g.P.Out.OutEnd.log c.args.turn.now.main.config.now gone)) (sym all) was.closes
 
 pub returns-clause-empty : goal.returns-clause-empty
 returns-clause-empty g c =

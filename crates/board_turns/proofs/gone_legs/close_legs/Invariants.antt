@@ -28,7 +28,7 @@ invariant-loop-leg g l =
       gained : MakesNested (closings_of config closed) old.main turn.main;
       returned : (config : Config) (v : View) → BoardMatches config old.board.now v → BoardMatches config turn.board.now (with_returned v (pairs_in (leases_of_legs closed)));
       calls : KeepsCalls old.board.now turn.board.now;
-      closes : Gained (log old.ports.now) (log turn.ports.now) (ClosesLegs g.P.Out.OutEnd.log config.interface closed);
+      closes : Gained (log old.ports.now) (log turn.ports.now) (ClosesLegs g.P.Out.OutEnd.log config closed);
       opens : (held : List ℕ) → WhereLogged (log old.ports.now) (λ calls. OpensHeld config calls held) →
           WhereLogged (log turn.ports.now) (λ calls. OpensHeld config calls (pairs_left (pairs_in (leases_of_legs closed)) held));
       takes : TiesTakes config (log old.ports.now) (log turn.ports.now) (entries old.main.hand.now) (entries turn.main.hand.now);

@@ -2,7 +2,7 @@ use Rattle.std.proofs.Common.{◌≡◌, refl, sym, subst, ◌∙◌, List, ◌�
 use Rattle.turn_table.specs.declared.machine.Entry as table
 use Rattle.turn_table.specs.Hands.{IsSameHand, SameTurns, entries, front_of, place_of, state_of, taken_of}
 use Rattle.call_board.specs.Acts.{BoardEntry}
-use Rattle.call_board.specs.Pairs.{free, held}
+use Rattle.call_board.specs.Pairs.{held}
 use Rattle.media_ports.specs.OpenPorts.{LogsHeld}
 use Rattle.relay_core.specs.declared.part.Part.TheVariants as part
 use Rattle.relay_core.specs.Entries.{board_history}
@@ -15,7 +15,7 @@ use Rattle.board_turns.proofs.Betweens.{between_may, turn_begins, begins_whole, 
 use Rattle.board_turns.proofs.Grown.{makes_history}
 use Rattle.board_turns.proofs.StopTurns.{moved}
 use Rattle.board_turns.proofs.Tying.{ties_ended}
-use Rattle.board_turns.specs.Controls.{control_made, control_of, entry_at, moment_at}
+use Rattle.board_turns.specs.Controls.{control_made, control_of, entry_at, entry_pairs, moment_at}
 use Rattle.board_turns.specs.DeviceAnswers.{IsGivenBy}
 use Rattle.ng_server.specs.Requests.{record_of, AnswersRequest}
 use Rattle.ng_server.specs.SentReplies.{SendsOnce}
@@ -145,7 +145,7 @@ returns-clause-answers g c =
       is_heard = record { source_is = refl; cookie_is = refl; body_is = refl; length_is = refl };
       makes = ended.makes;
       given = at_whole config turns old mid step c.front-number.result c.advance-moment.result now c.advance-moment.new.self before
-          (λ h m. IsGivenBy config (free config h) x.given (g.P.PortMaker.faults c.args.at.now.ports.now) (g.P.PortMaker.faults new.ports.now)
+          (λ h m. IsGivenBy config (entry_pairs config h m x) x.given (g.P.PortMaker.faults c.args.at.now.ports.now) (g.P.PortMaker.faults new.ports.now)
           (g.K.KeySource.faults c.args.keys.now) (g.K.KeySource.faults c.deal-answered.new.keys) before log (g.K.KeySource.log c.args.keys.now) (g.K.KeySource.log c.deal-answered.new.keys))
           c.turn-step.ensures.same.1 begins taken_is c.deal-answered.ensures.given;
       sends = at_whole config turns old mid step c.front-number.result c.advance-moment.result now c.advance-moment.new.self before

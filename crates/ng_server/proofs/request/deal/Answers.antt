@@ -5,7 +5,6 @@ use Rattle.ng_bencode.specs.declared.row.Row.{Row}
 use Rattle.ng_bencode.specs.declared.value.Value.{Value}
 use Rattle.control_messages.specs.Bodies.{pairs_if, said_by}
 use Rattle.call_board.specs.Requests.{ReadsBody, command_in}
-use Rattle.call_board.specs.Pairs.{free}
 use Rattle.call_board.specs.Views.{view_of, view_at_moment}
 use Rattle.relay_core.specs.Entries.{board_history}
 use Rattle.relay_core.specs.Turns.{made_by}
@@ -13,7 +12,8 @@ use Rattle.board_turns.proofs.Givings.{unasked_given}
 use Rattle.board_turns.proofs.Staying.{nests_none}
 use Rattle.board_turns.proofs.Tying.{ties_none}
 use Rattle.board_turns.specs.Commands.{record_by}
-use Rattle.board_turns.specs.Controls.{control_of}
+use Rattle.board_turns.specs.Controls.{control_of, entry_pairs}
+use Rattle.ng_server.specs.Requests.{record_of}
 use Rattle.ng_server.specs.SentReplies.{SendsOnce}
 use Rattle.ng_server.proofs.Kept.{anew, datagram_is, deals_kept, is_kept_now, repeated_deals, repeated_reply, short_deals, short_reply, turn_keeps}
 use Rattle.ng_server.proofs.request.deal.Goals as goal
@@ -62,7 +62,9 @@ returns-in-Some-clause-later g c = (le_refl _, le_refl _)
 pub returns-in-Some-clause-given : goal.returns-in-Some-clause-given
 returns-in-Some-clause-given g c =
     let config = c.args.turn.now.main.config.now in
-    unasked_given config (free config (board_history (made_by c.args.turn.now.main.hand.now) c.args.turn.now.main.entry_id.number)) c.repeat.result.turn_record.device_answers (g.P.PortMaker.faults c.args.turn.now.ports.now)
+    let h = board_history (made_by c.args.turn.now.main.hand.now) c.args.turn.now.main.entry_id.number in
+    let leased = entry_pairs config h c.args.turn.now.main.entry_id.moment (record_of c.args.request.now c.repeat.result.turn_record) in
+    unasked_given config leased c.repeat.result.turn_record.device_answers (g.P.PortMaker.faults c.args.turn.now.ports.now)
     (g.P.PortMaker.faults c.args.turn.now.ports.now) (g.K.KeySource.faults c.args.keys.now) (g.K.KeySource.faults c.args.keys.now)
     (g.P.PortMaker.log c.args.turn.now.ports.now) (g.K.KeySource.log c.args.keys.now) c.repeat.ensures.unasked
 
@@ -108,7 +110,9 @@ returns-in_default-prepare-clause-later g c = (le_refl _, le_refl _)
 pub returns-in_default-prepare-clause-given : goal.returns-in_default-prepare-clause-given
 returns-in_default-prepare-clause-given g c =
     let config = c.args.turn.now.main.config.now in
-    unasked_given config (free config (board_history (made_by c.args.turn.now.main.hand.now) c.args.turn.now.main.entry_id.number)) c.answer_short.result.turn_record.device_answers (g.P.PortMaker.faults c.args.turn.now.ports.now)
+    let h = board_history (made_by c.args.turn.now.main.hand.now) c.args.turn.now.main.entry_id.number in
+    let leased = entry_pairs config h c.args.turn.now.main.entry_id.moment (record_of c.args.request.now c.answer_short.result.turn_record) in
+    unasked_given config leased c.answer_short.result.turn_record.device_answers (g.P.PortMaker.faults c.args.turn.now.ports.now)
     (g.P.PortMaker.faults c.args.turn.now.ports.now) (g.K.KeySource.faults c.args.keys.now) (g.K.KeySource.faults c.args.keys.now)
     (g.P.PortMaker.log c.args.turn.now.ports.now) (g.K.KeySource.log c.args.keys.now) c.answer_short.ensures.unasked
 
@@ -182,4 +186,11 @@ pub returns-clause-later : goal.returns-clause-later
 returns-clause-later g c = (c.carry_out-chosen_lines.ensures.works.stays.later, c.carry_out-chosen_lines.ensures.later)
 
 pub returns-clause-given : goal.returns-clause-given
-returns-clause-given g c = c.carry_out-chosen_lines.ensures.given
+returns-clause-given g c =
+    let dictionary = c.dictionary_of.result in
+    let is : dictionary ≡ c.in-Ok.prepared.asked.dictionary = c.dictionary_of.ensures in
+    let reads : c.args.request.now.too_long ≡ false → ReadsBody c.args.request.now.body.now (pairs_if dictionary) =
+    subst (λ (pairs : Option (Row (Room ℕ × Value))). c.args.request.now.too_long ≡ false → ReadsBody c.args.request.now.body.now (pairs_if pairs)) (sym is) c.in-Ok.ensures.reads in
+    let command : command_in c.args.request.now.too_long (pairs_if dictionary) ≡ said_by c.in-Ok.prepared.asked.command =
+    ap (λ (pairs : Option (Row (Room ℕ × Value))). command_in c.args.request.now.too_long (pairs_if pairs)) is ∙ c.in-Ok.ensures.command in
+    c.carry_out-chosen_lines.ensures.given (pairs_if dictionary) reads command

@@ -1,15 +1,17 @@
-use Rattle.std.proofs.Common.{◌≡◌, ◌∙◌, ◌++◌, refl, sym, ap, subst, ℕ, ◌*◌, true, List, length, take, replicate, arith}
+use Rattle.std.proofs.Common.{◌≡◌, ◌∙◌, ◌++◌, refl, sym, ap, subst, ℕ, ◌*◌, true, List, length, replicate, arith}
 use Rattle.std.proofs.lemmas.List.{length-map}
 use Rattle.turn_table.specs.Hands.{entries}
 use Rattle.offer_answer.specs.Offers.{pairs_demanded, key_count}
 use Rattle.offer_answer.specs.Widths.{WritesFrom}
 use Rattle.port_pool.specs.declared.pairs.Lease.{Lease}
 use Rattle.call_board.specs.declared.board_plan.BoardPlan.{BoardPlan}
-use Rattle.call_board.specs.Boards.{BoardMatches, lease_at, front_leases, pairs_in}
-use Rattle.call_board.specs.Pairs.{free, held}
-use Rattle.call_board.specs.Plans.{CallRoom}
+use Rattle.call_board.specs.Acts.{BoardEntry}
+use Rattle.call_board.specs.Boards.{BoardMatches, lease_at, leases_at, pairs_in}
+use Rattle.call_board.specs.Pairs.{held}
+use Rattle.call_board.specs.Plans.{CallRoom, leased}
 use Rattle.call_board.specs.Views.{view_of, view_at_moment, with_leases}
 use Rattle.call_board.proofs.Entries.{draws_keep}
+use Rattle.call_board.proofs.Outs.{are_free}
 use Rattle.relay_core.specs.Entries.{board_history}
 use Rattle.relay_core.specs.Turns.{GainsNested, made_by}
 use Rattle.relay_core.proofs.Histories.{good_history}
@@ -27,23 +29,28 @@ use Rattle.media_ports.specs.OpenPorts.{OpensHeld}
 use Rattle.media_ports.specs.Draws.{AreDrawn, KeyBytes}
 use Rattle.call_board.specs.Acts as act
 use Rattle.board_turns.specs.CallEnds.{leg_pairs}
-use Rattle.board_turns.proofs.Ended.{ports_are as have_ports}
 use Rattle.board_turns.proofs.Tying.{ties_both, ties_gone, ties_uncalled}
 use Rattle.board_turns.proofs.Unopened.{gone_open_none}
-use Rattle.offer_command.specs.Leases.{with_taken}
+use Rattle.offer_command.specs.Leases.{planned_pairs, with_taken}
 use Rattle.offer_command.specs.Undo.{keys_before}
 use Rattle.offer_command.specs.Brings.{HasLegRoom}
 use Rattle.offer_command.proofs.OpensAsked.{gained_pairs, gained_undone}
 use Rattle.offer_command.proofs.Counted.{plan_few, may_lease}
 use Rattle.offer_command.specs.Offers.{target_of, offer_of, dropped_legs, leased_view, next_key_number, demand_of, offered_text, with_offer}
 use Rattle.offer_command.proofs.Kept.{both_held}
-use Rattle.offer_command.proofs.Leased.{are_fronts, pairs_leased}
+use Rattle.offer_command.proofs.Leased.{pairs_leased}
+use Rattle.offer_command.proofs.LeasesTaken.{planned_count}
 use Rattle.offer_command.proofs.Taken.{ports_are, pairs_of_legs}
-use Rattle.offer_command.proofs.Done.{can_close, does_offer, keys_length}
-use Rattle.offer_command.proofs.Targets.{pairs_count, keys_count}
-use Rattle.offer_command.proofs.Limits.{sound_of, some_due, enough_free, may_apply, due_leased, board_history_short}
+use Rattle.offer_command.proofs.Done.{can_close, does_offer, dropped_leased, keys_length}
+use Rattle.offer_command.proofs.Targets.{planned_are, keys_count}
+use Rattle.offer_command.proofs.Limits.{sound_of, some_due, may_apply, due_leased, board_history_short}
 use Rattle.offer_command.proofs.Undone.{does_undone}
 use Rattle.offer_command.proofs.act.offer_act.Goals as goal
+
+-- the leases that were taken, by the view of the board's history
+leases_are : (config : Config) (h : List BoardEntry) (moment : ℕ) (p q : BoardPlan) (leases : List Lease) → leases ≡ leases_at config (view_at_moment (view_of config h) moment) (planned_pairs config (view_at_moment (view_of config h) moment) p) →
+    q ≡ leased p → leases ≡ leases_at config (view_of config h) (planned_pairs config (view_of config h) q)
+leases_are config h moment p q leases is plan = is ∙ ap (λ (x : BoardPlan). leases_at config (view_of config h) (planned_pairs config (view_of config h) x)) (sym plan)
 
 pub lease_offer-requires-clause-can : goal.lease_offer-requires-clause-can
 lease_offer-requires-clause-can g c =
@@ -57,7 +64,7 @@ lease_offer-requires-clause-can g c =
     let few = plan_few c.args.offer.plan (target_of config h id).rounds ask d.plans.1.plan_for.demands (sound_of config h id ask c.args.offer.plan _ d) in
     let short = board_history_short l c.args.turn.now.main.entry_id.number turn.may.numbered in
     let low = turn.low in
-    may_lease config h c.args.turn.now.board.now (g.P.PortMaker.log c.args.turn.now.ports.now) c.args.offer.plan (view_at_moment (view_of config h) c.args.turn.now.main.entry_id.moment) (good_history config l turn.orderly c.args.turn.now.main.entry_id.number)
+    may_lease config h c.args.turn.now.board.now (g.P.PortMaker.log c.args.turn.now.ports.now) c.args.offer.plan (view_at_moment (view_of config h) c.args.turn.now.main.entry_id.moment) turn.may.parts.families (good_history config l turn.orderly c.args.turn.now.main.entry_id.number)
     (omega (arith, short, low)) c.requires.planned few.0 few.1 turn.shows refl refl refl turn.opens
 
 pub prepare_offer-requires-clause-due : goal.prepare_offer-requires-clause-due
@@ -74,9 +81,13 @@ prepare_offer-requires-clause-due g c =
 pub prepare_offer-requires-clause-leases : goal.prepare_offer-requires-clause-leases
 prepare_offer-requires-clause-leases g c =
     let config = c.args.turn.now.main.config.now in
-    let h = board_history (made_by c.args.turn.now.main.hand.now) c.args.turn.now.main.entry_id.number in
-    c.in-Ok.ensures.leases (view_at_moment (view_of config h) c.args.turn.now.main.entry_id.moment) c.requires.begins.in_turn.shows
-    ∙ ap (λ (q : BoardPlan). front_leases config (view_of config h) (pairs_demanded q.plan)) (sym c.in-Ok.ensures.plan)
+    let l = made_by c.args.turn.now.main.hand.now in
+    let number = c.args.turn.now.main.entry_id.number in
+    let moment = c.args.turn.now.main.entry_id.moment in
+    let h = board_history l number in
+    let turn = c.requires.begins.in_turn in
+    let free = are_free config h (good_history config l turn.orderly number) in
+    leases_are config h moment c.args.offer.plan c.in-Ok.leased.plan.plan c.in-Ok.leased.pairs.leases.list (c.in-Ok.ensures.leases (view_at_moment (view_of config h) moment) turn.shows free) c.in-Ok.ensures.plan
 
 pub prepare_offer-requires-clause-first : goal.prepare_offer-requires-clause-first
 prepare_offer-requires-clause-first g c =
@@ -87,14 +98,16 @@ prepare_offer-requires-clause-first g c =
 pub returns-in-Err-clause-undoes : goal.returns-in-Err-clause-undoes
 returns-in-Err-clause-undoes g c id ask can e code acts =
     let config = c.args.turn.now.main.config.now in
-    let h = board_history (made_by c.args.turn.now.main.hand.now) c.args.turn.now.main.entry_id.number in
+    let l = made_by c.args.turn.now.main.hand.now in
+    let h = board_history l c.args.turn.now.main.entry_id.number in
     let v = view_at_moment (view_of config h) c.args.turn.now.main.entry_id.moment in
     let turn = c.requires.begins.in_turn in
+    let free = are_free config h (good_history config l turn.orderly c.args.turn.now.main.entry_id.number) in
     let d = some_due config h id ask c.args.offer.sdp.now c.args.offer.plan can in
-    does_undone config c.args.turn.now.main.hand.now c.args.turn.now.main.entry_id e c.lease_offer.new.board (g.P.PortMaker.log c.lease_offer.new.ports) id ask code (keys_before c.in-Err.fault) (pairs_demanded c.args.offer.plan.plan) acts
-    (ap (λ (n : ℕ). take n (free config h)) (sym (pairs_count config h id ask c.args.offer.plan d.plans.1)))
-    (enough_free config h c.args.turn.now.board.now c.args.offer.plan v turn.shows refl c.requires.planned)
-    (c.in-Err.ensures.undone v turn.shows) (c.in-Err.ensures.still_open (leg_pairs (held h)) turn.opens)
+    does_undone config c.args.turn.now.main.hand.now c.args.turn.now.main.entry_id e c.lease_offer.new.board (g.P.PortMaker.log c.lease_offer.new.ports) id ask code (keys_before c.in-Err.fault)
+    (planned_pairs config (view_of config h) c.args.offer.plan) acts
+    (sym (planned_are config h id ask c.args.offer.plan d.plans.1))
+    (c.in-Err.ensures.undone v turn.shows free) (c.in-Err.ensures.still_open (leg_pairs (held h)) turn.opens)
 
 pub returns-in-Err-clause-opens_before : goal.returns-in-Err-clause-opens_before
 returns-in-Err-clause-opens_before g c =
@@ -103,12 +116,13 @@ returns-in-Err-clause-opens_before g c =
     let l = made_by c.args.turn.now.main.hand.now in
     let h = board_history l c.args.turn.now.main.entry_id.number in
     let v = view_at_moment (view_of config h) c.args.turn.now.main.entry_id.moment in
-    let pairs = pairs_demanded c.args.offer.plan.plan in
     let turn = c.requires.begins.in_turn in
-    let leases = front_leases config v pairs in
-    let many = length-map (take pairs (free config h)) (lease_at config v.leases) ∙ enough_free config h c.args.turn.now.board.now c.args.offer.plan v turn.shows refl c.requires.planned in
-    gained_undone config (free config h) pairs leases (are_fronts config h pairs leases (good_history config l turn.orderly c.args.turn.now.main.entry_id.number) refl many) (key_count c.args.offer.plan.plan) c.in-Err.fault
-    (log c.args.turn.now.ports.now) (log c.lease_offer.new.ports) c.in-Err.ensures.early (c.in-Err.ensures.closes v turn.shows)
+    let free = are_free config h (good_history config l turn.orderly c.args.turn.now.main.entry_id.number) in
+    let pairs = planned_pairs config (view_of config h) c.args.offer.plan in
+    let leases = leases_at config (view_of config h) pairs in
+    let many = length-map pairs (lease_at config (view_of config h).leases) ∙ planned_count config c.args.turn.now.board.now v c.args.offer.plan turn.shows c.requires.planned in
+    gained_undone config pairs (pairs_demanded c.args.offer.plan.plan) leases (pairs_leased config (view_of config h) pairs leases refl) many (key_count c.args.offer.plan.plan) c.in-Err.fault
+    (log c.args.turn.now.ports.now) (log c.lease_offer.new.ports) c.in-Err.ensures.early (c.in-Err.ensures.closes v turn.shows free)
 
 pub apply_offer-drawn-requires-clause-may : goal.apply_offer-drawn-requires-clause-may
 apply_offer-drawn-requires-clause-may g c =
@@ -121,11 +135,13 @@ apply_offer-drawn-requires-clause-may g c =
     let draws = c.in-Ok.leased.plan.drawn.list in
     let d = due_leased config h id ask c.args.offer.plan c.in-Ok.leased.plan.plan draws c.in-Ok.ensures.plan (c.requires.due.2.due draws c.in-Ok.ensures.keys) in
     let v = view_at_moment (view_of config h) c.args.turn.now.main.entry_id.moment in
-    let keep = draws_keep (with_leases v (pairs_demanded c.args.offer.plan.plan)) (length draws) in
+    let good = good_history config l turn.orderly c.args.turn.now.main.entry_id.number in
+    let pairs = planned_pairs config (view_of config h) c.args.offer.plan in
+    let keep = draws_keep (with_leases v pairs) (length draws) in
     let short = board_history_short l c.args.turn.now.main.entry_id.number turn.may.numbered in
     let low = turn.low in
-    may_apply config h id ask c.in-Ok.leased.plan.plan c.args.turn.now.board.now c.lease_offer.new.board (with_taken v (pairs_demanded c.args.offer.plan.plan) (length draws))
-    (good_history config l turn.orderly c.args.turn.now.main.entry_id.number) (c.in-Ok.ensures.taken v turn.shows) keep.calls_are keep.begun_is (omega (arith, short, low)) c.lease_offer.ensures.calls d.plans.1
+    may_apply config h id ask c.in-Ok.leased.plan.plan c.args.turn.now.board.now c.lease_offer.new.board (with_taken v pairs (length draws))
+    good (c.in-Ok.ensures.taken v turn.shows (are_free config h good)) keep.calls_are keep.begun_is (omega (arith, short, low)) c.lease_offer.ensures.calls d.plans.1
     (subst (λ (q : BoardPlan). CallRoom c.args.turn.now.board.now q.begun) (sym c.in-Ok.ensures.plan) c.requires.planned.call)
 
 pub close_legs-requires-clause-can : goal.close_legs-requires-clause-can
@@ -144,26 +160,27 @@ close_legs-requires-clause-can g c =
     let log = g.P.PortMaker.log c.lease_offer.new.ports in
     let board = c.lease_offer.new.board in
     let d = due_leased config h id ask c.args.offer.plan p draws c.in-Ok.ensures.plan (c.requires.due.2.due draws c.in-Ok.ensures.keys) in
-    let count = pairs_demanded p.plan in
+    let those = planned_pairs config (view_of config h) p in
     let v = view_at_moment (view_of config h) entry_id.moment in
-    let fronts = c.in-Ok.ensures.leases v turn.shows ∙ ap (λ (q : BoardPlan). front_leases config (view_of config h) (pairs_demanded q.plan)) (sym c.in-Ok.ensures.plan) in
+    let free = are_free config h good in
+    let are = leases_are config h entry_id.moment c.args.offer.plan p leases (c.in-Ok.ensures.leases v turn.shows free) c.in-Ok.ensures.plan in
     let first = c.in-Ok.ensures.first v turn.shows in
     let shows =
-    subst (λ (q : BoardPlan). BoardMatches config board (leased_view config h entry_id.moment (pairs_demanded q.plan) (key_count q.plan))) (sym c.in-Ok.ensures.plan)
-    (subst (λ (k : ℕ). BoardMatches config board (leased_view config h entry_id.moment (pairs_demanded c.args.offer.plan.plan) k)) c.in-Ok.ensures.keys (c.in-Ok.ensures.taken v turn.shows)) in
+    subst (λ (q : BoardPlan). BoardMatches config board (leased_view config h entry_id.moment (planned_pairs config (view_of config h) q) (key_count q.plan))) (sym c.in-Ok.ensures.plan)
+    (subst (λ (k : ℕ). BoardMatches config board (leased_view config h entry_id.moment (planned_pairs config (view_of config h) c.args.offer.plan) k)) c.in-Ok.ensures.keys (c.in-Ok.ensures.taken v turn.shows free)) in
     let others = leg_pairs (held h) in
     let more = pairs_in leases in
     let opens = c.in-Ok.ensures.are_open others (more ++ others) turn.opens (both_held others more) in
-    let same = pairs_count config h id ask p d.plans.1 in
-    let keep = draws_keep (with_leases v count) (key_count p.plan) in
-    let ports = c.in-Ok.ensures.ports ∙ ports_are config h id ask draws count leases fronts same in
+    let same = planned_are config h id ask p d.plans.1 in
+    let keep = draws_keep (with_leases v those) (key_count p.plan) in
+    let ports = c.in-Ok.ensures.ports ∙ ports_are config h id ask draws those leases are same in
     let pairs : pairs_in leases ≡ leg_pairs (offer_of config h id ask draws).legs =
-    pairs_leased config h count leases fronts ∙ ap (λ (n : ℕ). take n (free config h)) same ∙ sym (pairs_of_legs config h id ask draws) in
+    pairs_leased config (view_of config h) those leases are ∙ same ∙ sym (pairs_of_legs config h id ask draws) in
     subst (λ (k : Config). CanClose k (made_by c.prepare_offer.new.main.hand.now) c.apply_offer-drawn.new.board log c.prepare_offer.new.gone) (sym (same_config c.args.turn.now.main c.prepare_offer.new.main c.prepare_offer.ensures.nests))
-    (can_close config entry_id.number entry_id.moment c.args.turn.now.main.hand.now c.prepare_offer.new.main.hand.now c.apply_offer-drawn.new.board log id ask p draws count (key_count p.plan)
-    c.prepare_offer.new.gone turn.orderly turn.above d (c.prepare_offer.ensures.gained id ask d) (c.prepare_offer.ensures.went id ask d)
-    (subst (λ (m : ℕ). BoardMatches config c.apply_offer-drawn.new.board (with_offer (offer_of config h id ask draws) m (leased_view config h entry_id.moment count (key_count p.plan)))) (ap (λ (e : BoardEntryId). e.moment) c.prepare_offer.ensures.nests.entry_is)
-    (c.apply_offer-drawn.ensures.taken config h id ask (leased_view config h entry_id.moment count (key_count p.plan)) good d first ports shows keep.calls_are keep.begun_is))
+    (can_close config entry_id.number entry_id.moment c.args.turn.now.main.hand.now c.prepare_offer.new.main.hand.now c.apply_offer-drawn.new.board log id ask p draws those (key_count p.plan)
+    c.prepare_offer.new.gone turn.orderly turn.above d same (c.prepare_offer.ensures.gained id ask d) (c.prepare_offer.ensures.went id ask d)
+    (subst (λ (m : ℕ). BoardMatches config c.apply_offer-drawn.new.board (with_offer (offer_of config h id ask draws) m (leased_view config h entry_id.moment those (key_count p.plan)))) (ap (λ (e : BoardEntryId). e.moment) c.prepare_offer.ensures.nests.entry_is)
+    (c.apply_offer-drawn.ensures.taken config h id ask (leased_view config h entry_id.moment those (key_count p.plan)) good d first ports shows keep.calls_are keep.begun_is))
     (subst (λ (ps : List ℕ). LogsHeld config log (ps ++ leg_pairs (held h))) pairs opens))
 
 pub returns-clause-does : goal.returns-clause-does
@@ -189,33 +206,31 @@ returns-clause-does g c id ask can e fits acts now =
     (subst (λ (k : Config). GainsNested mid.entry_id.number mid.entry_id.moment (closings_of k gone) mid.hand.now new.main.hand.now) same c.close_legs.ensures.gained) in
     let left = subst (λ (k : Config). (held : List ℕ) → WhereLogged log (λ calls. OpensHeld k calls held) → WhereLogged (g.P.PortMaker.log new.ports.now) (λ calls. OpensHeld k calls (pairs_left (pairs_in (closing.leases_of_legs gone)) held))) same c.close_legs.ensures.«open» in
     let d = due_leased config h id ask c.args.offer.plan p draws c.in-Ok.ensures.plan (can.due draws c.in-Ok.ensures.keys) in
-    let count = pairs_demanded p.plan in
+    let those = planned_pairs config (view_of config h) p in
     let v = view_at_moment (view_of config h) entry_id.moment in
-    let fronts = c.in-Ok.ensures.leases v turn.shows ∙ ap (λ (q : BoardPlan). front_leases config (view_of config h) (pairs_demanded q.plan)) (sym c.in-Ok.ensures.plan) in
+    let free = are_free config h good in
+    let are = leases_are config h entry_id.moment c.args.offer.plan p leases (c.in-Ok.ensures.leases v turn.shows free) c.in-Ok.ensures.plan in
     let first = c.in-Ok.ensures.first v turn.shows in
     let before =
-    subst (λ (q : BoardPlan). BoardMatches config board (leased_view config h entry_id.moment (pairs_demanded q.plan) (key_count q.plan))) (sym c.in-Ok.ensures.plan)
-    (subst (λ (k : ℕ). BoardMatches config board (leased_view config h entry_id.moment (pairs_demanded c.args.offer.plan.plan) k)) c.in-Ok.ensures.keys (c.in-Ok.ensures.taken v turn.shows)) in
+    subst (λ (q : BoardPlan). BoardMatches config board (leased_view config h entry_id.moment (planned_pairs config (view_of config h) q) (key_count q.plan))) (sym c.in-Ok.ensures.plan)
+    (subst (λ (k : ℕ). BoardMatches config board (leased_view config h entry_id.moment (planned_pairs config (view_of config h) c.args.offer.plan) k)) c.in-Ok.ensures.keys (c.in-Ok.ensures.taken v turn.shows free)) in
     let others = leg_pairs (held h) in
     let more = pairs_in leases in
     let opens = c.in-Ok.ensures.are_open others (more ++ others) turn.opens (both_held others more) in
-    let many_pairs = pairs_count config h id ask p d.plans.1 in
-    let keep = draws_keep (with_leases v count) (key_count p.plan) in
-    let ports = c.in-Ok.ensures.ports ∙ ports_are config h id ask draws count leases fronts many_pairs in
+    let same_pairs = planned_are config h id ask p d.plans.1 in
+    let keep = draws_keep (with_leases v those) (key_count p.plan) in
+    let ports = c.in-Ok.ensures.ports ∙ ports_are config h id ask draws those leases are same_pairs in
     let pairs : pairs_in leases ≡ leg_pairs (offer_of config h id ask draws).legs =
-    pairs_leased config h count leases fronts ∙ ap (λ (n : ℕ). take n (free config h)) many_pairs ∙ sym (pairs_of_legs config h id ask draws) in
-    let counted = c.in-Ok.ensures.pairs ∙ ap (λ (q : BoardPlan). pairs_demanded q.plan) (sym c.in-Ok.ensures.plan) in
+    pairs_leased config (view_of config h) those leases are ∙ same_pairs ∙ sym (pairs_of_legs config h id ask draws) in
     let drawn = c.in-Ok.ensures.keys ∙ ap (λ (q : BoardPlan). key_count q.plan) (sym c.in-Ok.ensures.plan) in
-    let many : length (take count (free config h)) ≡ count =
-    sym (length-map (take count (free config h)) (lease_at config (view_of config h).leases)) ∙ sym (ap length fronts) ∙ counted in
-    let shows = subst (λ (m : ℕ). BoardMatches config c.apply_offer-drawn.new.board (with_offer (offer_of config h id ask draws) m (leased_view config h entry_id.moment count (key_count p.plan)))) (ap (λ (e : BoardEntryId). e.moment) c.prepare_offer.ensures.nests.entry_is)
-    (c.apply_offer-drawn.ensures.taken config h id ask (leased_view config h entry_id.moment count (key_count p.plan)) good d first ports before keep.calls_are keep.begun_is) in
-    does_offer config c.args.turn.now.main.hand.now c.prepare_offer.new.main.hand.now c.close_legs.new.turn.main.hand.now entry_id e new.board.now (g.P.PortMaker.log new.ports.now) id ask draws count (key_count p.plan)
+    let shows = subst (λ (m : ℕ). BoardMatches config c.apply_offer-drawn.new.board (with_offer (offer_of config h id ask draws) m (leased_view config h entry_id.moment those (key_count p.plan)))) (ap (λ (e : BoardEntryId). e.moment) c.prepare_offer.ensures.nests.entry_is)
+    (c.apply_offer-drawn.ensures.taken config h id ask (leased_view config h entry_id.moment those (key_count p.plan)) good d first ports before keep.calls_are keep.begun_is) in
+    does_offer config c.args.turn.now.main.hand.now c.prepare_offer.new.main.hand.now c.close_legs.new.turn.main.hand.now entry_id e new.board.now (g.P.PortMaker.log new.ports.now) id ask draws those (key_count p.plan)
     c.prepare_offer.new.gone turn.orderly fits (acts ∙ ap (λ (ds : List (List ℕ)). act.Offered (offer_of config h id ask ds)) given) now
-    (ap (λ (n : ℕ). length (take n (free config h))) (sym many_pairs) ∙ many)
+    (sym same_pairs)
     (keys_length (next_key_number h) draws (demand_of config h id ask).keys (drawn ∙ keys_count config h id ask p d.plans.1) ∙ drawn)
     (c.prepare_offer.ensures.went id ask d) (c.prepare_offer.ensures.gained id ask d) closed
-    (c.close_legs.ensures.returned config (with_offer (offer_of config h id ask draws) entry_id.moment (leased_view config h entry_id.moment count (key_count p.plan))) shows)
+    (c.close_legs.ensures.returned config (with_offer (offer_of config h id ask draws) entry_id.moment (leased_view config h entry_id.moment those (key_count p.plan))) shows)
     (left (leg_pairs (offer_of config h id ask draws).legs ++ leg_pairs (held h))
     (subst (λ (ps : List ℕ). LogsHeld config log (ps ++ leg_pairs (held h))) pairs opens))
 
@@ -231,9 +246,11 @@ returns-clause-text g c id ask can =
     let draws = c.in-Ok.leased.plan.drawn.list in
     let d = due_leased config h id ask c.args.offer.plan p draws c.in-Ok.ensures.plan (can.due draws c.in-Ok.ensures.keys) in
     let v = view_at_moment (view_of config h) entry_id.moment in
-    let fronts = c.in-Ok.ensures.leases v turn.shows ∙ ap (λ (q : BoardPlan). front_leases config (view_of config h) (pairs_demanded q.plan)) (sym c.in-Ok.ensures.plan) in
-    let ports = c.in-Ok.ensures.ports ∙ ports_are config h id ask draws (pairs_demanded p.plan) leases fronts (pairs_count config h id ask p d.plans.1) in
-    c.apply_offer-drawn.ensures.text config h id ask (good_history config l turn.orderly entry_id.number) d (c.in-Ok.ensures.first v turn.shows) ports can.lines_are
+    let good = good_history config l turn.orderly entry_id.number in
+    let free = are_free config h good in
+    let are = leases_are config h entry_id.moment c.args.offer.plan p leases (c.in-Ok.ensures.leases v turn.shows free) c.in-Ok.ensures.plan in
+    let ports = c.in-Ok.ensures.ports ∙ ports_are config h id ask draws (planned_pairs config (view_of config h) p) leases are (planned_are config h id ask p d.plans.1) in
+    c.apply_offer-drawn.ensures.text config h id ask good d (c.in-Ok.ensures.first v turn.shows) ports can.lines_are
     ∙ ap (λ (xs : List ℕ). xs ++ offered_text config h id (offer_of config h id ask draws)) c.requires.room.text.0
     ∙ ap (λ (ds : List (List ℕ)). offered_text config h id (offer_of config h id ask ds)) (sym (ap (λ (ks : KeyBytes). ks.list) c.apply_offer-drawn.ensures.keys))
 
@@ -252,14 +269,16 @@ returns-clause-opens g c =
     let entry_id = c.args.turn.now.main.entry_id in
     let h = board_history l entry_id.number in
     let v = view_at_moment (view_of config h) entry_id.moment in
-    let pairs = pairs_demanded c.args.offer.plan.plan in
     let turn = c.requires.begins.in_turn in
+    let free = are_free config h (good_history config l turn.orderly entry_id.number) in
+    let count = pairs_demanded c.args.offer.plan.plan in
+    let pairs = planned_pairs config (view_of config h) c.args.offer.plan in
     let leases = c.in-Ok.leased.pairs.leases.list in
-    let are = are_fronts config h pairs leases (good_history config l turn.orderly entry_id.number) (c.in-Ok.ensures.leases v turn.shows) c.in-Ok.ensures.pairs in
-    gained_opens_alone config (free config h) (replicate (2 * pairs) true) (log c.args.turn.now.ports.now) (log c.lease_offer.new.ports) (log c.close_legs.new.turn.ports.now)
-    (gained_pairs config (free config h) pairs leases are (log c.args.turn.now.ports.now) (log c.lease_offer.new.ports) c.in-Ok.ensures.opens)
-    (gone_open_none g.P.Out.OutEnd.log config.interface c.prepare_offer.new.gone (log c.lease_offer.new.ports) (log c.close_legs.new.turn.ports.now)
-    (subst (λ (k : Config). Gained (log c.lease_offer.new.ports) (log c.close_legs.new.turn.ports.now) (ClosesLegs g.P.Out.OutEnd.log k.interface c.prepare_offer.new.gone)) (same_config c.args.turn.now.main c.prepare_offer.new.main c.prepare_offer.ensures.nests) c.close_legs.ensures.closes))
+    let are = pairs_leased config (view_of config h) pairs leases (c.in-Ok.ensures.leases v turn.shows free) in
+    gained_opens_alone config pairs (replicate (2 * count) true) (log c.args.turn.now.ports.now) (log c.lease_offer.new.ports) (log c.close_legs.new.turn.ports.now)
+    (gained_pairs config pairs count leases are c.in-Ok.ensures.pairs (log c.args.turn.now.ports.now) (log c.lease_offer.new.ports) c.in-Ok.ensures.opens)
+    (gone_open_none g.P.Out.OutEnd.log config c.prepare_offer.new.gone (log c.lease_offer.new.ports) (log c.close_legs.new.turn.ports.now)
+    (subst (λ (k : Config). Gained (log c.lease_offer.new.ports) (log c.close_legs.new.turn.ports.now) (ClosesLegs g.P.Out.OutEnd.log k c.prepare_offer.new.gone)) (same_config c.args.turn.now.main c.prepare_offer.new.main c.prepare_offer.ensures.nests) c.close_legs.ensures.closes))
 
 pub prepare_offer-requires-clause-count : goal.prepare_offer-requires-clause-count
 prepare_offer-requires-clause-count g c = c.in-Ok.ensures.pairs ∙ ap (λ (q : BoardPlan). pairs_demanded q.plan) (sym c.in-Ok.ensures.plan)
@@ -332,7 +351,8 @@ returns-clause-works g c =
     let config = turn.main.config.now in
     let log = g.P.PortMaker.log in
     let rows = entries turn.main.hand.now in
-    let h = board_history (made_by turn.main.hand.now) turn.main.entry_id.number in
+    let l = made_by turn.main.hand.now in
+    let h = board_history l turn.main.entry_id.number in
     let id = c.requires.due.0 in
     let ask = c.requires.due.1 in
     let draws = c.in-Ok.leased.plan.drawn.list in
@@ -355,10 +375,11 @@ returns-clause-works g c =
       ties = ties_both config (log turn.ports.now) taken (log new.ports.now) rows rows (entries new.main.hand.now)
           (ties_uncalled config (log turn.ports.now) taken rows c.lease_offer.ensures.gives_back)
           (ties_gone g.P.Out.OutEnd.log config taken (log new.ports.now) rows (entries mid.hand.now) (entries new.main.hand.now) gone
-          (have_ports config gone (dropped_legs h (offer_of config h id ask draws)) (c.prepare_offer.ensures.went id ask d))
+          c.requires.begins.in_turn.may.parts.families
+          (dropped_leased config h d.entry (offer_of config h id ask draws) gone (good_history config l c.requires.begins.in_turn.orderly turn.main.entry_id.number) d.acts (c.prepare_offer.ensures.went id ask d))
           c.prepare_offer.ensures.leave
           (subst (λ (k : Config). TiesTakes k taken (log new.ports.now) (entries mid.hand.now) (entries new.main.hand.now)) same closed.takes)
-          (subst (λ (k : Config). Gained taken (log new.ports.now) (ClosesLegs g.P.Out.OutEnd.log k.interface gone)) same closed.closes));
+          (subst (λ (k : Config). Gained taken (log new.ports.now) (ClosesLegs g.P.Out.OutEnd.log k gone)) same closed.closes));
       empty = closed.empty;
     }
 

@@ -1,9 +1,10 @@
 use Rattle.std.proofs.Common.{◌≡◌, ◌∙◌, ◌≤◌, refl, ap, sym, subst, ◌++◌, ℕ, List, [], ◌∷◌, length, arith}
 use Rattle.relay_outside.specs.declared.settings.Config.{Config}
 use Rattle.port_pool.specs.Signals.{NewKey}
-use Rattle.offer_answer.specs.Offers.{PlanFor, pairs_demanded, key_count}
+use Rattle.offer_answer.specs.Offers.{PlanFor, legs_demanded, key_count}
 use Rattle.offer_answer.specs.declared.plan.Plan.{Plan}
 use Rattle.call_board.specs.Pairs.{drawn_keys_from}
+use Rattle.call_board.specs.Views.{view_of}
 use Rattle.call_cell.specs.Preparations.{PrepareFor, added, prepared_keys, drops_of, key_room}
 use Rattle.relay_core.specs.Entries.{Cell, board_history}
 use Rattle.relay_core.specs.Turns.{made_by}
@@ -16,6 +17,7 @@ use Rattle.board_turns.specs.Departures.{DroppedRemoved}
 use Rattle.board_turns.specs.declared.board_turn.BoardEntryId.{BoardEntryId}
 use Rattle.relay_core.specs.Turns.{GainsNested}
 use Rattle.board_turns.proofs.Staying.{may_again, same_config, nests_both}
+use Rattle.offer_command.specs.Leases.{planned_pairs}
 use Rattle.offer_command.specs.LegBoxes.{leased_parts}
 use Rattle.offer_command.specs.Offers.{offer_of, target_of, demand_of}
 use Rattle.offer_command.proofs.Filled.{keys_told, drops_told}
@@ -42,12 +44,12 @@ pub open_legs-requires-clause-leased : goal.open_legs-requires-clause-leased
 open_legs-requires-clause-leased g c =
     let main = c.args.main.now in
     let l = made_by main.hand.now in
-    are_leased main.config.now (board_history l main.entry_id.number) (pairs_demanded c.args.taken.now.plan.plan) c.args.pairs.leases.list (good_history main.config.now l c.requires.orderly main.entry_id.number) c.requires.leases
+    are_leased main.config.now (board_history l main.entry_id.number) (legs_demanded c.args.taken.now.plan.plan) c.args.pairs.leases.list (good_history main.config.now l c.requires.orderly main.entry_id.number) c.requires.leases
 
 pub open_legs-requires-clause-shut : goal.open_legs-requires-clause-shut
 open_legs-requires-clause-shut g c =
     let main = c.args.main.now in
-    are_shut main.config.now (made_by main.hand.now) c.requires.orderly main.entry_id.number c.requires.above (pairs_demanded c.args.taken.now.plan.plan) c.args.pairs.leases.list c.requires.leases
+    are_shut main.config.now (made_by main.hand.now) c.requires.orderly main.entry_id.number c.requires.above (legs_demanded c.args.taken.now.plan.plan) c.args.pairs.leases.list c.requires.leases
 
 pub open_legs-requires-clause-room : goal.open_legs-requires-clause-room
 open_legs-requires-clause-room g c = c.requires.room.legs
@@ -140,12 +142,13 @@ prepare_cell-requires-clause-comes g c =
     let parts = c.bring_keys.ensures.legs.parts_are ∙ c.open_legs.ensures.parts ∙ ap (λ (xs : List _). xs ++ leased_parts leases c.args.pairs.opened.list) c.requires.room.no_parts in
     subst (λ (k : Config). CanPrepare k (made_by c.open_legs.new.main.hand.now) c.cell.result signal c.call.result (prepared_keys signal) (drops_of signal))
     (sym (same_config main c.open_legs.new.main c.open_legs.ensures.nests))
-    (can_prepare config main.entry_id.number main.entry_id.moment main.hand.now c.open_legs.new.main.hand.now id ask p draws signal leases c.args.pairs.opened.list
+    (can_prepare config main.entry_id.number main.entry_id.moment main.hand.now c.open_legs.new.main.hand.now id ask p draws
+    (view_of config h) (planned_pairs config (view_of config h) p) signal leases c.args.pairs.opened.list
     legs c.call.result c.cell.result (prepared_keys signal) (drops_of signal)
     c.requires.orderly c.requires.above (let port = c.last_port-last.ensures in omega (arith, port)) d high is call (c.bring_keys.ensures.legs.added_are ∙ list)
     (keys_are config h id ask p draws c.args.taken.now.first_key (prepared_keys signal) c.requires.first (keys_told signal keys asked.dropped stands))
     (drops_told signal keys t.rounds ask stands)
-    (are_leased config h (pairs_demanded p.plan) leases good c.requires.leases) parts
+    c.requires.leases (are_leased config h (legs_demanded p.plan) leases good c.requires.leases) parts
     (prepare_cell-requires-clause-tells g c) c.open_legs.ensures.gained)
 
 pub prepare_cell-requires-clause-ready : goal.prepare_cell-requires-clause-ready
@@ -155,14 +158,11 @@ pub prepare_cell-requires-clause-opened : goal.prepare_cell-requires-clause-open
 prepare_cell-requires-clause-opened g c =
     let main = c.args.main.now in
     let config = main.config.now in
-    let l = made_by main.hand.now in
     let signal = c.bring_keys.new.prepare in
     let leases = c.args.pairs.leases.list in
     let parts = c.bring_keys.ensures.legs.parts_are ∙ c.open_legs.ensures.parts ∙ ap (λ (xs : List _). xs ++ leased_parts leases c.args.pairs.opened.list) c.requires.room.no_parts in
-    let leased = are_leased config (board_history l main.entry_id.number) (pairs_demanded c.args.taken.now.plan.plan) leases
-    (good_history config l c.requires.orderly main.entry_id.number) c.requires.leases in
     subst (λ (k : Config). AreOpened g.O.OutEnd.log k signal) (sym (same_config main c.open_legs.new.main c.open_legs.ensures.nests))
-    (legs_opened g.I.InEnd.log g.O.OutEnd.log config signal _ _ leases c.args.pairs.opened.list parts leased.ports c.requires.ends
+    (legs_opened g.I.InEnd.log g.O.OutEnd.log config signal _ _ leases c.args.pairs.opened.list parts c.requires.ends
     (prepare_cell-requires-clause-tells g c))
 
 pub returns-clause-nests : goal.returns-clause-nests

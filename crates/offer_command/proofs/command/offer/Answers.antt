@@ -2,8 +2,7 @@ use Rattle.std.proofs.Common.{◌≡◌, ◌≤◌, ◌∙◌, arith, refl, ap, 
 use Rattle.turn_table.specs.Hands.{entries}
 use Rattle.offer_answer.specs.declared.plan.Plan.{Plan}
 use Rattle.offer_answer.specs.Offers.{pairs_demanded, AsksOffer}
-use Rattle.call_board.specs.Requests.{sdp_error}
-use Rattle.call_board.specs.Pairs.{free}
+use Rattle.call_board.specs.Requests.{sdp_error_for}
 use Rattle.call_board.specs.Replies.{Described, Fault, reply_datagram}
 use Rattle.call_board.specs.Views.{view_of, view_at_moment}
 use Rattle.relay_core.specs.Entries.{board_history}
@@ -11,14 +10,16 @@ use Rattle.relay_core.specs.Turns.{made_by}
 use Rattle.board_turns.proofs.Tying.{ties_none}
 use Rattle.control_messages.specs.Bodies.{IsErrorOf}
 use Rattle.board_turns.specs.declared.device_answers.DeviceAnswers.TheVariants as device_answers
-use Rattle.board_turns.proofs.Givings.{given_as, offered_given, unasked_given}
+use Rattle.board_turns.specs.Commands.{record_by}
+use Rattle.board_turns.specs.Controls.{entry_pairs}
+use Rattle.board_turns.proofs.Givings.{unasked_given}
 use Rattle.board_turns.proofs.Tellings.{is_short_carries}
 use Rattle.offer_command.specs.Offers.{CanOffer}
 use Rattle.offer_command.specs.Brings.{HasOfferRoom}
 use Rattle.offer_command.specs.Commands.{GivesOutcome, ask_of_offer, undone_code, undone_answers}
 use Rattle.offer_command.proofs.Asked.{asks_for, lines_read, may_offer}
 use Rattle.offer_command.proofs.Carried.{gives_carries, misdescribed_carries, offered_carries, refuses_carries, turn_on, undone_carries}
-use Rattle.offer_command.proofs.Givings.{undone_given}
+use Rattle.offer_command.proofs.Givings.{accepted_given, undone_given}
 use Rattle.board_turns.proofs.Staying.{nests_none, works_none}
 use Rattle.offer_command.proofs.command.offer.Goals as goal
 
@@ -27,13 +28,14 @@ returns-in-Err-clause-carries g c pairs asking =
     let config = c.args.turn.now.main.config.now in
     misdescribed_carries config c.args.turn.now.main.turns.now c.args.turn.now.main.hand.now c.args.turn.now.main.entry_id c.args.asked.now.request.now pairs c.args.asked.now.input.now c.in-Err.fault c.misdescribed.result c.args.turn.now.board.now
     (g.P.PortMaker.log c.args.turn.now.ports.now) c.requires.begins.in_turn c.requires.anew asking
-    (subst (λ (text : List ℕ). IsErrorOf (sdp_error config text) c.in-Err.fault) c.as_slice.ensures c.in-Err.ensures.error) c.misdescribed.ensures.refuses
+    (subst (λ (text : List ℕ). IsErrorOf (sdp_error_for config c.args.asked.now.input.now.options.family text) c.in-Err.fault) c.as_slice.ensures c.in-Err.ensures.error) c.misdescribed.ensures.refuses
 
 pub returns-in-Err-clause-given : goal.returns-in-Err-clause-given
-returns-in-Err-clause-given g c =
+returns-in-Err-clause-given g c pairs asking =
     let config = c.args.turn.now.main.config.now in
-    let free_pairs = free config (board_history (made_by c.args.turn.now.main.hand.now) c.args.turn.now.main.entry_id.number) in
-    unasked_given config free_pairs c.misdescribed.result.device_answers (g.P.PortMaker.faults c.args.turn.now.ports.now) (g.P.PortMaker.faults c.args.turn.now.ports.now) (g.K.KeySource.faults c.args.keys.now) (g.K.KeySource.faults c.args.keys.now)
+    let h = board_history (made_by c.args.turn.now.main.hand.now) c.args.turn.now.main.entry_id.number in
+    let leased = entry_pairs config h c.args.turn.now.main.entry_id.moment (record_by c.args.asked.now.request.now pairs c.misdescribed.result) in
+    unasked_given config leased c.misdescribed.result.device_answers (g.P.PortMaker.faults c.args.turn.now.ports.now) (g.P.PortMaker.faults c.args.turn.now.ports.now) (g.K.KeySource.faults c.args.keys.now) (g.K.KeySource.faults c.args.keys.now)
     (g.P.PortMaker.log c.args.turn.now.ports.now) (g.K.KeySource.log c.args.keys.now) c.misdescribed.ensures.unasked
 
 pub returns-in-Err-plan_offer-clause-carries : goal.returns-in-Err-plan_offer-clause-carries
@@ -57,10 +59,11 @@ returns-in-Err-plan_offer-clause-carries g c pairs asking =
     (g.P.PortMaker.log c.args.turn.now.ports.now) turn asks heard (c.in-Err-plan_offer.ensures.plans config v ask c.requires.begins.in_turn.shows hears) c.unplanned.ensures.refuses
 
 pub returns-in-Err-plan_offer-clause-given : goal.returns-in-Err-plan_offer-clause-given
-returns-in-Err-plan_offer-clause-given g c =
+returns-in-Err-plan_offer-clause-given g c pairs asking =
     let config = c.args.turn.now.main.config.now in
-    let free_pairs = free config (board_history (made_by c.args.turn.now.main.hand.now) c.args.turn.now.main.entry_id.number) in
-    unasked_given config free_pairs c.unplanned.result.device_answers (g.P.PortMaker.faults c.args.turn.now.ports.now) (g.P.PortMaker.faults c.args.turn.now.ports.now) (g.K.KeySource.faults c.args.keys.now) (g.K.KeySource.faults c.args.keys.now)
+    let h = board_history (made_by c.args.turn.now.main.hand.now) c.args.turn.now.main.entry_id.number in
+    let leased = entry_pairs config h c.args.turn.now.main.entry_id.moment (record_by c.args.asked.now.request.now pairs c.unplanned.result) in
+    unasked_given config leased c.unplanned.result.device_answers (g.P.PortMaker.faults c.args.turn.now.ports.now) (g.P.PortMaker.faults c.args.turn.now.ports.now) (g.K.KeySource.faults c.args.keys.now) (g.K.KeySource.faults c.args.keys.now)
     (g.P.PortMaker.log c.args.turn.now.ports.now) (g.K.KeySource.log c.args.keys.now) c.unplanned.ensures.unasked
 
 pub returns-in_default-clause-carries : goal.returns-in_default-clause-carries
@@ -74,10 +77,11 @@ returns-in_default-clause-carries g c pairs asking =
     c.requires.anew c.short.ensures.is_short
 
 pub returns-in_default-clause-given : goal.returns-in_default-clause-given
-returns-in_default-clause-given g c =
+returns-in_default-clause-given g c pairs asking =
     let config = c.args.turn.now.main.config.now in
-    let free_pairs = free config (board_history (made_by c.args.turn.now.main.hand.now) c.args.turn.now.main.entry_id.number) in
-    unasked_given config free_pairs c.short.result.device_answers (g.P.PortMaker.faults c.args.turn.now.ports.now) (g.P.PortMaker.faults c.args.turn.now.ports.now) (g.K.KeySource.faults c.args.keys.now) (g.K.KeySource.faults c.args.keys.now)
+    let h = board_history (made_by c.args.turn.now.main.hand.now) c.args.turn.now.main.entry_id.number in
+    let leased = entry_pairs config h c.args.turn.now.main.entry_id.moment (record_by c.args.asked.now.request.now pairs c.short.result) in
+    unasked_given config leased c.short.result.device_answers (g.P.PortMaker.faults c.args.turn.now.ports.now) (g.P.PortMaker.faults c.args.turn.now.ports.now) (g.K.KeySource.faults c.args.keys.now) (g.K.KeySource.faults c.args.keys.now)
     (g.P.PortMaker.log c.args.turn.now.ports.now) (g.K.KeySource.log c.args.keys.now) c.short.ensures.unasked
 
 pub offer_act-requires-clause-due : goal.offer_act-requires-clause-due
@@ -138,19 +142,28 @@ returns-in-Err-offer_act-clause-carries g c pairs asking =
     c.in-Err-offer_act.ensures.early (c.in-Err-offer_act.ensures.undoes id ask can) is)
 
 pub returns-in-Err-offer_act-clause-given : goal.returns-in-Err-offer_act-clause-given
-returns-in-Err-offer_act-clause-given g c =
+returns-in-Err-offer_act-clause-given g c pairs asking =
     let config = c.args.turn.now.main.config.now in
-    let free_pairs = free config (board_history (made_by c.args.turn.now.main.hand.now) c.args.turn.now.main.entry_id.number) in
+    let h = board_history (made_by c.args.turn.now.main.hand.now) c.args.turn.now.main.entry_id.number in
+    let v = view_at_moment (view_of config h) c.args.turn.now.main.entry_id.moment in
+    let request = c.args.asked.now.request.now in
+    let input = c.args.asked.now.input.now in
+    let chosen = c.of_offer-chosen_lines.result in
+    let ask = ask_of_offer input chosen in
+    let text = c.as_slice.result.now in
+    let lines = lines_read input text c.in-Ok.sdp c.in-Ok.ensures.lines c.as_slice.ensures in
+    let heard = c.of_offer-chosen_lines.ensures ask lines refl in
+    let hears : AsksOffer input c.in-Ok.sdp ask = record { from_tag_is = refl; options_are = refl; hears = record { lines_are = lines; heard = heard } } in
+    let asks = asks_for config h c.args.turn.now.main.entry_id.moment request pairs input text c.requires.anew asking c.as_slice.ensures c.in-Ok.ensures.sound in
     let plan = c.in-Ok-plan_offer.plan in
-    let fault = c.in-Err-offer_act.fault in
+    let plans = c.in-Ok-plan_offer.ensures.plans config v ask c.requires.begins.in_turn.shows hears in
     let opens : c.pairs-opens.result ≡ pairs_demanded plan.plan = c.pairs-opens.ensures.count ∙ ap pairs_demanded c.planned-2.ensures in
-    let count = pairs_demanded plan.plan in
-    given_as config free_pairs c.undone.result.device_answers (undone_answers (2 * count) fault) (g.P.PortMaker.faults c.args.turn.now.ports.now) (g.P.PortMaker.faults c.offer_act.new.turn.ports.now) (g.K.KeySource.faults c.args.keys.now) (g.K.KeySource.faults c.offer_act.new.keys)
+    let fault = c.in-Err-offer_act.fault in
+    undone_given config h c.args.turn.now.main.entry_id.moment request pairs input chosen plan asks plans c.undone.result c.undone.ensures.chosen_are
+    (g.P.PortMaker.faults c.args.turn.now.ports.now) (g.P.PortMaker.faults c.offer_act.new.turn.ports.now) (g.K.KeySource.faults c.args.keys.now) (g.K.KeySource.faults c.offer_act.new.keys)
     (g.P.PortMaker.log c.args.turn.now.ports.now) (g.P.PortMaker.log c.offer_act.new.turn.ports.now) (g.K.KeySource.log c.args.keys.now) (g.K.KeySource.log c.offer_act.new.keys)
-    (c.undone.ensures.answers_are ∙ ap (λ (n : ℕ). undone_answers (2 * n) fault) opens)
-    (undone_given config free_pairs count fault (g.P.PortMaker.faults c.args.turn.now.ports.now) (g.P.PortMaker.faults c.offer_act.new.turn.ports.now) (g.K.KeySource.faults c.args.keys.now) (g.K.KeySource.faults c.offer_act.new.keys)
-    (g.P.PortMaker.log c.args.turn.now.ports.now) (g.P.PortMaker.log c.offer_act.new.turn.ports.now) (g.K.KeySource.log c.args.keys.now) (g.K.KeySource.log c.offer_act.new.keys)
-    c.in-Err-offer_act.ensures.cause c.in-Err-offer_act.ensures.opens_before c.in-Err-offer_act.ensures.draws_before)
+    fault (c.undone.ensures.answers_are ∙ ap (λ (n : ℕ). undone_answers (2 * n) fault) opens)
+    c.in-Err-offer_act.ensures.cause c.in-Err-offer_act.ensures.opens_before c.in-Err-offer_act.ensures.draws_before
 
 pub returns-clause-carries : goal.returns-clause-carries
 returns-clause-carries g c pairs asking =
@@ -182,19 +195,28 @@ returns-clause-carries g c pairs asking =
     (is ∙ ap (λ (bytes : List ℕ). reply_datagram config request.cookie.now request.body.now (Described bytes)) (c.in-Ok-offer_act.ensures.text id ask can)))
 
 pub returns-clause-given : goal.returns-clause-given
-returns-clause-given g c =
+returns-clause-given g c pairs asking =
     let config = c.args.turn.now.main.config.now in
-    let free_pairs = free config (board_history (made_by c.args.turn.now.main.hand.now) c.args.turn.now.main.entry_id.number) in
+    let h = board_history (made_by c.args.turn.now.main.hand.now) c.args.turn.now.main.entry_id.number in
+    let v = view_at_moment (view_of config h) c.args.turn.now.main.entry_id.moment in
+    let request = c.args.asked.now.request.now in
+    let input = c.args.asked.now.input.now in
+    let chosen = c.of_offer-chosen_lines.result in
+    let ask = ask_of_offer input chosen in
+    let text = c.as_slice.result.now in
+    let lines = lines_read input text c.in-Ok.sdp c.in-Ok.ensures.lines c.as_slice.ensures in
+    let heard = c.of_offer-chosen_lines.ensures ask lines refl in
+    let hears : AsksOffer input c.in-Ok.sdp ask = record { from_tag_is = refl; options_are = refl; hears = record { lines_are = lines; heard = heard } } in
+    let asks = asks_for config h c.args.turn.now.main.entry_id.moment request pairs input text c.requires.anew asking c.as_slice.ensures c.in-Ok.ensures.sound in
     let plan = c.in-Ok-plan_offer.plan in
-    let drawn = c.in-Ok-offer_act.offered.drawn in
+    let plans = c.in-Ok-plan_offer.ensures.plans config v ask c.requires.begins.in_turn.shows hears in
     let opens : c.pairs-opens.result ≡ pairs_demanded plan.plan = c.pairs-opens.ensures.count ∙ ap pairs_demanded c.planned-2.ensures in
-    let count = 2 * pairs_demanded plan.plan in
-    given_as config free_pairs c.accepted.result.device_answers (device_answers.Offered count drawn) (g.P.PortMaker.faults c.args.turn.now.ports.now) (g.P.PortMaker.faults c.offer_act.new.turn.ports.now) (g.K.KeySource.faults c.args.keys.now) (g.K.KeySource.faults c.offer_act.new.keys)
+    let drawn = c.in-Ok-offer_act.offered.drawn in
+    accepted_given config h c.args.turn.now.main.entry_id.moment request pairs input chosen plan asks plans c.accepted.result c.accepted.ensures.chosen_are
+    (g.P.PortMaker.faults c.args.turn.now.ports.now) (g.P.PortMaker.faults c.offer_act.new.turn.ports.now) (g.K.KeySource.faults c.args.keys.now) (g.K.KeySource.faults c.offer_act.new.keys)
     (g.P.PortMaker.log c.args.turn.now.ports.now) (g.P.PortMaker.log c.offer_act.new.turn.ports.now) (g.K.KeySource.log c.args.keys.now) (g.K.KeySource.log c.offer_act.new.keys)
-    (c.accepted.ensures.answers_are ∙ ap (λ (n : ℕ). device_answers.Offered (2 * n) drawn) opens)
-    (offered_given config free_pairs count drawn (g.P.PortMaker.faults c.args.turn.now.ports.now) (g.P.PortMaker.faults c.offer_act.new.turn.ports.now) (g.K.KeySource.faults c.args.keys.now) (g.K.KeySource.faults c.offer_act.new.keys)
-    (g.P.PortMaker.log c.args.turn.now.ports.now) (g.P.PortMaker.log c.offer_act.new.turn.ports.now) (g.K.KeySource.log c.args.keys.now) (g.K.KeySource.log c.offer_act.new.keys)
-    c.in-Ok-offer_act.ensures.opens c.in-Ok-offer_act.ensures.draws)
+    drawn (c.accepted.ensures.answers_are ∙ ap (λ (n : ℕ). device_answers.Offered (2 * n) drawn) opens)
+    c.in-Ok-offer_act.ensures.opens c.in-Ok-offer_act.ensures.draws
 
 pub read_description-requires : goal.read_description-requires
 read_description-requires g c =

@@ -7,9 +7,9 @@ use Rattle.offer_answer.specs.Offers.{key_count}
 use Rattle.call_board.specs.declared.board_plan.BoardPlan.{BoardPlan}
 use Rattle.call_board.specs.Views.{with_leases}
 use Rattle.call_board.specs.Boards.{BoardMatches}
-use Rattle.offer_command.specs.Leases.{pairs_of_plan, keys_of_plan, with_taken}
+use Rattle.offer_command.specs.Leases.{keys_of_plan, planned_pairs, with_taken}
 use Rattle.offer_command.specs.Undo.{UndoesPorts, ComesEarly, with_undone}
-use Rattle.offer_command.proofs.LeasesTaken.{free_alike, taken_count, taken_ports, taken_closed, taken_open, taken_generations, taken_of_pairs, taken_draws, taken_out, few_before, undone_is}
+use Rattle.offer_command.proofs.LeasesTaken.{taken_count, taken_closed, taken_open, taken_generations, taken_of_pairs, taken_draws, taken_out, few_before, undone_is}
 use Rattle.offer_command.proofs.LeasesUndone.{held_after, gained_pairs_uncalled, gained_undone_uncalled}
 use Rattle.offer_command.proofs.lease.lease_offer.Goals as goal
 
@@ -20,7 +20,7 @@ lease-leases-requires-clause-generations g c = λ pair.
 pub open_and_draw-requires-clause-opened : goal.open_and_draw-requires-clause-opened
 open_and_draw-requires-clause-opened g c =
     let can = c.requires.can in
-    let is = c.lease-leases.ensures.leases c.args.config.now can.view can.shows can.are_free in
+    let is = (c.lease-leases.ensures.leases c.args.config.now can.view can.shows can.are_free).1 in
     let many = taken_count c.args.config.now c.args.board.now (g.P.PortMaker.log c.args.ports.now) c.args.plan c.lease-leases.result.list can is in
     let room = c.requires.room.opened.1 in
     (c.requires.room.opened.0, omega (arith, many, room))
@@ -31,23 +31,25 @@ open_and_draw-requires-clause-drawn g c =
     let room = c.requires.room.drawn.1 in
     (c.requires.room.drawn.0, omega (arith, demanded, room))
 
-pub open_and_draw-requires-clause-ports : goal.open_and_draw-requires-clause-ports
-open_and_draw-requires-clause-ports g c =
+pub open_and_draw-requires-clause-families : goal.open_and_draw-requires-clause-families
+open_and_draw-requires-clause-families g c = c.requires.can.families
+
+pub open_and_draw-requires-clause-leased : goal.open_and_draw-requires-clause-leased
+open_and_draw-requires-clause-leased g c =
     let can = c.requires.can in
-    let is = c.lease-leases.ensures.leases c.args.config.now can.view can.shows can.are_free in
-    let low : c.args.config.now.port_max < 2 ^ 16 = omega arith in
-    taken_ports c.args.config.now c.args.board.now (g.P.PortMaker.log c.args.ports.now) c.args.plan c.lease-leases.result.list low can is
+    let is = (c.lease-leases.ensures.leases c.args.config.now can.view can.shows can.are_free).1 in
+    taken_of_pairs c.args.config.now c.args.board.now (g.P.PortMaker.log c.args.ports.now) c.args.plan c.lease-leases.result.list can is
 
 pub open_and_draw-requires-clause-closed : goal.open_and_draw-requires-clause-closed
 open_and_draw-requires-clause-closed g c =
     let can = c.requires.can in
-    let is = c.lease-leases.ensures.leases c.args.config.now can.view can.shows can.are_free in
+    let is = (c.lease-leases.ensures.leases c.args.config.now can.view can.shows can.are_free).1 in
     taken_closed c.args.config.now c.args.board.now (g.P.PortMaker.log c.args.ports.now) c.args.plan c.lease-leases.result.list can is
 
 pub count_draws-requires : goal.count_draws-requires
 count_draws-requires g c =
     let can = c.requires.can in
-    let shows = c.lease-leases.ensures.shows c.args.config.now can.view can.shows in
+    let shows = (c.lease-leases.ensures.leases c.args.config.now can.view can.shows can.are_free).0 in
     let demanded : c.keys-count.result ≡ keys_of_plan c.args.plan = c.keys-count.ensures.count ∙ ap key_count (c.planned.ensures ∙ ap (λ (p : BoardPlan). p.plan) c.lease-leases.ensures.plan) in
     let all : length c.as_slice.result.now ≤ keys_of_plan c.args.plan = omega (arith, ap length c.as_slice.ensures, c.in-Ok.ensures.count, demanded) in
     taken_draws c.args.config.now c.args.board.now c.lease-leases.new.self (g.P.PortMaker.log c.args.ports.now) c.args.plan (length c.as_slice.result.now) can shows all
@@ -55,7 +57,7 @@ count_draws-requires g c =
 pub count_draws-requires-in-Err : goal.count_draws-requires-in-Err
 count_draws-requires-in-Err g c =
     let can = c.requires.can in
-    let shows = c.lease-leases.ensures.shows c.args.config.now can.view can.shows in
+    let shows = (c.lease-leases.ensures.leases c.args.config.now can.view can.shows can.are_free).0 in
     let early : ComesEarly (length c.lease-leases.result.list) c.keys-count.result c.in-Err.fault = c.in-Err.ensures.early in
     let few = few_before (length c.lease-leases.result.list) c.keys-count.result c.in-Err.fault early in
     let demanded : c.keys-count.result ≡ keys_of_plan c.args.plan = c.keys-count.ensures.count ∙ ap key_count (c.planned.ensures ∙ ap (λ (p : BoardPlan). p.plan) c.lease-leases.ensures.plan) in
@@ -65,26 +67,25 @@ count_draws-requires-in-Err g c =
 pub undo_offer-requires : goal.undo_offer-requires
 undo_offer-requires g c =
     let can = c.requires.can in
-    let is = c.lease-leases.ensures.leases c.args.config.now can.view can.shows can.are_free in
-    let shows = c.lease-leases.ensures.shows c.args.config.now can.view can.shows in
+    let is = (c.lease-leases.ensures.leases c.args.config.now can.view can.shows can.are_free).1 in
+    let shows = (c.lease-leases.ensures.leases c.args.config.now can.view can.shows can.are_free).0 in
     taken_out c.args.config.now c.args.board.now c.count_draws-in-Err.new.board (g.P.PortMaker.log c.args.ports.now) c.args.plan c.lease-leases.result.list c.keys.result can is
-    (c.count_draws-in-Err.ensures.drawn c.args.config.now (with_leases can.view (pairs_of_plan c.args.plan)) shows)
+    (c.count_draws-in-Err.ensures.drawn c.args.config.now (with_leases can.view (planned_pairs c.args.config.now can.view c.args.plan)) shows)
 
 pub returns-in-Ok-clause-taken : goal.returns-in-Ok-clause-taken
-returns-in-Ok-clause-taken g c = λ v s.
-    let shows = c.lease-leases.ensures.shows c.args.config.now v s in
-    subst (λ (k : ℕ). BoardMatches c.args.config.now c.count_draws.new.board (with_taken v (pairs_of_plan c.args.plan) k)) (ap length c.as_slice.ensures)
-    (c.count_draws.ensures.drawn c.args.config.now (with_leases v (pairs_of_plan c.args.plan)) shows)
+returns-in-Ok-clause-taken g c = λ v s free.
+    let pairs = planned_pairs c.args.config.now v c.args.plan in
+    let shows = (c.lease-leases.ensures.leases c.args.config.now v s free).0 in
+    subst (λ (k : ℕ). BoardMatches c.args.config.now c.count_draws.new.board (with_taken v pairs k)) (ap length c.as_slice.ensures)
+    (c.count_draws.ensures.drawn c.args.config.now (with_leases v pairs) shows)
 
 pub returns-in-Ok-clause-leases : goal.returns-in-Ok-clause-leases
-returns-in-Ok-clause-leases g c = λ v s.
-    let can = c.requires.can in
-    c.lease-leases.ensures.leases c.args.config.now v s (free_alike c.args.config.now c.args.board.now can.view v can.shows s can.are_free)
+returns-in-Ok-clause-leases g c = λ v s free. (c.lease-leases.ensures.leases c.args.config.now v s free).1
 
 pub returns-in-Ok-clause-pairs : goal.returns-in-Ok-clause-pairs
 returns-in-Ok-clause-pairs g c =
     let can = c.requires.can in
-    let is = c.lease-leases.ensures.leases c.args.config.now can.view can.shows can.are_free in
+    let is = (c.lease-leases.ensures.leases c.args.config.now can.view can.shows can.are_free).1 in
     taken_count c.args.config.now c.args.board.now (g.P.PortMaker.log c.args.ports.now) c.args.plan c.lease-leases.result.list can is
 
 pub returns-in-Ok-clause-keys : goal.returns-in-Ok-clause-keys
@@ -102,28 +103,26 @@ returns-in-Ok-clause-low g c =
 pub returns-in-Ok-clause-are_open : goal.returns-in-Ok-clause-are_open
 returns-in-Ok-clause-are_open g c = λ held now tells both.
     let can = c.requires.can in
-    let is = c.lease-leases.ensures.leases c.args.config.now can.view can.shows can.are_free in
+    let is = (c.lease-leases.ensures.leases c.args.config.now can.view can.shows can.are_free).1 in
     taken_open c.args.config.now c.args.board.now (g.P.PortMaker.log c.args.ports.now) (g.P.PortMaker.log c.open_and_draw.new.ports) c.args.plan c.lease-leases.result.list held now can is c.in-Ok.ensures.opens tells both
 
 pub returns-in-Ok-clause-first : goal.returns-in-Ok-clause-first
 returns-in-Ok-clause-first g c = λ v s. c.next_key-first_key.ensures c.args.config.now v s
 
 pub returns-in-Err-clause-undone : goal.returns-in-Err-clause-undone
-returns-in-Err-clause-undone g c = λ v s.
-    let can = c.requires.can in
+returns-in-Err-clause-undone g c = λ v s free.
     let config = c.args.config.now in
-    let n = pairs_of_plan c.args.plan in
-    let is = c.lease-leases.ensures.leases config v s (free_alike config c.args.board.now can.view v can.shows s can.are_free) in
-    let shows = c.lease-leases.ensures.shows config v s in
-    let taken = c.count_draws-in-Err.ensures.drawn config (with_leases v n) shows in
-    let back = c.undo_offer.ensures.returned config (with_taken v n c.keys.result) taken in
-    subst (λ (k : ℕ). BoardMatches config c.undo_offer.new.self (with_undone v n k)) c.keys.ensures
-    (undone_is config c.undo_offer.new.self v c.lease-leases.result.list n c.keys.result is back)
+    let pairs = planned_pairs config v c.args.plan in
+    let leased = c.lease-leases.ensures.leases config v s free in
+    let taken = c.count_draws-in-Err.ensures.drawn config (with_leases v pairs) leased.0 in
+    let back = c.undo_offer.ensures.returned config (with_taken v pairs c.keys.result) taken in
+    subst (λ (k : ℕ). BoardMatches config c.undo_offer.new.self (with_undone v pairs k)) c.keys.ensures
+    (undone_is config c.undo_offer.new.self v c.lease-leases.result.list pairs c.keys.result leased.1 back)
 
 pub returns-in-Err-clause-early : goal.returns-in-Err-clause-early
 returns-in-Err-clause-early g c =
     let can = c.requires.can in
-    let is = c.lease-leases.ensures.leases c.args.config.now can.view can.shows can.are_free in
+    let is = (c.lease-leases.ensures.leases c.args.config.now can.view can.shows can.are_free).1 in
     let many = taken_count c.args.config.now c.args.board.now (g.P.PortMaker.log c.args.ports.now) c.args.plan c.lease-leases.result.list can is in
     let demanded : c.keys-count.result ≡ keys_of_plan c.args.plan = c.keys-count.ensures.count ∙ ap key_count (c.planned.ensures ∙ ap (λ (p : BoardPlan). p.plan) c.lease-leases.ensures.plan) in
     let fault = c.in-Err.fault in
@@ -131,18 +130,16 @@ returns-in-Err-clause-early g c =
     (subst (λ (n : ℕ). ComesEarly (length c.lease-leases.result.list) n fault) demanded c.in-Err.ensures.early)
 
 pub returns-in-Err-clause-closes : goal.returns-in-Err-clause-closes
-returns-in-Err-clause-closes g c = λ v s.
-    let can = c.requires.can in
+returns-in-Err-clause-closes g c = λ v s free.
     let config = c.args.config.now in
     let log = g.P.PortMaker.log in
-    let is = c.lease-leases.ensures.leases config v s (free_alike config c.args.board.now can.view v can.shows s can.are_free) in
-    subst (λ (leases : List Lease). Gained (log c.args.ports.now) (log c.open_and_draw.new.ports) (UndoesPorts (addresses_of config.interface leases) c.in-Err.fault)) is c.in-Err.ensures.closes
+    subst (λ (leases : List Lease). Gained (log c.args.ports.now) (log c.open_and_draw.new.ports) (UndoesPorts (addresses_of config leases) c.in-Err.fault)) (c.lease-leases.ensures.leases config v s free).1 c.in-Err.ensures.closes
 
 pub returns-in-Err-clause-still_open : goal.returns-in-Err-clause-still_open
 returns-in-Err-clause-still_open g c = λ held tells.
     let config = c.args.config.now in
     let log = g.P.PortMaker.log in
-    held_after config (log c.args.ports.now) (log c.open_and_draw.new.ports) (UndoesPorts (addresses_of config.interface c.lease-leases.result.list) c.in-Err.fault) held
+    held_after config (log c.args.ports.now) (log c.open_and_draw.new.ports) (UndoesPorts (addresses_of config c.lease-leases.result.list) c.in-Err.fault) held
     c.in-Err.ensures.closes c.in-Err.ensures.same tells
 
 pub returns-in-Ok-clause-gives_back : goal.returns-in-Ok-clause-gives_back
@@ -150,7 +147,7 @@ returns-in-Ok-clause-gives_back g c =
     let can = c.requires.can in
     let config = c.args.config.now in
     let log = g.P.PortMaker.log in
-    let is = c.lease-leases.ensures.leases config can.view can.shows can.are_free in
+    let is = (c.lease-leases.ensures.leases config can.view can.shows can.are_free).1 in
     gained_pairs_uncalled config c.lease-leases.result.list (log c.args.ports.now) (log c.open_and_draw.new.ports)
     (taken_of_pairs config c.args.board.now (log c.args.ports.now) c.args.plan c.lease-leases.result.list can is) c.in-Ok.ensures.opens
 
@@ -159,7 +156,7 @@ returns-in-Err-clause-gives_back g c =
     let can = c.requires.can in
     let config = c.args.config.now in
     let log = g.P.PortMaker.log in
-    let is = c.lease-leases.ensures.leases config can.view can.shows can.are_free in
+    let is = (c.lease-leases.ensures.leases config can.view can.shows can.are_free).1 in
     gained_undone_uncalled config c.lease-leases.result.list c.in-Err.fault (log c.args.ports.now) (log c.open_and_draw.new.ports)
     (taken_of_pairs config c.args.board.now (log c.args.ports.now) c.args.plan c.lease-leases.result.list can is) c.in-Err.ensures.closes
 
@@ -191,7 +188,7 @@ list_ports-requires-clause-none g c = ap (λ v. v.items) c.in-Ok.ensures.rest �
 pub list_ports-requires-clause-room : goal.list_ports-requires-clause-room
 list_ports-requires-clause-room g c =
     let can = c.requires.can in
-    let is = c.lease-leases.ensures.leases c.args.config.now can.view can.shows can.are_free in
+    let is = (c.lease-leases.ensures.leases c.args.config.now can.view can.shows can.are_free).1 in
     let many = taken_count c.args.config.now c.args.board.now (g.P.PortMaker.log c.args.ports.now) c.args.plan c.lease-leases.result.list can is in
     let room = c.requires.room.numbers.1 in
     subst (λ v. length c.lease-leases.result.list ≤ vec_capacity v) (sym c.in-Ok.ensures.rest) (omega (arith, many, room))

@@ -21,29 +21,29 @@ close_opened-requires-clause-open g c =
     let log = g.P.PortMaker.log in
     let leases = c.args.leases.now.list in
     let whole : take (length c.open_pairs.new.opened.list) leases ≡ leases = take_all (length c.open_pairs.new.opened.list) leases (let same = c.in_default.ensures.pairs in omega (arith, same)) in
-    subst (λ (ls : List Lease). WhereLogged (log c.open_pairs.new.ports) (AllOpen (addresses_of c.args.interface ls))) (sym whole)
-    (told_all_open c.args.interface leases (log c.args.ports.now) (log c.open_pairs.new.ports) (NoneOpen (addresses_of c.args.interface leases)) c.requires.closed
+    subst (λ (ls : List Lease). WhereLogged (log c.open_pairs.new.ports) (AllOpen (addresses_of c.args.config.now ls))) (sym whole)
+    (told_all_open c.args.config.now leases (log c.args.ports.now) (log c.open_pairs.new.ports) (NoneOpen (addresses_of c.args.config.now leases)) c.requires.closed
     c.in_default.ensures.opens)
 
 pub close_opened-requires-clause-opened : goal.close_opened-requires-clause-opened
 close_opened-requires-clause-opened g c =
     let leases = c.args.leases.now.list in
     let whole : take (length c.open_pairs.new.opened.list) leases ≡ leases = take_all (length c.open_pairs.new.opened.list) leases (let same = c.in_default.ensures.pairs in omega (arith, same)) in
-    subst (λ (ls : List Lease). ArePairsOpened g.P.In.InEnd.log g.P.Out.OutEnd.log c.args.interface ls c.open_pairs.new.opened.list) (sym whole) c.in_default.ensures.opened
+    subst (λ (ls : List Lease). ArePairsOpened g.P.In.InEnd.log g.P.Out.OutEnd.log c.args.config.now ls c.open_pairs.new.opened.list) (sym whole) c.in_default.ensures.opened
 
 pub returns-then-is_err-clause-closes : goal.returns-then-is_err-clause-closes
 returns-then-is_err-clause-closes g c =
     let log = g.P.PortMaker.log in
     let leases = c.args.leases.now.list in
     let whole : take (length c.open_pairs.new.opened.list) leases ≡ leases = take_all (length c.open_pairs.new.opened.list) leases (let same = c.in_default.ensures.pairs in omega (arith, same)) in
-    gained_closed c.args.interface leases (log c.args.ports.now) (log c.open_pairs.new.ports) (log c.close_opened.new.ports) c.in_default.ensures.opens
-    (subst (λ (ls : List Lease). Gained (log c.open_pairs.new.ports) (log c.close_opened.new.ports) (AllZip ClosesUncalled (addresses_of c.args.interface ls))) whole
+    gained_closed c.args.config.now leases (log c.args.ports.now) (log c.open_pairs.new.ports) (log c.close_opened.new.ports) c.in_default.ensures.opens
+    (subst (λ (ls : List Lease). Gained (log c.open_pairs.new.ports) (log c.close_opened.new.ports) (AllZip ClosesUncalled (addresses_of c.args.config.now ls))) whole
     c.close_opened.ensures.closes)
 
 pub returns-then-is_err-clause-same : goal.returns-then-is_err-clause-same
 returns-then-is_err-clause-same g c =
     let log = g.P.PortMaker.log in
-    same_after (addresses_of c.args.interface c.args.leases.now.list) (log c.args.ports.now) (log c.close_opened.new.ports) c.requires.closed (returns-then-is_err-clause-closes g c)
+    same_after (addresses_of c.args.config.now c.args.leases.now.list) (log c.args.ports.now) (log c.close_opened.new.ports) c.requires.closed (returns-then-is_err-clause-closes g c)
 
 pub returns-in-Err-clause-later : goal.returns-in-Err-clause-later
 returns-in-Err-clause-later g c = (c.open_pairs.ensures.cause.later, no_earlier (g.K.KeySource.faults c.args.keys.now))

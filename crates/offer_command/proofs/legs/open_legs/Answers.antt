@@ -1,15 +1,16 @@
 use Rattle.std.proofs.Common.{◌≡◌, ◌≤◌, ◌<◌, ◌∙◌, ◌++◌, ℕ, List, [], ◌∷◌, Some, ap, sym, subst, refl, map, arith}
-use Rattle.std.specs.Prelude.{slice_get}
+use Rattle.std.specs.Prelude.{option_map, slice_get}
 use Rattle.histories.specs.Words.{here}
-use Rattle.port_pool.specs.Ports.{pair_count, pair_port}
+use Rattle.port_pool.specs.Ports.{pair_count}
 use Rattle.port_pool.specs.declared.pairs.Lease.{Lease}
 use Rattle.port_pool.specs.Pools.{AreFree}
 use Rattle.port_pool.specs.declared.holder.Holder.{Holder}
 use Rattle.offer_answer.specs.Rounds.{Demand}
-use Rattle.offer_answer.specs.Offers.{PlanFor, leg_asked, pairs_demanded as pairs_of_plan}
+use Rattle.offer_answer.specs.Laws.{new_leg_place}
+use Rattle.offer_answer.specs.Offers.{PlanFor, pairs_demanded as pairs_of_plan}
 use Rattle.offer_answer.specs.declared.plan.Plan.{Plan}
 use Rattle.call_cell.specs.Preparations.{added, parts_added}
-use Rattle.media_ports.specs.Addresses.{pairs_of_leases, HavePorts}
+use Rattle.media_ports.specs.Addresses.{pairs_of_leases}
 use Rattle.media_ports.specs.Ends.{ArePairsOpened}
 use Rattle.media_ports.specs.Ends as pair_ends
 use Rattle.relay_core.specs.Entries.{box_of}
@@ -37,7 +38,6 @@ loop-index-init g c =
           c.args.pairs.leases.list c.args.pairs.opened.list (added c.args.prepare.now) (parts_added c.args.prepare.now) none;
       leased = c.requires.leased.differ;
       shut = c.requires.shut;
-      ports = c.requires.leased.ports;
       opened = c.requires.opened;
       stands = λ keys dropped s. s;
       leg_room = omega arith;
@@ -97,25 +97,16 @@ open_leg-requires-clause-shut g c =
     subst (λ (k : Config). IsShut l (box_of k c.pair.result)) (sym (same_config c.args.main.now c.loop-index.main inv.nests))
     (subst (AreShut config l) (pairs_left c.loop-index.leases.list rest c.unwrap-lease.result c.pair.result left c.pair.ensures) inv.shut c.pair.result (here refl))
 
-pub open_leg-requires-clause-port : goal.open_leg-requires-clause-port
-open_leg-requires-clause-port g c =
-    let inv = c.loop-index.invariant in
-    let config = c.args.main.now.config.now in
-    let lease = c.unwrap-lease.result in
-    let left = popped c.loop-index.leases.list c.pop.new.self.list c.pop.result lease c.pop.ensures.list c.unwrap-lease.ensures in
-    subst (λ (k : Config). lease.rtp_port ≡ pair_port k c.pair.result) (sym (same_config c.args.main.now c.loop-index.main inv.nests))
-    ((subst (HavePorts config) left inv.ports).0 ∙ ap (pair_port config) (sym c.pair.ensures))
-
 pub open_leg-requires-clause-ends : goal.open_leg-requires-clause-ends
 open_leg-requires-clause-ends g c =
     let inv = c.loop-index.invariant in
-    let opens = ArePairsOpened g.I.InEnd.log g.O.OutEnd.log c.args.main.now.config.now.interface in
+    let opens = ArePairsOpened g.I.InEnd.log g.O.OutEnd.log c.args.main.now.config.now in
     let lease = c.unwrap-lease.result in
     let ends = c.unwrap-ends.result in
     let open_rest = c.pop-in-loop-index.new.self.list in
     let left = popped c.loop-index.leases.list c.pop.new.self.list c.pop.result lease c.pop.ensures.list c.unwrap-lease.ensures in
     let open_left = popped c.loop-index.opened.list open_rest c.pop-in-loop-index.result ends c.pop-in-loop-index.ensures.list c.unwrap-ends.ensures in
-    subst (λ (k : Config). pair_ends.IsPairOpened g.I.InEnd.log g.O.OutEnd.log k.interface lease ends) (sym (same_config c.args.main.now c.loop-index.main inv.nests))
+    subst (λ (k : Config). pair_ends.IsPairOpened g.I.InEnd.log g.O.OutEnd.log k lease ends) (sym (same_config c.args.main.now c.loop-index.main inv.nests))
     (subst (λ (leases : List Lease). opens leases (ends ∷ open_rest)) left (subst (opens c.loop-index.leases.list) open_left inv.opened)).0
 
 pub loop-index-preserved : goal.loop-index-preserved
@@ -141,7 +132,7 @@ loop-index-preserved g c =
     let holder = holder_read c.call.result c.cell.result leg c.pair.result c.generation.result in
     let same_holder : holder ≡ holder_for call cell lease leg = holder_same c.call.result c.cell.result lease leg c.pair.result c.generation.result c.pair.ensures c.generation.ensures
     ∙ ap (λ (n : ℕ). holder_for n c.cell.result lease leg) c.call.ensures ∙ ap (λ (n : ℕ). holder_for call n lease leg) c.cell.ensures in
-    let says : (asked : Demand) → PlanFor c.args.plan.now.plan asked → slice_get asked.pairs c.loop-index.index ≡ Some (leg_asked leg) =
+    let says : (asked : Demand) → PlanFor c.args.plan.now.plan asked → option_map new_leg_place (slice_get asked.pairs c.loop-index.index) ≡ Some leg =
     λ asked demands. c.pair_leg-section.ensures asked (subst (λ (q : Plan). PlanFor q asked) (sym c.planned-demanded.ensures) demands) in
     let left = popped c.loop-index.leases.list rest c.pop.result lease c.pop.ensures.list c.unwrap-lease.ensures in
     let open_left = popped c.loop-index.opened.list open_rest c.pop-in-loop-index.result ends c.pop-in-loop-index.ensures.list c.unwrap-ends.ensures in
@@ -166,9 +157,8 @@ loop-index-preserved g c =
           (more_is ∙ ap (λ (h : Holder). legs ++ h ∷ []) same_holder) step.parts;
       leased = free.2;
       shut = shut_still config number moment holder (pairs_of_leases rest) mid.hand.now new.hand.now gained (subst (AreShut config (made_by mid.hand.now)) pairs inv.shut) free.1;
-      ports = (subst (HavePorts config) left inv.ports).1;
-      opened = (subst (λ (ls : List Lease). ArePairsOpened g.I.InEnd.log g.O.OutEnd.log config.interface ls (ends ∷ open_rest)) left
-          (subst (ArePairsOpened g.I.InEnd.log g.O.OutEnd.log config.interface c.loop-index.leases.list) open_left inv.opened)).1;
+      opened = (subst (λ (ls : List Lease). ArePairsOpened g.I.InEnd.log g.O.OutEnd.log config ls (ends ∷ open_rest)) left
+          (subst (ArePairsOpened g.I.InEnd.log g.O.OutEnd.log config c.loop-index.leases.list) open_left inv.opened)).1;
       stands = λ keys dropped s. step.stands keys dropped (inv.stands keys dropped s);
       leg_room = let a = step.room.0 in let b = inv.leg_room in omega (arith, a, b);
       key_room = step.room.1 ∙ inv.key_room;

@@ -3,7 +3,7 @@ use Rattle.port_pool.specs.Ports.{pair_count}
 use Rattle.port_pool.specs.Pools.{AreFree}
 use Rattle.port_pool.specs.Signals.{NewKey}
 use Rattle.call_cell.specs.Preparations.{IsReady, PrepareFor, added, parts_added, leg_room, key_room}
-use Rattle.media_ports.specs.Addresses.{pairs_of_leases, HavePorts}
+use Rattle.media_ports.specs.Addresses.{pairs_of_leases}
 use Rattle.media_ports.specs.Ends.{ArePairsOpened}
 use Rattle.relay_core.specs.Scripts.{open_owed}
 use Rattle.relay_core.specs.Turns.{made_by}
@@ -23,8 +23,7 @@ invariant-loop-index g l =
           l.initial.leases.list l.leases.list l.initial.opened.list l.opened.list l.index (added l.prepare) (parts_added l.initial.prepare) (parts_added l.prepare);
       leased : AreFree (pair_count config) (pairs_of_leases l.leases.list);
       shut : AreShut config (made_by l.main.hand.now) (pairs_of_leases l.leases.list);
-      ports : HavePorts config l.leases.list;
-      opened : ArePairsOpened g.I.InEnd.log g.O.OutEnd.log config.interface l.leases.list l.opened.list;
+      opened : ArePairsOpened g.I.InEnd.log g.O.OutEnd.log config l.leases.list l.opened.list;
       stands : (keys : List NewKey) (dropped : List ℕ) → PrepareFor l.initial.prepare keys dropped → PrepareFor l.prepare keys dropped;
       leg_room : leg_room l.prepare + l.index ≡ leg_room l.initial.prepare;
       key_room : key_room l.prepare ≡ key_room l.initial.prepare;

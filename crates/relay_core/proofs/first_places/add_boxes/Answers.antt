@@ -11,5 +11,5 @@ loop-pair-preserved g c =
     let config = c.args.config.now in
     let there : c.loop-pair.pair ≡ pair_at config (c.loop-pair.pair + (config.max_sessions + 1)) = omega arith in
     one_more_box config c.args.parts.now.items c.loop-pair.parts.items c.push.new.self.items c.loop-pair.pair (part.Pair c.empty.result) c.loop-pair.invariant
-    (c.empty.ensures.history, c.empty.ensures.ends, c.empty.ensures.cells, c.empty.ensures.at ∙ c.rtp_address-at.ensures ∙ ap (λ (n : ℕ). port_address config n Rtp) there)
+    (c.empty.ensures.history, c.empty.ensures.ends, c.empty.ensures.cells, c.empty.ensures.at ∙ c.port_address-at.ensures ∙ ap (λ (n : ℕ). port_address config n Rtp) there)
     c.in_ok-push.ensures.items

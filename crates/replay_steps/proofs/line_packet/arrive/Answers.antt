@@ -1,6 +1,8 @@
 use Rattle.std.proofs.Common.{◌≡◌, refl, sym, subst, inl, List, Option, Some, Bool, true, false}
 use Rattle.relay_outside.specs.declared.ports.PortCall.{PortCall}
 use Rattle.relay_outside.specs.declared.settings.Config.{Config}
+use Rattle.relay_outside.specs.declared.address.Addr.{Addr}
+use Rattle.relay_outside.specs.Ports.{IsOpen}
 use Rattle.relay_core.specs.Legal.{Orderly}
 use Rattle.relay_core.specs.Turns.{made_by}
 use Rattle.media_lane.specs.Steps.{KeepsReceipts}
@@ -84,9 +86,10 @@ returns g c =
       arrives =
           let opens = subst (λ (o : Option (List PortCall)). OpensJust config (history_of state.hand) o) c.in-Some-calls.ensures ready.opens in
           let shut =
-          shut_unless k l (subst (λ (k : Config). Orderly k l) (sym ready.config_is) ready.between.orderly) c.in-Some-calls.log.now c.in-Some.pair c.in-Some.half c.args.packet.port
-          (subst (λ (k : Config). OpensJust k (history_of state.hand) (Some c.in-Some-calls.log.now)) (sym ready.config_is) opens) c.in-Some.ensures.in_range c.in-Some.ensures.port_is in
+          shut_unless k l (subst (λ (k : Config). Orderly k l) (sym ready.config_is) ready.between.orderly) c.in-Some-calls.log.now c.in-Some.pair c.in-Some.half
+          (subst (λ (k : Config). OpensJust k (history_of state.hand) (Some c.in-Some-calls.log.now)) (sym ready.config_is) opens) c.in-Some.ensures.in_range in
           subst (λ (k : Config). Arrives k l c.args.packet.port c.args.packet.source c.args.packet.bytes.now c.fails-failing.result arrived new) ready.config_is
-          (c.tell_arrival.ensures.arrives k l new c.args.packet.port c.in-Some.pair c.in-Some.half c.in-Some.ensures took.took (λ closed. shut (c.is_open-opened.ensures (not_open c.is_open-opened.result closed))));
+          (c.tell_arrival.ensures.arrives k l new c.args.packet.port c.in-Some.pair c.in-Some.half c.in-Some.ensures took.took (λ closed. shut
+          (subst (λ (at : Addr). IsOpen c.in-Some-calls.log.now at → ⊥) c.port_address.ensures (c.is_open-opened.ensures (not_open c.is_open-opened.result closed)))));
       memory = λ q. absurd (c.tell_arrival.ensures.memory q);
     }

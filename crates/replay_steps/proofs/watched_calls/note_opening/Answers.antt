@@ -14,5 +14,5 @@ returns-else-done-failing c sent seed past s =
       Opened found.0.0 found.0.1 done ∷ past,
       subst (λ (call : PortCall). OpensAsked config (call ∷ []) past (Opened found.0.0 found.0.1 done ∷ past)) (sym c.in-Open.is)
           (found.0, found.1, differ done c.fails-failing.result c.if-done-failing.false ∙ ap (λ (b : Bool). not b) (c.fails-failing.ensures config seed past s), refl),
-      c.opened.ensures config seed found.0.0 found.0.1 found.1.port_is past s,
+      c.opened.ensures config seed found.0.0 found.0.1 (found.1.family ∙ sym c.family.ensures) found.1.port_is past s,
     )
