@@ -70,7 +70,7 @@ same_length config h now c d f g one =
     f.length_is ∙ ap (λ (k : List ℕ). nat_lt 16384 (length (k ++ 32 ∷ c.body))) one.cookie
     ∙ ap (λ (b : List ℕ). nat_lt 16384 (length (d.cookie ++ 32 ∷ b))) one.body ∙ sym g.length_is
 
-same_asked : (config : Config) (h : List BoardEntry) (now : ℕ) (c d : Control) → FitsControl config h now c → FitsControl config h now d → AreOfOne c d → HasMemory c → HasMemory d
+pub same_asked : (config : Config) (h : List BoardEntry) (now : ℕ) (c d : Control) → FitsControl config h now c → FitsControl config h now d → AreOfOne c d → HasMemory c → HasMemory d
     → kept_reply h c.source c.cookie now ≡ None → kept_reply h d.source d.cookie now ≡ None → asked config c.too_long c.pairs ≡ asked config d.too_long d.pairs
 same_asked config h now c d f g one fed_c fed_d none_c none_d =
     let long = same_length config h now c d f g one in

@@ -14,14 +14,14 @@ use Rattle.offer_answer.specs.Plan as plan
 use Rattle.call_board.specs.Acts.{Call, Given, Control, BoardEntry}
 use Rattle.call_board.specs.Calls.{live, find_call, new_call, rounds, is_ending}
 use Rattle.call_board.specs.KeptReplies.{kept_reply}
-use Rattle.call_board.specs.Pairs.{free, free_in, is_short}
+use Rattle.call_board.specs.Pairs.{free_in, is_short}
 use Rattle.call_board.specs.Replies.{Done}
 use Rattle.call_board.specs.Requests.{asked}
 use Rattle.call_board.specs.Answers.{Answering, failing, ending_error, deleting, leased_pairs, offer_ask, answer_ask, offer_unless, offer_to, answer_unless, answer_to, nothing_to_end, names_side, delete_of, query_of, answering, answering_asked, answering_unless, spelled}
 use Rattle.call_board.specs.Fits.{FitsControl, answered_in}
 use Rattle.call_board.proofs.Fixed.{unless_out_of_memory}
 use Rattle.call_board.proofs.Tells.{leased_case, false_in}
-use Rattle.board_turns.specs.Controls.{RequestRecord, unanswered, control_of}
+use Rattle.board_turns.specs.Controls.{RequestRecord, unanswered, control_of, entry_pairs}
 use Rattle.board_turns.specs.DeviceAnswers.{IsGivenBy}
 use Rattle.relay_outside.specs.DeviceLogs.{Rose}
 use Rattle.relay_outside.specs.declared.keys.KeyCall.{KeyCall}
@@ -162,7 +162,7 @@ control_answered config h moment x unkept none =
 
 -- of one in which no count of faults rose
 pub counted : (config : Config) (h : List BoardEntry) (moment : ℕ) (x : RequestRecord) (ports ports_now keys keys_now : ℕ) (opened opened_now : Option (List PortCall)) (drew drew_now : Option (List KeyCall))
-    → kept_reply h x.source x.cookie moment ≡ None → IsGivenBy config (free config h) x.given ports ports_now keys keys_now opened opened_now drew drew_now
+    → kept_reply h x.source x.cookie moment ≡ None → IsGivenBy config (entry_pairs config h moment x) x.given ports ports_now keys keys_now opened opened_now drew drew_now
     → (Rose ports ports_now → ⊥) → (Rose keys keys_now → ⊥) → IsAnswered config h (control_of config h moment x)
 counted config h moment x ports ports_now keys keys_now opened opened_now drew drew_now unkept by no_port no_key =
     control_answered config h moment x unkept (record { opened = λ i. no_port (by.port_fault i); drew = λ i. no_key (by.key_fault i) })

@@ -4,6 +4,8 @@ use Rattle.std.specs.Prelude.{nat_lt, ◌&&◌, ◌==◌, find, length}
 use Rattle.std.specs.List.{list_any}
 use Rattle.std.specs.Option.{option_map}
 use Rattle.std.specs.Str.{bytes_eq}
+use Rattle.relay_outside.specs.declared.address.Family.{Family}
+use Rattle.relay_outside.specs.declared.address.Family.TheVariants.{V4, V6}
 use Rattle.relay_outside.specs.declared.address.Ip.{Ip}
 use Rattle.relay_outside.specs.declared.settings.Config.{Config}
 use Rattle.histories.specs.Words as words
@@ -16,7 +18,7 @@ use Rattle.ng_command.specs.Meanings.{Said, meaning}
 use Rattle.ng_command.specs.Values.{text_at}
 use Rattle.ng_command.specs.declared.fault.KeyName.{KeyName}
 use Rattle.ng_reply.specs.declared.code.ErrorCode.{ErrorCode}
-use Rattle.ng_reply.specs.declared.code.ErrorCode.TheVariants.{E8, E10, E11, E12}
+use Rattle.ng_reply.specs.declared.code.ErrorCode.TheVariants.{E8, E10, E11, E12, E20}
 use Rattle.sdp_text.specs.Lines.{lines_of}
 use Rattle.sdp_text.specs.LineFaults.{faulty_line}
 use Rattle.sdp_text.specs.First.{by_count, by_address}
@@ -28,10 +30,10 @@ use Rattle.sdp_text.proofs.Faults.{first_fault}
 use Rattle.offer_answer.specs.Rounds.{Round, OfferAsk, AnswerAsk}
 use Rattle.offer_answer.specs.Sides.{MadeOffer, last_offer, is_some_sides}
 use Rattle.offer_answer.specs.Sections.{active_sections, all_sections, section_count, committed_count}
-use Rattle.offer_answer.specs.Faults.{is_strangers, lacks_line, may_answer, takes_no_line, fault_of_answer_to}
+use Rattle.offer_answer.specs.Faults.{is_strangers, lacks_line, misfits_offerer, may_answer, misfits_answerer, takes_no_line, fault_of_answer_to}
 use Rattle.offer_answer.specs.Plan.{offer_fault, answer_fault}
 use Rattle.call_board.specs.Answers.{ending_error}
-use Rattle.call_board.specs.Requests.{or_code, code_if, v6_error, sdp_error, description_error, unless, asked_by, asked}
+use Rattle.call_board.specs.Requests.{or_code, code_if, v6_error, family_error, sdp_error, description_error, unless, asked_by, asked}
 use Rattle.board_laws.specs.Answers.{ComesFirst}
 
 -- the error that is there comes first
@@ -94,9 +96,16 @@ sdp_first config text =
     either_first (code_if (fault_in (lines_of text))) (v6_error config.interface6 (v6_line_in (lines_of text))) (text_told (lines_of text))
     (v6_first config.interface6 (v6_line_in (lines_of text)))
 
+family_first : (family : Option Family) (address : Option Ip) → IsFirst (family_error family address)
+family_first None address = tt
+family_first (Some V4) address = tt
+family_first (Some V6) (Some address) = tt
+family_first (Some V6) None = tt
+
 described_first : (config : Config) (says : Said) → IsFirst (description_error config says)
 described_first config said.Ping = tt
-described_first config (said.Offer call_id from_tag sdp options) = sdp_first config sdp
+described_first config (said.Offer call_id from_tag sdp options) =
+    either_first (family_error options.family config.interface6) (sdp_error config sdp) (family_first options.family config.interface6) (sdp_first config sdp)
 described_first config (said.Answer call_id from_tag to_tag sdp options) = sdp_first config sdp
 described_first config (said.Delete call_id from_tag fatal seconds) = tt
 described_first config (said.Query call_id) = tt
@@ -138,11 +147,13 @@ asked_first config false (Some pairs) = asked_by_first config (or_code (said_or_
 
 -- Offers and answers.
 
-by_cases : (code : ErrorCode) → ComesFirst code → (first fewer lacks : Bool) → IsFirst (cond first (Some code) (cond fewer (Some E12) (cond lacks (Some E8) None)))
-by_cases code p true fewer lacks = p
-by_cases code p false true lacks = tt
-by_cases code p false false true = tt
-by_cases code p false false false = tt
+by_cases : (code : ErrorCode) → ComesFirst code → (first fewer differs lacks : Bool)
+    → IsFirst (cond first (Some code) (cond fewer (Some E12) (cond differs (Some E20) (cond lacks (Some E8) None))))
+by_cases code p true fewer differs lacks = p
+by_cases code p false true differs lacks = tt
+by_cases code p false false true lacks = tt
+by_cases code p false false false true = tt
+by_cases code p false false false false = tt
 
 -- the call is ending, or an error comes first
 pub ending_first : (ending : Bool) (fault : Option ErrorCode) → IsFirst fault → IsFirst (words.or_else (ending_error ending) fault)
@@ -153,15 +164,18 @@ ending_first false fault p = p
 pub offer_first : (before : List Round) (ask : OfferAsk) → IsFirst (offer_fault before ask)
 unfolding offer_fault
 offer_first before ask =
-    by_cases E10 tt (is_strangers before ask) (nat_lt (section_count ask.sdp) (committed_count before)) (list_any (lacks_line ask) (active_sections ask.sdp))
+    by_cases E10 tt (is_strangers before ask) (nat_lt (section_count ask.sdp) (committed_count before)) (list_any (misfits_offerer before ask) (active_sections ask.sdp))
+    (list_any (lacks_line ask) (active_sections ask.sdp))
 
-made_first : (ask : AnswerAsk) (unknown : Bool) (made : Option MadeOffer) → IsFirst (cond unknown (Some E10) (elim made [ None ↦ Some E10 | Some offer ↦ fault_of_answer_to offer ask ]))
-made_first ask true made = tt
-made_first ask false None = tt
-made_first ask false (Some offer) =
-    by_cases E11 tt (not (bytes_eq ask.from_tag offer.ask.from_tag)) (not (section_count ask.sdp == section_count offer.ask.sdp)) (list_any (takes_no_line offer ask) (all_sections ask.sdp))
+made_first : (before : List Round) (ask : AnswerAsk) (unknown : Bool) (made : Option MadeOffer)
+    → IsFirst (cond unknown (Some E10) (elim made [ None ↦ Some E10 | Some offer ↦ fault_of_answer_to before offer ask ]))
+made_first before ask true made = tt
+made_first before ask false None = tt
+made_first before ask false (Some offer) =
+    by_cases E11 tt (not (bytes_eq ask.from_tag offer.ask.from_tag)) (not (section_count ask.sdp == section_count offer.ask.sdp))
+    (list_any (misfits_answerer before offer ask) (active_sections ask.sdp)) (list_any (takes_no_line offer ask) (all_sections ask.sdp))
 
 -- an error of an answer
 pub answer_first : (before : List Round) (ask : AnswerAsk) → IsFirst (answer_fault before ask)
 unfolding answer_fault
-answer_first before ask = made_first ask (not (is_some_sides before ask.from_tag && may_answer before ask)) (last_offer before)
+answer_first before ask = made_first before ask (not (is_some_sides before ask.from_tag && may_answer before ask)) (last_offer before)

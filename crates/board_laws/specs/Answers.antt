@@ -3,7 +3,7 @@ use Rattle.std.specs.Prelude.{◌≡◌, true, false, List}
 use Rattle.histories.specs.Words.{In}
 use Rattle.relay_outside.specs.declared.settings.Config.{Config}
 use Rattle.ng_reply.specs.declared.code.ErrorCode.{ErrorCode}
-use Rattle.ng_reply.specs.declared.code.ErrorCode.TheVariants.{E1, E2, E3, E4, E5, E6, E7, E8, E9, E10, E11, E12, E13, E14, E15, E16, E17, E18, E19}
+use Rattle.ng_reply.specs.declared.code.ErrorCode.TheVariants.{E1, E2, E3, E4, E5, E6, E7, E8, E9, E10, E11, E12, E13, E14, E15, E16, E17, E18, E19, E20}
 use Rattle.call_board.specs.Acts as act
 use Rattle.call_board.specs.Acts.{Given, Control, BoardEntry}
 use Rattle.call_board.specs.Replies.{Reply, Pong, Done, Warned, Described, Reported, Listed, Fault, reply_datagram}
@@ -37,6 +37,7 @@ ComesFirst E16 = ⊥
 ComesFirst E17 = ⊥
 ComesFirst E18 = Unit {0}
 ComesFirst E19 = Unit {0}
+ComesFirst E20 = Unit {0}
 
 -- the reply says `ok` or `pong`
 abbrev pub IsSuccess : Reply → Type 0

@@ -8,9 +8,9 @@ ghost use Rattle.port_pool.specs.declared.reports.LegReport.{LegReport};
 ghost use Rattle.call_board.specs.Acts.{BoardEntry, Control};
 ghost use Rattle.call_board.specs.Fits.{FitsControl};
 ghost use Rattle.call_board.specs.KeptReplies.{kept_reply};
-ghost use Rattle.call_board.specs.Pairs.{free};
-ghost use Rattle.board_turns.specs.Controls.{RequestRecord, control_of};
+ghost use Rattle.board_turns.specs.Controls.{RequestRecord, control_of, entry_pairs};
 ghost use Rattle.board_turns.specs.DeviceAnswers.{IsGivenBy};
+ghost use Rattle.call_cell.specs.declared.outcome.LocalPort.{LocalPort};
 ghost use Rattle.call_cell.specs.declared.outcome.Lost.TheVariants.{SendFault};
 ghost use Rattle.call_cell.specs.declared.outcome.Outcome.{Outcome};
 ghost use Rattle.call_cell.specs.declared.outcome.Outcome.TheVariants.{Sent, Lost};
@@ -46,7 +46,7 @@ pub fn dialects_are_one()
 {}
 
 /// Theorem (no run-time code): a datagram with a frame, for which no reply is kept, is answered: where memory did not run out, and no port and no
-/// key failed, with the success that is due, or with one of the errors that come before the devices (E1 to E14, E18 and E19, so no E15, E16 or E17),
+/// key failed, with the success that is due, or with one of the errors that come before the devices (E1 to E14 and E18 to E20, so no E15, E16 or E17),
 /// which it would get whatever these return; and where memory ran out with the error that says so (E17).
 ///
 /// A port or a key can have failed only where a count of faults rose: `counted` says it so, of a turn whose entry says what the devices told.
@@ -56,7 +56,7 @@ pub fn framed_datagrams_are_answered()
         FailsNowhere c.given → IsAnswered config h c }
     ensures counted { (config : Config) (h : List BoardEntry) (moment : ℕ) (x : RequestRecord) (ports ports_now keys keys_now : ℕ)
         (opened opened_now : Option (List PortCall)) (drew drew_now : Option (List KeyCall)) → kept_reply h x.source x.cookie moment ≡ None →
-        IsGivenBy config (free config h) x.given ports ports_now keys keys_now opened opened_now drew drew_now →
+        IsGivenBy config (entry_pairs config h moment x) x.given ports ports_now keys keys_now opened opened_now drew drew_now →
         (Rose ports ports_now → ⊥) → (Rose keys keys_now → ⊥) → IsAnswered config h (control_of config h moment x) }
 {}
 
@@ -66,9 +66,9 @@ pub fn framed_datagrams_are_answered()
 ///
 /// `relayed` says it of what `Cell::relay` and each relay of a lane promise of their outcome (`CellRelays`, `call_cell/specs/CellHistories.antt`).
 pub fn due_packets_are_sent()
-    ensures once { (config : Config) (h : List CellEntry) (p : Receipt) (port : ℕ) (to : Addr) (len : ℕ) →
-        (deed config h p true).outcome ≡ Sent port to len → IsSentOnce config h p port to len }
-    ensures relayed { (config : Config) (h : List CellEntry) (p : Receipt) (port : ℕ) (to : Addr) (len : ℕ) (result : Outcome) →
-        (deed config h p true).outcome ≡ Sent port to len → result ≡ (deed config h p (sent_ok result)).outcome →
-        (result ≡ Sent port to len) ⊎ (result ≡ Lost (SendFault port)) }
+    ensures once { (config : Config) (h : List CellEntry) (p : Receipt) (from : LocalPort) (to : Addr) (len : ℕ) →
+        (deed config h p true).outcome ≡ Sent from.family from.port to len → IsSentOnce config h p from to len }
+    ensures relayed { (config : Config) (h : List CellEntry) (p : Receipt) (from : LocalPort) (to : Addr) (len : ℕ) (result : Outcome) →
+        (deed config h p true).outcome ≡ Sent from.family from.port to len → result ≡ (deed config h p (sent_ok result)).outcome →
+        (result ≡ Sent from.family from.port to len) ⊎ (result ≡ Lost (SendFault from.family from.port)) }
 {}

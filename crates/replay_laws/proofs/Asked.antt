@@ -6,7 +6,8 @@ use Rattle.relay_outside.specs.declared.keys.KeyCall.TheVariants as key
 use Rattle.relay_outside.specs.declared.ports.PortCall.{PortCall}
 use Rattle.relay_outside.specs.declared.ports.PortCall.TheVariants.{Open, Close}
 use Rattle.relay_outside.specs.declared.settings.Config.{Config}
-use Rattle.media_ports.specs.Openings.{OpensAt, opening_answers, opening_calls, pair_addresses}
+use Rattle.media_ports.specs.Addresses.{pair_addresses}
+use Rattle.media_ports.specs.Openings.{OpensAt, opening_answers, opening_calls}
 use Rattle.media_ports.specs.Calls.{openings}
 use Rattle.replay_devices.specs.Devices.{Happening, Opened, Drew}
 use Rattle.replay_steps.specs.Arrivals.{End}
@@ -24,7 +25,7 @@ opens_alone config [] old new a = a
 opens_alone config (Open at done ∷ calls) old new a = (a.0, a.1, a.2, opens_alone config calls (Opened a.0.0 a.0.1 done ∷ old) new a.3)
 opens_alone config (Close at taken sent ∷ calls) old new a = opens_alone config calls old new a
 
-answers_alone : (calls : List PortCall) → opening_answers calls ≡ opening_answers (opening_calls calls)
+pub answers_alone : (calls : List PortCall) → opening_answers calls ≡ opening_answers (opening_calls calls)
 answers_alone [] = refl
 answers_alone (Open at done ∷ calls) = ap (λ (xs : List Bool). done ∷ xs) (answers_alone calls)
 answers_alone (Close at taken sent ∷ calls) = answers_alone calls
@@ -39,14 +40,14 @@ opens_agree config (at ∷ ats) [] b old m n p q = tt
 opens_agree config (at ∷ ats) (x ∷ a) [] old m n p q = tt
 opens_agree config (at ∷ ats) (x ∷ a) (y ∷ b) old m n p q =
     let same : x ≡ y = p.2 ∙ sym q.2 in
-    let end : p.0 ≡ q.0 = end_once config at.port at.ip at.ip p.0 q.0 p.1 q.1 in
+    let end : p.0 ≡ q.0 = end_once config at.port at.ip p.0 q.0 p.1 q.1 in
     let past : opened q.0 y old ≡ opened p.0 x old = sym (ap (λ (e : End). opened e x old) end ∙ ap (λ (d : Bool). opened q.0 d old) same) in
     (same, opens_agree config ats a b (opened p.0 x old) m n p.3 (subst (λ (h : List Happening). OpensAsked config (openings ats b) h n) past q.3))
 
 opens_once : (config : Config) (calls : List PortCall) (old m n : List Happening) → OpensAsked config calls old m → OpensAsked config calls old n → m ≡ n
 opens_once config [] old m n p q = p ∙ sym q
 opens_once config (Open at done ∷ calls) old m n p q =
-    let end : p.0 ≡ q.0 = end_once config at.port at.ip at.ip p.0 q.0 p.1 q.1 in
+    let end : p.0 ≡ q.0 = end_once config at.port at.ip p.0 q.0 p.1 q.1 in
     opens_once config calls (opened p.0 done old) m n p.3
     (subst (λ (e : End). OpensAsked config calls (opened e done old) n) (sym end) q.3)
 opens_once config (Close at taken sent ∷ calls) old m n p q = opens_once config calls old m n p q

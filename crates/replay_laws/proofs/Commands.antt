@@ -13,7 +13,7 @@ use Rattle.call_cell.specs.Demands.{reports}
 use Rattle.call_cell.specs.Good.{FittingCell}
 use Rattle.call_board.specs.Acts as act
 use Rattle.call_board.specs.Acts.{Call, Control, Turn, BoardEvent, BoardEntry}
-use Rattle.call_board.specs.Pairs.{free}
+use Rattle.call_board.specs.Pairs.{leased_by_act}
 use Rattle.call_board.specs.Fits.{FitsControl}
 use Rattle.relay_core.specs.Entries.{Event, Board, Entry, cell_at, cell_entry, cell_history}
 use Rattle.relay_core.specs.Scripts.{Owed, owed_by, in_cell, reading, script, script_of_act}
@@ -37,6 +37,7 @@ use Rattle.replay_laws.proofs.Turns.{TurnAlike}
 use Rattle.replay_laws.proofs.Lists.{told_once, same_history, not_cell}
 use Rattle.replay_laws.proofs.Relays.{SameCells}
 use Rattle.replay_laws.proofs.Turned.{turn_fits, turn_event, turn_owes}
+use Rattle.replay_laws.proofs.Leasing.{LeasesWanted, LeaseOne, one_lease, opens_wanted}
 use Rattle.replay_laws.proofs.Asked.{openings_agree, openings_once, draws_agree, draws_once}
 
 -- What is known of one turn.
@@ -155,6 +156,16 @@ ran_alike config seed h clock l k old pairs x y p q cells s t a b = record {
   reports = λ of m n is_x is_y told_x told_y. report_once config l k of.cell m n cells (s.log of m is_x told_x) (t.log of n is_y told_y);
 }
 
+ran_wanted : (config : Config) (seed : ℕ) (old : List Happening) (wanted leased : List ℕ) (x : RequestRecord) (past : List Happening) → LeasesWanted wanted leased
+    → Ran config seed old leased x past → Ran config seed old wanted x past
+ran_wanted config seed old wanted leased x past those r = record {
+  opened = r.opened;
+  between = r.between;
+  opens = opens_wanted config wanted leased x.given.opens r.opened those r.opens;
+  asked = r.asked;
+  drawn = r.drawn;
+}
+
 past_once : (config : Config) (seed : ℕ) (old : List Happening) (pairs : List ℕ) (x y : RequestRecord) (p q : List Happening) → x.given ≡ y.given
     → Ran config seed old pairs x p → Ran config seed old pairs y q → p ≡ q
 past_once config seed old pairs x y p q same a b =
@@ -172,28 +183,34 @@ record Replied (config : Config) (seed : ℕ) (h : List BoardEntry) (clock : ℕ
   heard : RequestRecord
   is_heard : IsRecordFrom heard source bytes
   turned_so : Turned config h clock l heard
-  ran : Ran config seed old (free config h) heard past
+  ran : Ran config seed old (leased_by_act (turn_of config h clock heard).act) heard past
   replies : Replying failing source (turn_of config h clock heard).reply e
 
 one_reply : (config : Config) (seed : ℕ) (h : List BoardEntry) (clock : ℕ) (l k : List Entry) (old : List Happening) (source : Addr) (bytes : List ℕ) (failing : Bool) (e f : Printed) (p q : List Happening)
     → SameCells l k → (a : Replied config seed h clock l old source bytes failing e p) → (b : Replied config seed h clock k old source bytes failing f q)
     → AreOne (turn_of config h clock a.heard) (turn_of config h clock b.heard)
 one_reply config seed h clock l k old source bytes failing e f p q cells a b =
-    one_turn config h (moment_at h clock) (turn_of config h clock a.heard) (turn_of config h clock b.heard) a.turned_so.fits b.turned_so.fits
-    (of_one config h clock source bytes a.heard b.heard a.is_heard b.is_heard) a.turned_so.fed b.turned_so.fed
-    (ran_alike config seed h clock l k old (free config h) a.heard b.heard p q cells a.turned_so b.turned_so a.ran b.ran)
+    let c : Control = turn_of config h clock a.heard in
+    let d : Control = turn_of config h clock b.heard in
+    let of = of_one config h clock source bytes a.heard b.heard a.is_heard b.is_heard in
+    let lease : LeaseOne c d = one_lease config h (moment_at h clock) c d a.turned_so.fits b.turned_so.fits of a.turned_so.fed b.turned_so.fed in
+    one_turn config h (moment_at h clock) c d a.turned_so.fits b.turned_so.fits of a.turned_so.fed b.turned_so.fed
+    (ran_alike config seed h clock l k old lease.wanted a.heard b.heard p q cells a.turned_so b.turned_so
+    (ran_wanted config seed old lease.wanted (leased_by_act c.act) a.heard p lease.left a.ran) (ran_wanted config seed old lease.wanted (leased_by_act d.act) b.heard q lease.right b.ran))
 
 replied_once : (config : Config) (seed : ℕ) (h : List BoardEntry) (clock : ℕ) (l k : List Entry) (old : List Happening) (source : Addr) (bytes : List ℕ) (failing : Bool) (e f : Printed) (p q : List Happening)
     → SameCells l k → Replied config seed h clock l old source bytes failing e p → Replied config seed h clock k old source bytes failing f q → (e ≡ f) × (p ≡ q)
 replied_once config seed h clock l k old source bytes failing e f p q cells a b =
     let x : RequestRecord = a.heard in
     let y : RequestRecord = b.heard in
-    let one : AreOne (turn_of config h clock x) (turn_of config h clock y) =
-    one_turn config h (moment_at h clock) (turn_of config h clock x) (turn_of config h clock y) a.turned_so.fits b.turned_so.fits
-    (of_one config h clock source bytes x y a.is_heard b.is_heard) a.turned_so.fed b.turned_so.fed
-    (ran_alike config seed h clock l k old (free config h) x y p q cells a.turned_so b.turned_so a.ran b.ran) in (
-      replying_once failing source (turn_of config h clock x).reply (turn_of config h clock y).reply e f one.reply a.replies b.replies,
-      past_once config seed old (free config h) x y p q one.given a.ran b.ran,
+    let c : Control = turn_of config h clock x in
+    let d : Control = turn_of config h clock y in
+    let of = of_one config h clock source bytes x y a.is_heard b.is_heard in
+    let lease : LeaseOne c d = one_lease config h (moment_at h clock) c d a.turned_so.fits b.turned_so.fits of a.turned_so.fed b.turned_so.fed in
+    let one : AreOne c d = one_reply config seed h clock l k old source bytes failing e f p q cells a b in (
+      replying_once failing source c.reply d.reply e f one.reply a.replies b.replies,
+      past_once config seed old lease.wanted x y p q one.given
+          (ran_wanted config seed old lease.wanted (leased_by_act c.act) x p lease.left a.ran) (ran_wanted config seed old lease.wanted (leased_by_act d.act) y q lease.right b.ran),
     )
 
 replied : (config : Config) (seed clock : ℕ) (l : List Entry) (old : List Happening) (source : Addr) (bytes : List ℕ) (failing : Bool) (opened : List PortCall) (drawn : List KeyCall)
@@ -223,7 +240,7 @@ module _ (config : Config) (seed : ℕ) (h k : List BoardEntry) (same : SameBoar
     heard = r.heard;
     is_heard = r.is_heard;
     turned_so = turned_too r.heard r.turned_so;
-    ran = subst (λ (pairs : List ℕ). Ran config seed old pairs r.heard past) same.free_is r.ran;
+    ran = subst (λ (c : Control). Ran config seed old (leased_by_act c.act) r.heard past) (turn_same config h k same clock r.heard) r.ran;
     replies = subst (λ (c : Control). Replying failing source c.reply e) (turn_same config h k same clock r.heard) r.replies;
   }
 

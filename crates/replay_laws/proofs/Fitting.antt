@@ -20,7 +20,8 @@ use Rattle.call_cell.specs.Cells.{Prepare, Commit, Expire, End}
 use Rattle.call_board.specs.Acts as act
 use Rattle.call_board.specs.Acts.{Call, Act, Lease, Given, Control, BoardEvent, Turn, Tick, Stop, BoardEntry}
 use Rattle.call_board.specs.Calls.{begun, live, lowest_but, find_call, new_call, is_due_by, is_due_at, is_ending, rounds, rounds_of_call, first_moment, latest_moment}
-use Rattle.call_board.specs.Pairs.{held, closes_leg, free, pair_family, family_eq, fronts, is_short, next_generation, leased_new_legs, drawn_keys_from, drawn, all_leased}
+use Rattle.port_pool.specs.Ports.{pair_family, family_eq}
+use Rattle.call_board.specs.Pairs.{held, closes_leg, free, fronts, is_short, next_generation, leased_new_legs, drawn_keys_from, drawn, all_leased}
 use Rattle.call_board.specs.KeptReplies.{kept_reply}
 use Rattle.call_board.specs.Requests.{asked}
 use Rattle.call_board.specs.Replies.{Done, Fault, Reported, Listed}

@@ -6,6 +6,7 @@ pub mod Fitting
 pub mod Ticks
 pub mod Asked
 pub mod Turned
+pub mod Leasing
 pub mod Commands
 pub mod Held
 pub mod Steps

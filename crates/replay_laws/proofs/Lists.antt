@@ -6,8 +6,7 @@ use Rattle.histories.specs.Words.{In}
 use Rattle.relay_outside.specs.declared.settings.Config.{Config}
 use Rattle.relay_outside.specs.declared.address.Ip.{Ip}
 use Rattle.rtp_packet.specs.declared.head.Half.{Half}
-use Rattle.rtp_packet.specs.declared.head.Half.TheVariants.{Rtp, Rtcp}
-use Rattle.port_pool.specs.Ports.{first_port, half_port}
+use Rattle.port_pool.proofs.Addresses.{one_port}
 use Rattle.call_cell.specs.Cells.{CellEntry}
 use Rattle.call_cell.specs.Good.{FittingCell}
 use Rattle.relay_core.specs.Entries.{Entry, is_at, history, cell_entry, cell_history}
@@ -56,22 +55,10 @@ pub told_once : (config : Config) (h k : List CellEntry) → map logged_entry h 
 told_once config h k same f g =
     sym (refill config h f) ∙ ap (fill_history config) same ∙ refill config k g
 
-twice : (a p q : ℕ) → a + 2 * p ≡ a + 2 * q → p ≡ q
-twice a p q e = omega (arith, e)
-
-odd : (a p q : ℕ) → a + 2 * p ≡ a + 2 * q + 1 → ⊥
-odd a p q e = omega (arith, e)
-
-port_once : (config : Config) (p q : ℕ) (a b : Half) → half_port config p a ≡ half_port config q b → (p ≡ q) × (a ≡ b)
-port_once config p q Rtp Rtp e = (twice (first_port config) p q e, refl)
-port_once config p q Rtcp Rtcp e = (twice (first_port config) p q (let f = e in omega (arith, f)), refl)
-port_once config p q Rtp Rtcp e = absurd (odd (first_port config) p q e)
-port_once config p q Rtcp Rtp e = absurd (odd (first_port config) q p (sym e))
-
 abbrev end_of : ℕ → Half → End
 end_of pair half = (pair, half)
 
-pub end_once : (config : Config) (port : ℕ) (ip there : Ip) (e f : End) → IsEndAt config port ip e → IsEndAt config port there f → e ≡ f
-end_once config port ip there e f a b =
-    let same = port_once config e.0 f.0 e.1 f.1 (a.port_is ∙ sym b.port_is) in
+pub end_once : (config : Config) (port : ℕ) (ip : Ip) (e f : End) → IsEndAt config port ip e → IsEndAt config port ip f → e ≡ f
+end_once config port ip e f a b =
+    let same = one_port config e.0 f.0 e.1 f.1 (a.family ∙ sym b.family) (a.port_is ∙ sym b.port_is) in
     ap (λ (p : ℕ). end_of p e.1) same.0 ∙ ap (end_of f.0) same.1

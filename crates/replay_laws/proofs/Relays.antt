@@ -94,8 +94,8 @@ same_answer : (config : Config) (past : List Happening) (h : List CellEntry) (p 
 same_answer config past h p q same = ap (λ (d : Deed). send_answers config past d.sending) (same_deed config h p q true same)
 
 sent_once : (o : Outcome) (w : Option Sending) (x y : List ℕ) → AreSent o w x → AreSent o w y → x ≡ y
-sent_once (outcomes.Sent port to len) None x y a b = absurd a
-sent_once (outcomes.Sent port to len) (Some w) x y a b = a ∙ sym b
+sent_once (outcomes.Sent family port to len) None x y a b = absurd a
+sent_once (outcomes.Sent family port to len) (Some w) x y a b = a ∙ sym b
 sent_once (outcomes.Lost cause) w x y a b = a ∙ sym b
 sent_once (outcomes.Refused cause) w x y a b = a ∙ sym b
 

@@ -50,7 +50,7 @@ holders_at config l k p q m n boxes same a b =
 pub packet_once : (config : Config) (l k : List Entry) (port : ℕ) (source : Addr) (bytes : List ℕ) (p q : Packet) (new there : List Entry) → SameBoxes config l k
     → TakesPacket config l port source bytes p new → TakesPacket config k port source bytes q there → SameTaken p q
 packet_once config l k port source bytes p q new there boxes a b =
-    let end = end_once config port source.ip source.ip (p.0, p.1.half) (q.0, q.1.half) a.at b.at in
+    let end = end_once config port source.ip (p.0, p.1.half) (q.0, q.1.half) a.at b.at in
     let pair : p.0 ≡ q.0 = ap (λ (e : End). e.0) end in
     let m = given (holder (box_history l (box_of config p.0) p.1.take)) p.1.holder p.1.source p.1.bytes a.fits in
     let n = given (holder (box_history k (box_of config q.0) q.1.take)) q.1.holder q.1.source q.1.bytes b.fits in
@@ -78,7 +78,7 @@ pub packet_or_none : (config : Config) (l k : List Entry) (port : ℕ) (source :
     → TakesPacket config l port source bytes p new → Misses config k port source bytes false e there → ⊥
 packet_or_none config l k port source bytes p e new there boxes a (inl none) = none.0 (p.0, p.1.half) a.at
 packet_or_none config l k port source bytes p e new there boxes a (inr b) =
-    let end = end_once config port source.ip source.ip (p.0, p.1.half) b.end a.at b.at in
+    let end = end_once config port source.ip (p.0, p.1.half) b.end a.at b.at in
     let m = given (holder (box_history l (box_of config p.0) p.1.take)) p.1.holder p.1.source p.1.bytes a.fits in
     let same = holders_at config l k p.0 b.end.0 p.1.take b.number boxes (ap (λ (x : End). x.0) end) a.at_front b.at_front in
     let held : FitsTaken (Some p.1.holder) b.taken = subst (λ (o : Option Holder). FitsTaken o b.taken) (sym same ∙ m.is_held) b.fits in
@@ -110,7 +110,7 @@ held_case (Some leg) t u bytes failing e f a b p q x y = open_case leg t u bytes
 takes_none_once : (config : Config) (l k : List Entry) (port : ℕ) (source : Addr) (bytes : List ℕ) (failing : Bool) (e f : Printed) (new there : List Entry) → SameBoxes config l k
     → TakesNoPacket config l port source bytes failing e new → TakesNoPacket config k port source bytes failing f there → e ≡ f
 takes_none_once config l k port source bytes failing e f new there boxes a b =
-    let end = end_once config port source.ip source.ip a.end b.end a.at b.at in
+    let end = end_once config port source.ip a.end b.end a.at b.at in
     let same = holders_at config l k a.end.0 b.end.0 a.number b.number boxes (ap (λ (x : End). x.0) end) a.at_front b.at_front in
     held_case (holder (box_history k (box_of config b.end.0) b.number)) a.taken b.taken bytes failing e f
     (subst (λ (o : Option Holder). FitsTaken o a.taken) same a.fits) b.fits a.printed b.printed a.asked b.asked

@@ -119,7 +119,7 @@ none_grown config l k port source bytes failing e f new more b c same (inl t) (i
 none_grown config l k port source bytes failing e f new more b c same (inl t) (inr u) = absurd (t.0 u.end u.at)
 none_grown config l k port source bytes failing e f new more b c same (inr t) (inl u) = absurd (u.0 t.end t.at)
 none_grown config l k port source bytes failing e f new more b c same (inr t) (inr u) =
-    let end = end_once config port source.ip source.ip t.end u.end t.at u.at in
+    let end = end_once config port source.ip t.end u.end t.at u.at in
     let pair : t.end.0 ≡ u.end.0 = ap (λ (x : End). x.0) end in
     let held = holders_at config l k t.end.0 u.end.0 t.number u.number (alike_lists config l k same).boxes pair t.at_front u.at_front in
     one_lane config new more l k (take_entry config t.end.0 t.end.1 t.number t.taken) (take_entry config u.end.0 u.end.1 u.number u.taken) b c t.list_is u.list_is t.at_front u.at_front same

@@ -5,7 +5,7 @@ use call_cell::{
     Cell, Gone, InContexts, Incoming, LegReport, LegReports, Outcome, Prepare, Refused,
 };
 use port_pool::{Holder, Lease, Side, Signal};
-use relay_outside::{Addr, Config, Ip, PortMaker, SteadyMaker, SteadyOut};
+use relay_outside::{Addr, Config, Family, Ip, PortMaker, SteadyMaker, SteadyOut};
 use rtp_packet::Half;
 use sdes_lines::Suite;
 use srtp_keys::DrawnKey;
@@ -61,7 +61,7 @@ fn first_lease(rt: &impl Abort, alloc: Global) -> Lease
     ensures { (result.pair ≡ 0) × (result.generation ≡ 1) }
 {
     let mut pool = two_pairs(rt, alloc);
-    let Some(lease) = pool.lease() else {
+    let Some(lease) = pool.lease(Family::V4) else {
         panic!(rt; "a pair is free");
     };
     lease

@@ -105,6 +105,7 @@ fn asked(rt: &impl Abort, alloc: Global, transport: Option<Proto>) -> OfferIn {
             replace_session: true,
             transport,
             source: None,
+            family: None,
         },
     }
 }

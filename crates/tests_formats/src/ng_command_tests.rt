@@ -1,7 +1,7 @@
 use crate::cases::none_failed;
 use ng_bencode::Text;
 use ng_command::{AnswerIn, Command, CommandFault, KeyName, OfferIn, Options, read};
-use relay_outside::{Flags, Ip};
+use relay_outside::{Family, Flags, Ip};
 use sdp_text::Proto;
 use std::alloc::Global;
 
@@ -121,6 +121,70 @@ const FAULTY: &[(&[u8], CommandFault)] = &[
         CommandFault::Key(KeyName::ReceivedFrom),
     ),
     (
+        b"d7:command5:offer7:call-id2:c18:from-tag1:a3:sdp3:v=05:flagsl18:SIP source addresse13:received froml3:IP411:2001:db8::1ee",
+        CommandFault::Key(KeyName::ReceivedFrom),
+    ),
+    (
+        b"d7:command6:answer7:call-id2:c18:from-tag1:a6:to-tag1:b3:sdp3:v=05:flagsl18:SIP source addresse13:received froml3:IP43:::1ee",
+        CommandFault::Key(KeyName::ReceivedFrom),
+    ),
+    (
+        b"d7:command6:answer7:call-id2:c18:from-tag1:a6:to-tag1:b3:sdp3:v=05:flagsl18:SIP source addresse13:received froml3:IP69:192.0.2.1ee",
+        CommandFault::Key(KeyName::ReceivedFrom),
+    ),
+    (
+        b"d7:command5:offer7:call-id2:c18:from-tag1:a3:sdp3:v=05:flagsl18:SIP source addresse13:received froml3:IP616:::ffff:192.0.2.1ee",
+        CommandFault::Key(KeyName::ReceivedFrom),
+    ),
+    (
+        b"d7:command5:offer7:call-id2:c18:from-tag1:a3:sdp3:v=05:flagsl18:SIP source addresse13:received froml3:IP614:2001:db8::1::2ee",
+        CommandFault::Key(KeyName::ReceivedFrom),
+    ),
+    (
+        b"d7:command5:offer7:call-id2:c18:from-tag1:a3:sdp3:v=05:flagsl18:SIP source addresse13:received froml3:IP622:2001:db8:0:0:0:0:0:1:2ee",
+        CommandFault::Key(KeyName::ReceivedFrom),
+    ),
+    (
+        b"d7:command5:offer7:call-id2:c18:from-tag1:a3:sdp3:v=05:flagsl18:SIP source addresse13:received froml3:IP618:2001:db8:0:0:0:0:1ee",
+        CommandFault::Key(KeyName::ReceivedFrom),
+    ),
+    (
+        b"d7:command5:offer7:call-id2:c18:from-tag1:a3:sdp3:v=05:flagsl18:SIP source addresse13:received froml3:IP613:[2001:db8::1]ee",
+        CommandFault::Key(KeyName::ReceivedFrom),
+    ),
+    (
+        b"d7:command5:offer7:call-id2:c18:from-tag1:a3:sdp3:v=05:flagsl18:SIP source addresse13:received froml3:IP612:fe80::1%eth0ee",
+        CommandFault::Key(KeyName::ReceivedFrom),
+    ),
+    (
+        b"d7:command5:offer7:call-id2:c18:from-tag1:a3:sdp3:v=05:flagsl18:SIP source addresse13:received froml3:IP615:2001:db8::12345ee",
+        CommandFault::Key(KeyName::ReceivedFrom),
+    ),
+    (
+        b"d7:command5:offer7:call-id2:c18:from-tag1:a3:sdp3:v=05:flagsl18:SIP source addresse13:received froml3:IP645:0000:0000:0000:0000:0000:ffff:192.168.100.200ee",
+        CommandFault::Key(KeyName::ReceivedFrom),
+    ),
+    (
+        b"d7:command5:offer7:call-id2:c18:from-tag1:a3:sdp3:v=05:flagsl18:SIP source addresse13:received froml3:IP646:0000:0000:0000:0000:0000:00000000:0000000:0001ee",
+        CommandFault::Key(KeyName::ReceivedFrom),
+    ),
+    (
+        b"d7:command5:offer7:call-id2:c18:from-tag1:a3:sdp3:v=05:flagsl18:SIP source addresse13:received froml3:IP60:ee",
+        CommandFault::Key(KeyName::ReceivedFrom),
+    ),
+    (
+        b"d7:command5:offer7:call-id2:c18:from-tag1:a3:sdp3:v=05:flagsl18:SIP source addresse13:received froml3:ip63:::1ee",
+        CommandFault::Key(KeyName::ReceivedFrom),
+    ),
+    (
+        b"d7:command5:offer7:call-id2:c18:from-tag1:a3:sdp3:v=05:flagsl18:SIP source addresse13:received froml2:IP3:::1ee",
+        CommandFault::Key(KeyName::ReceivedFrom),
+    ),
+    (
+        b"d7:command5:offer7:call-id2:c18:from-tag1:a3:sdp3:v=05:flagsl18:SIP source addresse13:received froml3:IP63:::11:xee",
+        CommandFault::Key(KeyName::ReceivedFrom),
+    ),
+    (
         b"d7:command4:list5:limiti-1ee",
         CommandFault::Key(KeyName::Limit),
     ),
@@ -147,6 +211,58 @@ const FAULTY: &[(&[u8], CommandFault)] = &[
     (
         b"d7:call-id2:c17:command6:delete12:delete delayi-1e5:flagsi1ee",
         CommandFault::Key(KeyName::Flags),
+    ),
+    (
+        b"d7:command5:offer7:call-id2:c18:from-tag1:a3:sdp3:v=014:address family3:IP5e",
+        CommandFault::Key(KeyName::AddressFamily),
+    ),
+    (
+        b"d7:command5:offer7:call-id2:c18:from-tag1:a3:sdp3:v=014:address family0:e",
+        CommandFault::Key(KeyName::AddressFamily),
+    ),
+    (
+        b"d7:command5:offer7:call-id2:c18:from-tag1:a3:sdp3:v=014:address family3:ip4e",
+        CommandFault::Key(KeyName::AddressFamily),
+    ),
+    (
+        b"d7:command5:offer7:call-id2:c18:from-tag1:a3:sdp3:v=014:address family4:IP46e",
+        CommandFault::Key(KeyName::AddressFamily),
+    ),
+    (
+        b"d7:command5:offer7:call-id2:c18:from-tag1:a3:sdp3:v=014:address family4:IP6 e",
+        CommandFault::Key(KeyName::AddressFamily),
+    ),
+    (
+        b"d7:command5:offer7:call-id2:c18:from-tag1:a3:sdp3:v=014:address familyi6ee",
+        CommandFault::Key(KeyName::AddressFamily),
+    ),
+    (
+        b"d7:command5:offer7:call-id2:c18:from-tag1:a3:sdp3:v=014:address familyl3:IP6ee",
+        CommandFault::Key(KeyName::AddressFamily),
+    ),
+    (
+        b"d7:command5:offer7:call-id2:c18:from-tag1:a3:sdp3:v=014:address-familyd3:IP60:ee",
+        CommandFault::Key(KeyName::AddressFamily),
+    ),
+    (
+        b"d7:command5:offer7:call-id2:c18:from-tag1:a3:sdp3:v=014:address-family1:x14:address family3:IP6e",
+        CommandFault::Key(KeyName::AddressFamily),
+    ),
+    (
+        b"d7:command5:offer7:call-id2:c18:from-tag1:a3:sdp3:v=014:address family1:x18:transport protocol1:xe",
+        CommandFault::Key(KeyName::TransportProtocol),
+    ),
+    (
+        b"d7:command5:offer7:call-id2:c18:from-tag1:a3:sdp3:v=014:address family1:x5:flagsl18:SIP source addresse13:received fromi1ee",
+        CommandFault::Key(KeyName::ReceivedFrom),
+    ),
+    (
+        b"d7:command5:offer7:call-id2:c18:from-tag1:a3:sdp3:v=014:address family1:x3:ICE5:force5:codecd9:transcodeleee",
+        CommandFault::Key(KeyName::AddressFamily),
+    ),
+    (
+        b"d7:command5:offer7:call-id2:c18:from-tag1:a3:sdp3:v=014:address family3:IP63:ICE5:forcee",
+        CommandFault::Unsupported(KeyName::Ice),
     ),
     (
         b"d7:command5:offer7:call-id2:c18:from-tag1:a3:sdp3:v=03:ICE5:forcee",
@@ -220,6 +336,13 @@ const UNUSED: &[&[u8]] = &[
     b"d7:command6:answer7:call-id2:c18:from-tag1:a6:to-tag1:b3:sdp3:v=018:transport protocol16:UDP/TLS/RTP/SAVP4:DTLS7:disable11:record call3:off5:codec9:transcode5:limiti-1ee",
     b"d7:command5:offer7:call-id2:c18:from-tag1:a3:sdp3:v=05:flagsl18:SIP source address13:trust-addresse13:received fromi1ee",
     b"d7:command5:offer7:call-id2:c18:from-tag1:a3:sdp3:v=013:received fromi1ee",
+    b"d7:command6:answer7:call-id2:c18:from-tag1:a6:to-tag1:b3:sdp3:v=014:address family3:IP5e",
+    b"d7:command6:answer7:call-id2:c18:from-tag1:a6:to-tag1:b3:sdp3:v=014:address familyi1ee",
+    b"d7:call-id2:c17:command6:delete14:address family1:xe",
+    b"d7:call-id2:c17:command5:query14:address family1:xe",
+    b"d7:command4:list14:address family1:xe",
+    b"d7:command4:ping14:address family1:xe",
+    b"d7:command5:offer7:call-id2:c18:from-tag1:a3:sdp3:v=013:received froml3:IP67:1.2.3.4ee",
     b"d7:command5:offer7:call-id255:xxxxxxxxxxxxxxxxxxxxxxxxxxxxxxxxxxxxxxxxxxxxxxxxxxxxxxxxxxxxxxxxxxxxxxxxxxxxxxxxxxxxxxxxxxxxxxxxxxxxxxxxxxxxxxxxxxxxxxxxxxxxxxxxxxxxxxxxxxxxxxxxxxxxxxxxxxxxxxxxxxxxxxxxxxxxxxxxxxxxxxxxxxxxxxxxxxxxxxxxxxxxxxxxxxxxxxxxxxxxxxxxxxxxxxxxxxxxxxxxxxxxxxxxxxxxxxx8:from-tag1:a3:sdp3:v=0e",
 ];
 
@@ -250,6 +373,7 @@ const OFFERED: Options = Options {
     replace_session: true,
     transport: Some(Proto::Savp),
     source: Some(Ip::V4([192, 0, 2, 10])),
+    family: None,
 };
 
 fn has_offers_texts(offer: &OfferIn) -> bool {
@@ -278,6 +402,7 @@ const ANSWERED: Options = Options {
     replace_session: true,
     transport: None,
     source: None,
+    family: None,
 };
 
 fn has_answers_texts(answer: &AnswerIn) -> bool {
@@ -294,6 +419,114 @@ fn an_answer_says_its_options(rt: HostRuntime) {
     };
     assert!(rt; has_answers_texts(&answer));
     assert!(rt; answer.options == ANSWERED);
+}
+
+/// Bodies of offers, and the family that each asks for.
+const FAMILIES: &[(&[u8], Option<Family>)] = &[
+    (
+        b"d7:command5:offer7:call-id2:c18:from-tag1:a3:sdp3:v=0e",
+        None,
+    ),
+    (
+        b"d7:command5:offer7:call-id2:c18:from-tag1:a3:sdp3:v=014:address family3:IP4e",
+        Some(Family::V4),
+    ),
+    (
+        b"d7:command5:offer7:call-id2:c18:from-tag1:a3:sdp3:v=014:address family3:IP6e",
+        Some(Family::V6),
+    ),
+    (
+        b"d7:command5:offer7:call-id2:c18:from-tag1:a3:sdp3:v=014:address-family3:IP6e",
+        Some(Family::V6),
+    ),
+    (
+        b"d7:command5:offer7:call-id2:c18:from-tag1:a3:sdp3:v=014:address family3:IP414:address-family3:IP6e",
+        Some(Family::V4),
+    ),
+    (
+        b"d7:command5:offer7:call-id2:c18:from-tag1:a3:sdp3:v=014:Address family3:IP6e",
+        None,
+    ),
+];
+
+/// The family that a body asks for, where it is an offer.
+fn asked_family(alloc: Global, body: &[u8]) -> Option<Option<Family>> {
+    match read(alloc, body) {
+        Ok(Command::Offer(offer)) => Some(offer.options.family),
+        _ => None,
+    }
+}
+
+fn other_family(alloc: Global) -> Option<usize> {
+    for (number, (body, family)) in FAMILIES.iter().enumerate() {
+        if asked_family(alloc, body) != Some(*family) {
+            return Some(number);
+        }
+    }
+    None
+}
+
+#[test]
+fn an_offer_says_the_family_that_it_asks_for(rt: HostRuntime) {
+    none_failed(&rt, "FAMILIES", other_family(rt.alloc()));
+}
+
+#[test]
+fn an_answer_asks_for_no_family(rt: HostRuntime) {
+    let body =
+        b"d7:command6:answer7:call-id2:c18:from-tag1:a6:to-tag1:b3:sdp3:v=014:address family3:IP6e";
+    let Ok(Command::Answer(answer)) = read(rt.alloc(), body) else {
+        panic!(rt; "no answer");
+    };
+    assert!(rt; answer.options.family.is_none());
+}
+
+/// Bodies of answers whose addresses are signalled, and the address of each.
+const SOURCES: &[(&[u8], Ip)] = &[
+    (
+        b"d7:command6:answer7:call-id2:c18:from-tag1:a6:to-tag1:b3:sdp3:v=05:flagsl18:SIP source addresse13:received froml3:IP411:192.0.02.10ee",
+        Ip::V4([192, 0, 2, 10]),
+    ),
+    (
+        b"d7:command6:answer7:call-id2:c18:from-tag1:a6:to-tag1:b3:sdp3:v=05:flagsl18:SIP source addresse13:received froml3:IP618:2001:0DB8:0:0:1::1ee",
+        Ip::V6([0x20, 1, 0xd, 0xb8, 0, 0, 0, 0, 0, 1, 0, 0, 0, 0, 0, 1]),
+    ),
+    (
+        b"d7:command6:answer7:call-id2:c18:from-tag1:a6:to-tag1:b3:sdp3:v=05:flagsl18:SIP source addresse13:received froml3:IP621:2001:db8:0:0:0:0:0:20ee",
+        Ip::V6([0x20, 1, 0xd, 0xb8, 0, 0, 0, 0, 0, 0, 0, 0, 0, 0, 0, 0x20]),
+    ),
+    (
+        b"d7:command6:answer7:call-id2:c18:from-tag1:a6:to-tag1:b3:sdp3:v=05:flagsl18:SIP source addresse13:received froml3:IP639:FFFF:ffff:FFFF:ffff:FFFF:ffff:FFFF:fffeee",
+        Ip::V6([
+            255, 255, 255, 255, 255, 255, 255, 255, 255, 255, 255, 255, 255, 255, 255, 254,
+        ]),
+    ),
+    (
+        b"d7:command6:answer7:call-id2:c18:from-tag1:a6:to-tag1:b3:sdp3:v=05:flagsl18:SIP source addresse13:received froml3:IP62:::ee",
+        Ip::V6([0; 16]),
+    ),
+];
+
+/// The address that a body signals, where it is an answer.
+fn source_of(alloc: Global, body: &[u8]) -> Option<Ip> {
+    match read(alloc, body) {
+        Ok(Command::Answer(answer)) => answer.options.source,
+        _ => None,
+    }
+}
+
+fn other_source(alloc: Global) -> Option<usize> {
+    for (number, (body, source)) in SOURCES.iter().enumerate() {
+        if source_of(alloc, body) != Some(*source) {
+            return Some(number);
+        }
+    }
+    None
+}
+
+#[test]
+fn an_address_of_either_family_is_signalled(rt: HostRuntime) {
+    none_failed(&rt, "SOURCES", other_source(rt.alloc()));
 }
 
 fn is_tag(tag: Option<&Text>, want: Option<&[u8]>) -> bool {

@@ -44,6 +44,14 @@ const ERRORS: &[(ErrorCode, &[u8])] = &[
         b"5323_1 d12:error-reason34:missing or wrong key: delete delay6:result5:errore",
     ),
     (
+        ErrorCode::E4(KeyName::AddressFamily),
+        b"5323_1 d12:error-reason36:missing or wrong key: address family6:result5:errore",
+    ),
+    (
+        ErrorCode::E5(KeyName::AddressFamily),
+        b"5323_1 d12:error-reason34:unsupported option: address family6:result5:errore",
+    ),
+    (
         ErrorCode::E5(KeyName::Ice),
         b"5323_1 d12:error-reason23:unsupported option: ICE6:result5:errore",
     ),
@@ -114,6 +122,10 @@ const ERRORS: &[(ErrorCode, &[u8])] = &[
     (
         ErrorCode::E19,
         b"5323_1 d12:error-reason14:call is ending6:result5:errore",
+    ),
+    (
+        ErrorCode::E20,
+        b"5323_1 d12:error-reason22:address family differs6:result5:errore",
     ),
 ];
 
@@ -192,5 +204,11 @@ fn replies_in_json_are_written_without_memory(rt: HostRuntime) {
     assert!(rt; &datagram[..len] == want.as_slice());
     let len = fixed_json_error(b"6", ErrorCode::E19, &mut datagram);
     let want = b"6 {\"error-reason\":\"call is ending\",\"result\":\"error\"}";
+    assert!(rt; &datagram[..len] == want.as_slice());
+    let len = fixed_json_error(b"6", ErrorCode::E20, &mut datagram);
+    let want = b"6 {\"error-reason\":\"address family differs\",\"result\":\"error\"}";
+    assert!(rt; &datagram[..len] == want.as_slice());
+    let len = fixed_json_error(b"6", ErrorCode::E5(KeyName::AddressFamily), &mut datagram);
+    let want = b"6 {\"error-reason\":\"unsupported option: address family\",\"result\":\"error\"}";
     assert!(rt; &datagram[..len] == want.as_slice());
 }

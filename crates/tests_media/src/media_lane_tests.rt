@@ -112,7 +112,7 @@ fn is_nothing(received: Received) -> bool {
 }
 
 #[test]
-#[tactic(auto, unfolding(port_pool::specs::Ports::pair_count))]
+#[tactic(auto, unfolding(port_pool::specs::Ports::pair_count, port_pool::specs::Ports::range_pairs))]
 fn a_packet_is_received_and_relayed_in_the_cell_of_its_leg(rt: HostRuntime) -> Result<(), Fail> {
     let (turns, hand) = begin(rt.alloc(), 1, 0)?;
     let mut lane = Lane::new(hand, 0, 1, &CONFIG);
@@ -137,7 +137,7 @@ fn a_packet_is_received_and_relayed_in_the_cell_of_its_leg(rt: HostRuntime) -> R
 }
 
 #[test]
-#[tactic(auto, unfolding(port_pool::specs::Ports::pair_count))]
+#[tactic(auto, unfolding(port_pool::specs::Ports::pair_count, port_pool::specs::Ports::range_pairs))]
 fn a_closed_box_has_nothing(rt: HostRuntime) -> Result<(), Fail> {
     let (turns, hand) = begin_closed(rt.alloc())?;
     let mut lane = Lane::new(hand, 0, 1, &CONFIG);
@@ -166,7 +166,7 @@ fn begin_closed(
 }
 
 #[test]
-#[tactic(auto, unfolding(port_pool::specs::Ports::pair_count))]
+#[tactic(auto, unfolding(port_pool::specs::Ports::pair_count, port_pool::specs::Ports::range_pairs))]
 fn a_box_is_busy_while_another_hand_has_its_turn(rt: HostRuntime) -> Result<(), Fail> {
     let (turns, mut main) = begin(rt.alloc(), 1, 0)?;
     let mut lane = Lane::new(turns.split_hand(&mut main), 0, 1, &CONFIG);
@@ -182,7 +182,7 @@ fn a_box_is_busy_while_another_hand_has_its_turn(rt: HostRuntime) -> Result<(), 
 }
 
 #[test]
-#[tactic(auto, unfolding(port_pool::specs::Ports::pair_count))]
+#[tactic(auto, unfolding(port_pool::specs::Ports::pair_count, port_pool::specs::Ports::range_pairs))]
 fn a_receipt_comes_back_while_another_hand_has_the_turn_of_its_cell(
     rt: HostRuntime,
 ) -> Result<(), Fail> {
@@ -210,7 +210,7 @@ fn a_receipt_comes_back_while_another_hand_has_the_turn_of_its_cell(
 }
 
 #[test]
-#[tactic(auto, unfolding(port_pool::specs::Ports::pair_count))]
+#[tactic(auto, unfolding(port_pool::specs::Ports::pair_count, port_pool::specs::Ports::range_pairs))]
 fn a_hand_that_may_wait_receives_and_relays(rt: HostRuntime) -> Result<(), Fail> {
     let (turns, hand) = begin(rt.alloc(), 1, 0)?;
     let mut lane = Lane::new(hand, 0, 1, &CONFIG);
@@ -241,7 +241,7 @@ fn refused(count: u64) -> Totals {
 }
 
 #[test]
-#[tactic(auto, unfolding(port_pool::specs::Ports::pair_count))]
+#[tactic(auto, unfolding(port_pool::specs::Ports::pair_count, port_pool::specs::Ports::range_pairs))]
 fn a_sweep_takes_once_of_each_half(rt: HostRuntime) -> Result<(), Fail> {
     let (turns, mut main) = begin(rt.alloc(), 2, 1)?;
     let other = turns.split_hand(&mut main);
@@ -264,7 +264,7 @@ fn a_sweep_takes_once_of_each_half(rt: HostRuntime) -> Result<(), Fail> {
 }
 
 #[test]
-#[tactic(auto, unfolding(port_pool::specs::Ports::pair_count))]
+#[tactic(auto, unfolding(port_pool::specs::Ports::pair_count, port_pool::specs::Ports::range_pairs))]
 fn lanes_that_share_rooms_take_from_their_own_pairs(rt: HostRuntime) -> Result<(), Fail> {
     let (turns, mut main) = begin(rt.alloc(), 2, 1)?;
     let other = turns.split_hand(&mut main);

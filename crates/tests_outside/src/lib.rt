@@ -3,6 +3,8 @@
 #![tactic(auto)]
 
 #[cfg(test)]
+mod families_tests;
+#[cfg(test)]
 mod load_maker_tests;
 #[cfg(test)]
 mod outside_real_tests;

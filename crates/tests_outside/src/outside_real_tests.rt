@@ -46,7 +46,7 @@ fn hints(alloc: Global) -> Readiness {
 
 /// The hints of so many threads, whose range begins at the port and has eight pairs.
 fn hints_of(alloc: Global, threads: u32, stop: StopPipe) -> Readiness {
-    Readiness::new(alloc, LaneShare::of_pairs(threads, 8), PORT, 8, stop)
+    Readiness::new(alloc, LaneShare::of_pairs(threads, 8), PORT, 8, 8, stop)
 }
 
 #[test]

@@ -1,7 +1,7 @@
 use crate::cases::expect_case;
 use call_cell::{Lost, Outcome, Refused};
 use ng_bencode::Text;
-use relay_outside::{Addr, Ip};
+use relay_outside::{Addr, Family, Ip};
 use relay_script::{
     FailKind, ParseFault, Printed, Step, one_step, parse, print, printed_text_is_read,
 };
@@ -16,6 +16,12 @@ const FOUR: Addr = Addr {
 const SIX: Addr = Addr {
     ip: Ip::V6([0x20, 1, 0xd, 0xb8, 0, 0, 0, 0, 0, 0, 0, 0, 0, 0, 0, 1]),
     port: 65_535,
+};
+
+/// Its longest run of zeros is the one that `::` stands for (RFC 5952 section 4.2).
+const ZEROS: Addr = Addr {
+    ip: Ip::V6([0x20, 1, 0xd, 0xb8, 0, 0, 0, 1, 0, 0, 0, 0, 0, 0, 0, 0x20]),
+    port: 7000,
 };
 
 /// What a line asks for, its bytes as they are.
@@ -82,6 +88,10 @@ const LINES: &[(&[u8], Wanted)] = &[
     (
         b"packet 65535 [2001:DB8:0::1]:65535 t:x",
         Wanted::Packet(65_535, SIX, b"x"),
+    ),
+    (
+        b"take 30000 [2001:0db8:0:1:0:0:0:0020]:7000 x:80",
+        Wanted::Take(30_000, ZEROS, b"\x80"),
     ),
 ];
 
@@ -306,11 +316,15 @@ const OUTCOMES: &[(Outcome, &[u8])] = &[
     (Outcome::Lost(Lost::OutSources), b"lost OutSources"),
     (Outcome::Lost(Lost::KeySpent), b"lost KeySpent"),
     (
-        Outcome::Lost(Lost::SendFault { port: 30_000 }),
+        Outcome::Lost(Lost::SendFault {
+            family: Family::V6,
+            port: 30_000,
+        }),
         b"lost SendFault",
     ),
     (
         Outcome::Sent {
+            family: Family::V4,
             port: 30_000,
             to: FOUR,
             len: 4,
@@ -319,11 +333,21 @@ const OUTCOMES: &[(Outcome, &[u8])] = &[
     ),
     (
         Outcome::Sent {
+            family: Family::V6,
             port: 1,
             to: SIX,
             len: 4,
         },
         b"sent 1 [2001:db8::1]:65535 x:8000abff",
+    ),
+    (
+        Outcome::Sent {
+            family: Family::V6,
+            port: 30_000,
+            to: ZEROS,
+            len: 4,
+        },
+        b"sent 30000 [2001:db8:0:1::20]:7000 x:8000abff",
     ),
 ];
 

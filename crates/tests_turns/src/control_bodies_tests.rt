@@ -5,7 +5,7 @@ ghost use Rattle.std.specs.Prelude.{◌<◌, ◌^◌, length};
 use control_messages::*;
 use ng_command::{Command, KeyName};
 use ng_reply::{ErrorCode, SdpPart};
-use relay_outside::{Config, Ip};
+use relay_outside::{Config, Family, Ip};
 use std::alloc::Global;
 
 const CONFIG: Config = Config {
@@ -73,10 +73,15 @@ fn a_body_is_read_once(rt: HostRuntime) {
 }
 
 /// How many sections a description has, or the error by which it is refused.
-fn sections(alloc: Global, config: &Config, text: &[u8]) -> Result<usize, Option<ErrorCode>>
+fn sections(
+    alloc: Global,
+    config: &Config,
+    family: Option<Family>,
+    text: &[u8],
+) -> Result<usize, Option<ErrorCode>>
     requires { length text.now < 2 ^ 31 }
 {
-    match read_description(alloc, config, text) {
+    match read_description(alloc, config, family, text) {
         Ok(sdp) => Ok(sdp.section_count()),
         Err(DescriptionFault::Error(code)) => Err(Some(code)),
         Err(_) => Err(None),
@@ -91,8 +96,26 @@ fn a_description_needs_an_address_of_its_version(rt: HostRuntime) {
     };
     let refused = Err(Some(ErrorCode::E7(SdpPart::Line(4))));
     let malformed = Err(Some(ErrorCode::E6(2)));
-    assert!(rt; sections(rt.alloc(), &CONFIG, V4) == Ok(1));
-    assert!(rt; sections(rt.alloc(), &both, V6) == Ok(1));
-    assert!(rt; sections(rt.alloc(), &CONFIG, V6) == refused);
-    assert!(rt; sections(rt.alloc(), &both, b"v=0\r\nx\r\n") == malformed);
+    assert!(rt; sections(rt.alloc(), &CONFIG, None, V4) == Ok(1));
+    assert!(rt; sections(rt.alloc(), &both, None, V6) == Ok(1));
+    assert!(rt; sections(rt.alloc(), &CONFIG, None, V6) == refused);
+    assert!(rt; sections(rt.alloc(), &both, None, b"v=0\r\nx\r\n") == malformed);
+}
+
+#[test]
+fn a_family_needs_an_address_of_it(rt: HostRuntime) {
+    let both = Config {
+        interface6: Some(Ip::V6([0; 16])),
+        ..CONFIG
+    };
+    let refused = Err(Some(ErrorCode::E5(KeyName::AddressFamily)));
+    let misplaced = Err(Some(ErrorCode::E7(SdpPart::Line(4))));
+    let v6 = Some(Family::V6);
+    assert!(rt; sections(rt.alloc(), &CONFIG, v6, V4) == refused);
+    assert!(rt; sections(rt.alloc(), &CONFIG, v6, V6) == refused);
+    assert!(rt; sections(rt.alloc(), &CONFIG, v6, b"v=0\r\nx\r\n") == refused);
+    assert!(rt; sections(rt.alloc(), &CONFIG, Some(Family::V4), V4) == Ok(1));
+    assert!(rt; sections(rt.alloc(), &CONFIG, Some(Family::V4), V6) == misplaced);
+    assert!(rt; sections(rt.alloc(), &both, v6, V4) == Ok(1));
+    assert!(rt; sections(rt.alloc(), &both, v6, b"v=0\r\nx\r\n") == Err(Some(ErrorCode::E6(2))));
 }

@@ -1,26 +1,35 @@
 ghost use Rattle.std.specs.Prelude.{◌≡◌, ◌∷◌, [], List, length, slice_get, OnOk, None, Some};
 ghost use Rattle.port_pool.specs.Pools.{Pairs};
 ghost use Rattle.port_pool.specs.declared.pairs.Lease.{Lease};
-ghost use Rattle.media_ports.specs.Addresses.{ports_of};
+ghost use Rattle.media_ports.specs.Addresses.{pairs_of_leases};
 ghost use Rattle.media_ports.specs.Ends.{ArePairsOpened, AreOfLease};
 
 use media_ports::{
-    DrawnList, KeyFault, OpenedPairs, PairEnds, PortFault, address_of, close_pair, draw_keys,
-    open_pairs,
+    DrawnList, KeyFault, OpenedPairs, PairEnds, PortFault, close_pair, draw_keys, open_pairs,
 };
 use port_pool::{Leases, Pool};
-use relay_outside::{Addr, Failed, InEnd, Ip, KeySource, OutEnd, PortMaker};
+use relay_outside::Family::{V4, V6};
+use relay_outside::{Addr, Config, Failed, Family, InEnd, Ip, KeySource, OutEnd, PortMaker};
 use std::alloc::Global;
 use std::process::Abort;
 
-const INTERFACE: Ip = Ip::V4([192, 0, 2, 1]);
+/// Two pairs of each family, which begin at the ports 30000 and 30002.
+const CONFIG: Config = Config {
+    interface: Ip::V4([192, 0, 2, 1]),
+    interface6: Some(Ip::V6([0x20, 1, 0x0d, 0xb8, 0, 0, 0, 0, 0, 0, 0, 0, 0, 0, 0, 1])),
+    port_min: 29_999,
+    port_max: 30_004,
+    timeout_ms: 60_000,
+    offer_timeout_ms: 120_000,
+    max_sessions: 2,
+};
 
 const PHONE: Addr = Addr {
     ip: Ip::V4([198, 51, 100, 7]),
     port: 40_000,
 };
 
-/// The in end of a port: that of the port 30003 receives `hello` from a phone.
+/// The in end of a port: that of the port 30001 of version 4 receives `hello` from a phone.
 #[derive(Drop)]
 struct In {
     at: Addr,
@@ -34,7 +43,7 @@ impl InEnd for In {
 
     fn take(&mut self, buf: &mut [u8]) -> Result<Option<(Addr, usize)>, Failed> {
         self.takes = self.takes.saturating_add(1);
-        if self.at.port != 30_003 || self.takes > 1 || buf.len() < 5 {
+        if self.at != port_of(V4, 30_001) || self.takes > 1 || buf.len() < 5 {
             return Ok(None);
         }
         buf[..5].copy_from_slice(b"hello");
@@ -60,15 +69,24 @@ impl OutEnd for Out {
     }
 }
 
-/// A call of a port maker, with its port.
+/// A call of a port maker, with its port at the interface of its family.
 #[derive(Clone, Copy)]
 enum Due {
     /// An opening, which makes ends.
-    Opens(u16),
+    Opens(Family, u16),
     /// An opening that fails.
-    Fails(u16),
+    Fails(Family, u16),
     /// A closing, and how many takes and sends its ends were called for.
-    Closes(u16, u64, u64),
+    Closes(Family, u16, u64, u64),
+}
+
+/// A port of the interface of a family.
+fn port_of(family: Family, port: u16) -> Addr {
+    let ip = match family {
+        V4 => Ip::V4([192, 0, 2, 1]),
+        V6 => Ip::V6([0x20, 1, 0x0d, 0xb8, 0, 0, 0, 0, 0, 0, 0, 0, 0, 0, 0, 1]),
+    };
+    Addr { ip, port }
 }
 
 /// A port maker, and the calls that are due: it keeps whether each was the next.
@@ -107,7 +125,7 @@ impl Maker {
 /// Whether an opening of this address is due, and fails.
 fn fails(due: Option<Due>, at: Addr) -> bool {
     match due {
-        Some(Due::Fails(port)) => at == address_of(INTERFACE, port),
+        Some(Due::Fails(family, port)) => at == port_of(family, port),
         _ => false,
     }
 }
@@ -115,7 +133,7 @@ fn fails(due: Option<Due>, at: Addr) -> bool {
 /// Whether an opening of this address is due, and makes ends.
 fn opens(due: Option<Due>, at: Addr) -> bool {
     match due {
-        Some(Due::Opens(port)) => at == address_of(INTERFACE, port),
+        Some(Due::Opens(family, port)) => at == port_of(family, port),
         _ => false,
     }
 }
@@ -123,8 +141,8 @@ fn opens(due: Option<Due>, at: Addr) -> bool {
 /// Whether a closing of this address is due, with its own ends and this many calls of theirs.
 fn closes(due: Option<Due>, at: Addr, receiving: &In, sending: &Out) -> bool {
     match due {
-        Some(Due::Closes(port, takes, sends)) => {
-            at == address_of(INTERFACE, port)
+        Some(Due::Closes(family, port, takes, sends)) => {
+            at == port_of(family, port)
                 && receiving.at == at
                 && sending.at == at
                 && receiving.takes == takes
@@ -159,26 +177,26 @@ impl PortMaker for Maker {
     }
 }
 
-/// A pool of the two pairs that begin at the ports 30000 and 30002.
-fn two_pairs(rt: &impl Abort, alloc: Global) -> Pool
-    ensures { result ≡ record { first_port = 30000; free = 0 ∷ 1 ∷ []; generations = 0 ∷ 0 ∷ [] } }
+/// A pool of its pairs.
+fn all_pairs(rt: &impl Abort, alloc: Global) -> Pool
+    ensures { result ≡ record { first_port = 30000; per_family = 2; free4 = 0 ∷ 1 ∷ []; free6 = 2 ∷ 3 ∷ []; generations = 0 ∷ 0 ∷ 0 ∷ 0 ∷ [] } }
 {
-    let Ok(pool) = Pool::new(alloc, 29_999, 30_004) else {
+    let Ok(pool) = Pool::new(alloc, 29_999, 30_004, true) else {
         panic!(rt; "no memory");
     };
     pool
 }
 
-/// Leases of both.
+/// Leases of the first pair of each family, that of version 6 first.
 fn two_leases(rt: &impl Abort, alloc: Global) -> Leases
-    ensures { ports_of result.list ≡ 30000 ∷ 30001 ∷ 30002 ∷ 30003 ∷ [] }
+    ensures { pairs_of_leases result.list ≡ 2 ∷ 0 ∷ [] }
 {
-    let mut pool = two_pairs(rt, alloc);
+    let mut pool = all_pairs(rt, alloc);
     let Ok(mut leases) = Leases::with_room(alloc, 2) else {
         panic!(rt; "no memory");
     };
-    leases.push(pool.lease().unwrap());
-    leases.push(pool.lease().unwrap());
+    leases.push(pool.lease(V6).unwrap());
+    leases.push(pool.lease(V4).unwrap());
     leases
 }
 
@@ -188,13 +206,13 @@ fn open_two(
     leases: &Leases,
     opened: &mut OpenedPairs<In, Out>,
 ) -> Result<(), PortFault>
-    requires two { ports_of leases.now.list ≡ 30000 ∷ 30001 ∷ 30002 ∷ 30003 ∷ [] }
+    requires two { pairs_of_leases leases.now.list ≡ 2 ∷ 0 ∷ [] }
     requires none { opened.old.list ≡ [] }
     requires room { opened.old.room ≡ 2 }
     ensures pairs { OnOk result (length opened.new.list ≡ 2) }
-    ensures opened { OnOk result (ArePairsOpened ⟦<In as InEnd>⟧.log ⟦<Out as OutEnd>⟧.log INTERFACE leases.now.list opened.new.list) }
+    ensures opened { OnOk result (ArePairsOpened ⟦<In as InEnd>⟧.log ⟦<Out as OutEnd>⟧.log CONFIG leases.now.list opened.new.list) }
 {
-    open_pairs(maker, INTERFACE, leases, opened)
+    open_pairs(maker, &CONFIG, leases, opened)
 }
 
 /// Closes the ports of both, each with its own ends.
@@ -204,21 +222,21 @@ fn close_two(
     first: PairEnds<In, Out>,
     second: PairEnds<In, Out>,
 )
-    requires two { ports_of leases.now.list ≡ 30000 ∷ 30001 ∷ 30002 ∷ 30003 ∷ [] }
-    requires first { (lease : Lease) → slice_get leases.now.list 0 ≡ Some lease → AreOfLease ⟦<In as InEnd>⟧.log ⟦<Out as OutEnd>⟧.log INTERFACE lease first }
-    requires second { (lease : Lease) → slice_get leases.now.list 1 ≡ Some lease → AreOfLease ⟦<In as InEnd>⟧.log ⟦<Out as OutEnd>⟧.log INTERFACE lease second }
+    requires two { pairs_of_leases leases.now.list ≡ 2 ∷ 0 ∷ [] }
+    requires first { (lease : Lease) → slice_get leases.now.list 0 ≡ Some lease → AreOfLease ⟦<In as InEnd>⟧.log ⟦<Out as OutEnd>⟧.log CONFIG lease first }
+    requires second { (lease : Lease) → slice_get leases.now.list 1 ≡ Some lease → AreOfLease ⟦<In as InEnd>⟧.log ⟦<Out as OutEnd>⟧.log CONFIG lease second }
 {
-    close_pair(maker, INTERFACE, leases.get(0), first);
-    close_pair(maker, INTERFACE, leases.get(1), second);
+    close_pair(maker, &CONFIG, leases.get(0), first);
+    close_pair(maker, &CONFIG, leases.get(1), second);
 }
 
 /// The ends of two opened pairs.
 fn two_ends(opened: OpenedPairs<In, Out>) -> (PairEnds<In, Out>, PairEnds<In, Out>)
     requires { length opened.list ≡ 2 }
-    ensures first { (leases : List Lease) (lease : Lease) → ArePairsOpened ⟦<In as InEnd>⟧.log ⟦<Out as OutEnd>⟧.log INTERFACE leases opened.list →
-        slice_get leases 0 ≡ Some lease → AreOfLease ⟦<In as InEnd>⟧.log ⟦<Out as OutEnd>⟧.log INTERFACE lease result.0 }
-    ensures second { (leases : List Lease) (lease : Lease) → ArePairsOpened ⟦<In as InEnd>⟧.log ⟦<Out as OutEnd>⟧.log INTERFACE leases opened.list →
-        slice_get leases 1 ≡ Some lease → AreOfLease ⟦<In as InEnd>⟧.log ⟦<Out as OutEnd>⟧.log INTERFACE lease result.1 }
+    ensures first { (leases : List Lease) (lease : Lease) → ArePairsOpened ⟦<In as InEnd>⟧.log ⟦<Out as OutEnd>⟧.log CONFIG leases opened.list →
+        slice_get leases 0 ≡ Some lease → AreOfLease ⟦<In as InEnd>⟧.log ⟦<Out as OutEnd>⟧.log CONFIG lease result.0 }
+    ensures second { (leases : List Lease) (lease : Lease) → ArePairsOpened ⟦<In as InEnd>⟧.log ⟦<Out as OutEnd>⟧.log CONFIG leases opened.list →
+        slice_get leases 1 ≡ Some lease → AreOfLease ⟦<In as InEnd>⟧.log ⟦<Out as OutEnd>⟧.log CONFIG lease result.1 }
 {
     let mut opened = opened;
     let first = opened.pop().unwrap();
@@ -229,8 +247,8 @@ fn two_ends(opened: OpenedPairs<In, Out>) -> (PairEnds<In, Out>, PairEnds<In, Ou
 
 /// Whether the pair's port for RTCP hears the phone, and that for RTP does not; that for RTP sends to it.
 fn hears_and_sends(ends: &mut PairEnds<In, Out>) -> bool
-    ensures { (lease : Lease) → AreOfLease ⟦<In as InEnd>⟧.log ⟦<Out as OutEnd>⟧.log INTERFACE lease ends.old →
-        AreOfLease ⟦<In as InEnd>⟧.log ⟦<Out as OutEnd>⟧.log INTERFACE lease ends.new }
+    ensures { (lease : Lease) → AreOfLease ⟦<In as InEnd>⟧.log ⟦<Out as OutEnd>⟧.log CONFIG lease ends.old →
+        AreOfLease ⟦<In as InEnd>⟧.log ⟦<Out as OutEnd>⟧.log CONFIG lease ends.new }
 {
     let mut buf = [0; 8];
     let rtp = ends.rtp_in.take(&mut buf);
@@ -241,14 +259,14 @@ fn hears_and_sends(ends: &mut PairEnds<In, Out>) -> bool
 
 /// Four openings, and the closings, those of the first pair first.
 const BOTH: &[Due] = &[
-    Due::Opens(30_000),
-    Due::Opens(30_001),
-    Due::Opens(30_002),
-    Due::Opens(30_003),
-    Due::Closes(30_000, 0, 0),
-    Due::Closes(30_001, 0, 0),
-    Due::Closes(30_002, 1, 1),
-    Due::Closes(30_003, 1, 0),
+    Due::Opens(V6, 30_000),
+    Due::Opens(V6, 30_001),
+    Due::Opens(V4, 30_000),
+    Due::Opens(V4, 30_001),
+    Due::Closes(V6, 30_000, 0, 0),
+    Due::Closes(V6, 30_001, 0, 0),
+    Due::Closes(V4, 30_000, 1, 1),
+    Due::Closes(V4, 30_001, 1, 0),
 ];
 
 #[test]
@@ -269,27 +287,27 @@ fn each_end_is_that_of_its_port(rt: HostRuntime) {
 
 /// For each opening in turn the calls where it fails: what was opened is closed again.
 const FAILING: &[&[Due]] = &[
-    &[Due::Fails(30_000)],
+    &[Due::Fails(V6, 30_000)],
     &[
-        Due::Opens(30_000),
-        Due::Fails(30_001),
-        Due::Closes(30_000, 0, 0),
+        Due::Opens(V6, 30_000),
+        Due::Fails(V6, 30_001),
+        Due::Closes(V6, 30_000, 0, 0),
     ],
     &[
-        Due::Opens(30_000),
-        Due::Opens(30_001),
-        Due::Fails(30_002),
-        Due::Closes(30_000, 0, 0),
-        Due::Closes(30_001, 0, 0),
+        Due::Opens(V6, 30_000),
+        Due::Opens(V6, 30_001),
+        Due::Fails(V4, 30_000),
+        Due::Closes(V6, 30_000, 0, 0),
+        Due::Closes(V6, 30_001, 0, 0),
     ],
     &[
-        Due::Opens(30_000),
-        Due::Opens(30_001),
-        Due::Opens(30_002),
-        Due::Fails(30_003),
-        Due::Closes(30_000, 0, 0),
-        Due::Closes(30_001, 0, 0),
-        Due::Closes(30_002, 0, 0),
+        Due::Opens(V6, 30_000),
+        Due::Opens(V6, 30_001),
+        Due::Opens(V4, 30_000),
+        Due::Fails(V4, 30_001),
+        Due::Closes(V6, 30_000, 0, 0),
+        Due::Closes(V6, 30_001, 0, 0),
+        Due::Closes(V4, 30_000, 0, 0),
     ],
 ];
 

@@ -1,11 +1,10 @@
 ghost use Rattle.std.specs.Prelude.{◌≡◌};
-ghost use Rattle.port_pool.specs.Ports.{port_at};
+ghost use Rattle.port_pool.specs.Ports.{port_address};
 
 use crate::first_relay::{CONFIG, begin};
 use crate::quiet_devices::{Mute, Quiet};
 use board_turns::{BoardEntryId, MainHand, open_box, shut_box};
-use media_ports::address_of;
-use port_pool::{BoxTake, Holder, Side};
+use port_pool::{BoxTake, Holder, Side, port_address};
 use relay_core::Part;
 use rtp_packet::Half;
 
@@ -26,12 +25,13 @@ const ENTRY: BoardEntryId = BoardEntryId {
     moment: 5,
 };
 
-// The in end of a port, at which nothing is.
-fn quiet(port: u16) -> Quiet
-    ensures { result.at ≡ port_at CONFIG.interface port }
+// The in end of a port of the holder's pair, at which nothing is.
+#[tactic(auto, unfolding(port_pool::specs::Ports::pair_count, port_pool::specs::Ports::range_pairs))]
+fn quiet(half: Half) -> Quiet
+    ensures { result.at ≡ port_address CONFIG HOLDER.pair half }
 {
     Quiet {
-        at: address_of(CONFIG.interface, port),
+        at: port_address(&CONFIG, HOLDER.pair, half),
     }
 }
 
@@ -56,7 +56,7 @@ fn a_box_is_opened_for_its_leg(rt: HostRuntime) {
         hand: &mut hand,
         entry_id: ENTRY,
     };
-    let (rtp, rtcp) = (quiet(30_002), quiet(30_003));
+    let (rtp, rtcp) = (quiet(Half::Rtp), quiet(Half::Rtcp));
     open_box(&rt, &mut main, HOLDER, rtp, rtcp);
     let mut places = turns.close(hand);
     assert!(rt; taken(places.as_mut_slice(), 3) == Some(BoxTake::Closed));
@@ -74,7 +74,7 @@ fn a_box_that_is_shut_gives_its_ends_back(rt: HostRuntime) {
         hand: &mut hand,
         entry_id: ENTRY,
     };
-    let (rtp, rtcp) = (quiet(30_002), quiet(30_003));
+    let (rtp, rtcp) = (quiet(Half::Rtp), quiet(Half::Rtcp));
     open_box(&rt, &mut main, HOLDER, rtp, rtcp);
     let mut main = MainHand {
         turns: &turns,

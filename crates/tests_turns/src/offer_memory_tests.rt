@@ -35,6 +35,7 @@ const OPTIONS: Options = Options {
     replace_session: false,
     transport: Some(Proto::Savp),
     source: None,
+    family: None,
 };
 
 fn text(rt: &impl Abort, alloc: Global, bytes: &[u8]) -> Text {

@@ -1,27 +1,35 @@
-use crate::two_pairs::two_pairs;
+use crate::two_pairs::{two_pairs, two_pairs_each};
 use port_pool::{Lease, Leases, Pool};
+use relay_outside::Family;
 
-/// The pair, the port and the generation of a lease.
-fn log(lease: &Lease) -> (u32, u16, u64) {
-    (lease.pair(), lease.rtp_port(), lease.generation())
+/// The pair, the family, the port and the generation of a lease.
+fn log(lease: &Lease) -> (u32, Family, u16, u64) {
+    (
+        lease.pair(),
+        lease.family(),
+        lease.rtp_port(),
+        lease.generation(),
+    )
 }
 
 #[test]
 fn pairs_are_leased_in_the_order_in_which_they_became_free(rt: HostRuntime) {
     let mut pool = two_pairs(&rt, rt.alloc());
-    assert!(rt; pool.free_count() == 2);
-    let (Some(first), Some(second)) = (pool.lease(), pool.lease()) else {
+    assert!(rt; pool.free_count(Family::V4) == 2);
+    let (Some(first), Some(second)) = (pool.lease(Family::V4), pool.lease(Family::V4)) else {
         panic!(rt; "two pairs are free");
     };
-    assert!(rt; log(&first) == (0, 30_000, 1) && log(&second) == (1, 30_002, 1));
-    assert!(rt; pool.lease().is_none(), "none is free");
+    assert!(rt;
+        log(&first) == (0, Family::V4, 30_000, 1) && log(&second) == (1, Family::V4, 30_002, 1)
+    );
+    assert!(rt; pool.lease(Family::V4).is_none(), "none is free");
     pool.give_back(second);
     pool.give_back(first);
-    assert!(rt; pool.free_count() == 2);
-    let Some(again) = pool.lease() else {
+    assert!(rt; pool.free_count(Family::V4) == 2);
+    let Some(again) = pool.lease(Family::V4) else {
         panic!(rt; "two pairs are free again");
     };
-    assert!(rt; log(&again) == (1, 30_002, 2));
+    assert!(rt; log(&again) == (1, Family::V4, 30_002, 2));
 }
 
 #[test]
@@ -38,9 +46,84 @@ fn a_range_has_the_pairs_that_lie_in_it_whole(rt: HostRuntime) {
         (1_024, 65_535, 32_256),
         (0, 65_535, 32_768),
     ] {
-        let pool = Pool::new(rt.alloc(), port_min, port_max).expect(&rt, "memory");
-        assert!(rt; pool.free_count() == count, "from {port_min} to {port_max}");
+        let pool = Pool::new(rt.alloc(), port_min, port_max, false).expect(&rt, "memory");
+        assert!(rt;
+            pool.free_count(Family::V4) == count,
+            "from {port_min} to {port_max}"
+        );
+        assert!(rt;
+            pool.free_count(Family::V6) == 0,
+            "from {port_min} to {port_max}"
+        );
+        let pool = Pool::new(rt.alloc(), port_min, port_max, true).expect(&rt, "memory");
+        assert!(rt;
+            pool.free_count(Family::V4) == count,
+            "from {port_min} to {port_max}"
+        );
+        assert!(rt;
+            pool.free_count(Family::V6) == count,
+            "from {port_min} to {port_max}"
+        );
     }
+}
+
+#[test]
+fn each_family_has_its_own_pairs_of_the_same_ports(rt: HostRuntime) {
+    let mut pool = two_pairs_each(&rt, rt.alloc());
+    let (Some(one), Some(two)) = (pool.lease(Family::V6), pool.lease(Family::V4)) else {
+        panic!(rt; "two pairs of each family are free");
+    };
+    assert!(rt; log(&one) == (2, Family::V6, 30_000, 1) && log(&two) == (0, Family::V4, 30_000, 1));
+    let (Some(three), Some(four)) = (pool.lease(Family::V6), pool.lease(Family::V4)) else {
+        panic!(rt; "one pair of each family is free");
+    };
+    assert!(rt;
+        log(&three) == (3, Family::V6, 30_002, 1) && log(&four) == (1, Family::V4, 30_002, 1)
+    );
+    assert!(rt;
+        pool.lease(Family::V4).is_none() && pool.lease(Family::V6).is_none(),
+        "none is free"
+    );
+}
+
+#[test]
+fn a_family_without_a_free_pair_takes_none_of_the_other(rt: HostRuntime) {
+    let mut pool = two_pairs_each(&rt, rt.alloc());
+    let (Some(_), Some(_)) = (pool.lease(Family::V6), pool.lease(Family::V6)) else {
+        panic!(rt; "two pairs of version 6 are free");
+    };
+    assert!(rt; pool.free_count(Family::V4) == 2 && pool.free_count(Family::V6) == 0);
+    assert!(rt; pool.lease(Family::V6).is_none());
+    let Some(other) = pool.lease(Family::V4) else {
+        panic!(rt; "two pairs of version 4 are free");
+    };
+    assert!(rt; log(&other) == (0, Family::V4, 30_000, 1));
+    let mut pool = two_pairs(&rt, rt.alloc());
+    assert!(rt;
+        pool.lease(Family::V6).is_none(),
+        "there is no pair of version 6"
+    );
+}
+
+#[test]
+fn what_comes_back_waits_behind_its_own_family_alone(rt: HostRuntime) {
+    let mut pool = two_pairs_each(&rt, rt.alloc());
+    let (Some(other), Some(pair)) = (pool.lease(Family::V6), pool.lease(Family::V4)) else {
+        panic!(rt; "two pairs of each family are free");
+    };
+    pool.give_back(pair);
+    pool.give_back(other);
+    assert!(rt; pool.free_count(Family::V4) == 2 && pool.free_count(Family::V6) == 2);
+    let (Some(one), Some(two)) = (pool.lease(Family::V6), pool.lease(Family::V6)) else {
+        panic!(rt; "two pairs of version 6 are free");
+    };
+    assert!(rt; log(&one) == (3, Family::V6, 30_002, 1) && log(&two) == (2, Family::V6, 30_000, 2));
+    let (Some(three), Some(four)) = (pool.lease(Family::V4), pool.lease(Family::V4)) else {
+        panic!(rt; "two pairs of version 4 are free");
+    };
+    assert!(rt;
+        log(&three) == (1, Family::V4, 30_002, 1) && log(&four) == (0, Family::V4, 30_000, 2)
+    );
 }
 
 /// The pair of the lease that comes out next.
@@ -55,7 +138,7 @@ fn leases_come_out_in_the_order_in_which_they_were_made(rt: HostRuntime) {
     let Ok(mut leases) = Leases::with_room(rt.alloc(), 2) else {
         panic!(rt; "no memory");
     };
-    let (Some(first), Some(second)) = (pool.lease(), pool.lease()) else {
+    let (Some(first), Some(second)) = (pool.lease(Family::V4), pool.lease(Family::V4)) else {
         panic!(rt; "two pairs are free");
     };
     leases.push(first);

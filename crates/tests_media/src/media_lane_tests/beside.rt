@@ -57,7 +57,7 @@ fn put_take<I: InEnd, O: OutEnd, X: Says>(
 }
 
 // What a lane receives while another hand has the turn of the pair's box, which that hand ends by a take.
-#[tactic(auto, unfolding(port_pool::specs::Ports::pair_count))]
+#[tactic(auto, unfolding(port_pool::specs::Ports::pair_count, port_pool::specs::Ports::range_pairs))]
 pub(super) fn receive_beside<I: InEnd, O: OutEnd, R: Wait>(
     rt: &R,
     turns: &Turns<Relay<I, O>>,

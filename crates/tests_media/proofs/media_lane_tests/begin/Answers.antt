@@ -1,5 +1,5 @@
 use Rattle.std.proofs.Common.{◌≡◌, ◌∙◌, refl, sym, subst, rules, arith, ℕ, zero, suc, ◌<◌, ◌≤◌, List, [], ◌∷◌, Some, slice_get}
-use Rattle.port_pool.specs.Ports.{pair_count}
+use Rattle.port_pool.specs.Ports.{pair_count, range_pairs}
 use Rattle.port_pool.specs.declared.boxes.PairBox.{PairBox}
 use Rattle.call_board.specs.declared.board.Board as board
 use Rattle.call_cell.specs.declared.cell.Cell as cell
@@ -29,7 +29,7 @@ module _ {I O : Type 0} (b : board.Board) (c : cell.Cell O) (one two : PairBox I
   the_box (suc (suc (suc (suc k)))) x q above = absurd (let z : slice_get [] k ≡ Some x = q in cc)
 
   four_begin : HasLaneStarts CONFIG four
-  unfolding four pair_count
+  unfolding four pair_count range_pairs
   four_begin = record { as_many = refl; cells = the_cell; boxes = the_box }
 
 pub returns : goal.returns

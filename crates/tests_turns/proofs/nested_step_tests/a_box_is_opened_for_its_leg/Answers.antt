@@ -1,10 +1,10 @@
 use Rattle.std.proofs.Common.{lit<}
-use Rattle.port_pool.specs.Ports.{pair_count}
+use Rattle.port_pool.specs.Ports.{pair_count, range_pairs}
 use Rattle.board_turns.proofs.First.{first_shut}
 use Rattle.tests_turns.proofs.nested_step_tests.a_box_is_opened_for_its_leg.Goals as goal
 
 pub open_box-requires-clause-pair : goal.open_box-requires-clause-pair
-unfolding pair_count
+unfolding pair_count range_pairs
 open_box-requires-clause-pair g c = lit< tt
 
 pub open_box-requires-clause-shut : goal.open_box-requires-clause-shut

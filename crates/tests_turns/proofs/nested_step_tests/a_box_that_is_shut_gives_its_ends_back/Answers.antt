@@ -1,7 +1,7 @@
 use Rattle.std.proofs.Common.{◌≡◌, lit<, ap, sym, subst}
 use Rattle.std.specs.Prelude.{is_some, Option}
 use Rattle.port_pool.specs.declared.holder.Holder.{Holder}
-use Rattle.port_pool.specs.Ports.{pair_count}
+use Rattle.port_pool.specs.Ports.{pair_count, range_pairs}
 use Rattle.relay_core.specs.Turns.{made_by}
 use Rattle.board_turns.specs.NestedSteps.{IsTurnOpen}
 use Rattle.board_turns.proofs.After.{gained_last, opened}
@@ -9,14 +9,14 @@ use Rattle.board_turns.proofs.First.{first_shut}
 use Rattle.tests_turns.proofs.nested_step_tests.a_box_that_is_shut_gives_its_ends_back.Goals as goal
 
 pub open_box-requires-clause-pair : goal.open_box-requires-clause-pair
-unfolding pair_count
+unfolding pair_count range_pairs
 open_box-requires-clause-pair g c = lit< tt
 
 pub open_box-requires-clause-shut : goal.open_box-requires-clause-shut
 open_box-requires-clause-shut g c = first_shut _ 4 c.in-Some.ensures.hand.0
 
 pub shut_box-requires-clause-pair : goal.shut_box-requires-clause-pair
-unfolding pair_count
+unfolding pair_count range_pairs
 shut_box-requires-clause-pair g c = lit< tt
 
 pub shut_box-requires-clause-open : goal.shut_box-requires-clause-open
