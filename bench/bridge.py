@@ -1,6 +1,6 @@
 """Bridges a plain telephone and an SRTP one over the built program, by an SRTP of its own (Python's cryptography).
 
-Usage: bench/bridge.py [PACKETS]. It starts the program on the loopback, offers and answers a call with RTP/AVP on one side and
+Usage: bench/bridge.py [PACKETS [PLAIN SECURE]]. PLAIN and SECURE are the families of the two telephones, IP4 or IP6. It starts the program on the loopback, offers and answers a call with RTP/AVP on one side and
 RTP/SAVP on the other, sends PACKETS packets each way, one at a time, and compares each; then a packet with a wrong tag and a
 replay, which must not come through.
 """
@@ -19,6 +19,8 @@ from cryptography.hazmat.primitives.ciphers import Cipher, algorithms, modes
 
 TOP = os.path.dirname(os.path.dirname(os.path.abspath(__file__)))
 PACKETS = int(sys.argv[1]) if len(sys.argv) > 1 else 100
+FAMILIES = {"IP4": (socket.AF_INET, "127.0.0.1"), "IP6": (socket.AF_INET6, "::1")}
+PLAIN, SECURE = (sys.argv[2:4] + ["IP4", "IP4"])[:2]
 
 
 def keystream(key, counter, length):
@@ -58,15 +60,16 @@ class Srtp:
         return self.crypt(datagram[:-10])
 
 
-def bound(port):
-    end = socket.socket(socket.AF_INET, socket.SOCK_DGRAM)
-    end.bind(("127.0.0.1", port))
+def bound(family, port):
+    end = socket.socket(FAMILIES[family][0], socket.SOCK_DGRAM)
+    end.bind((FAMILIES[family][1], port))
     end.settimeout(1)
     return end
 
 
-def description(port, protocol, more=""):
-    return (f"v=0\r\no=- 1 1 IN IP4 127.0.0.1\r\ns=-\r\nc=IN IP4 127.0.0.1\r\nt=0 0\r\n"
+def description(family, port, protocol, more=""):
+    host = f"IN {family} {FAMILIES[family][1]}"
+    return (f"v=0\r\no=- 1 1 {host}\r\ns=-\r\nc={host}\r\nt=0 0\r\n"
             f"m=audio {port} {protocol} 0\r\n{more}")
 
 
@@ -83,14 +86,14 @@ def ask(command):
 
 
 def comes_through(datagram):
-    secure.sendto(datagram, ("127.0.0.1", secure_port))
+    secure.sendto(datagram, (FAMILIES[SECURE][1], secure_port))
     try:
         return plain.recvfrom(3000)[0]
     except socket.timeout:
         return None
 
 
-server = subprocess.Popen([f"{TOP}/crates/rtpengine/out/rtpengine", "serve", "--interface=127.0.0.1",
+server = subprocess.Popen([f"{TOP}/crates/rtpengine/out/rtpengine", "serve", "--interface=127.0.0.1", "--interface6=::1",
                            "--listen-ng=127.0.0.1:22347", "--port-min=31000", "--port-max=31099"],
                           stdout=subprocess.DEVNULL)
 try:
@@ -98,22 +101,22 @@ try:
     link = socket.socket(socket.AF_INET, socket.SOCK_DGRAM)
     link.settimeout(3)
     link.connect(("127.0.0.1", 22347))
-    plain, secure = bound(6100), bound(7100)
-    offer = description(6100, "RTP/AVP")
-    reply = ask(f"1 d7:call-id2:c17:command5:offer8:from-tag1:a3:sdp{len(offer)}:{offer}18:transport protocol8:RTP/SAVPe")
+    plain, secure = bound(PLAIN, 6100), bound(SECURE, 7100)
+    offer = description(PLAIN, 6100, "RTP/AVP")
+    reply = ask(f"1 d14:address family3:{SECURE}7:call-id2:c17:command5:offer8:from-tag1:a3:sdp{len(offer)}:{offer}18:transport protocol8:RTP/SAVPe")
     secure_port = int(re.search(r"m=audio (\d+)", reply).group(1))
     drawn = base64.b64decode(re.search(r"crypto:1 AES_CM_128_HMAC_SHA1_80 inline:(\S{40})", reply).group(1))
     own = os.urandom(30)
     line = f"a=crypto:1 AES_CM_128_HMAC_SHA1_80 inline:{base64.b64encode(own).decode()}\r\n"
-    answer = description(7100, "RTP/SAVP", line)
+    answer = description(SECURE, 7100, "RTP/SAVP", line)
     reply = ask(f"2 d7:call-id2:c17:command6:answer8:from-tag1:a3:sdp{len(answer)}:{answer}6:to-tag1:be")
     plain_port = int(re.search(r"m=audio (\d+)", reply).group(1))
     into, out_of = Srtp(own), Srtp(drawn)
     began = time.time()
     for number in range(PACKETS):
-        plain.sendto(packet(number), ("127.0.0.1", plain_port))
+        plain.sendto(packet(number), (FAMILIES[PLAIN][1], plain_port))
         datagram, source = secure.recvfrom(3000)
-        assert source == ("127.0.0.1", secure_port) and out_of.unprotect(datagram) == packet(number), number
+        assert source[:2] == (FAMILIES[SECURE][1], secure_port) and out_of.unprotect(datagram) == packet(number), number
         assert comes_through(into.protect(packet(number))) == packet(number), number
     print(f"{PACKETS} packets each way in {time.time() - began:.2f} s")
     last = into.protect(packet(PACKETS))
