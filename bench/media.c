@@ -32,6 +32,7 @@ static struct {
     long pid;     /* the program that is measured */
     long calls;
     long secure;  /* 1: the answerer speaks SRTP */
+    long six;     /* 1: the answerer is of IPv6, at ::1 */
     long seconds; /* of a measurement */
     long minutes; /* of a soak */
     long window;  /* packets on their way in a flood */
@@ -129,6 +130,7 @@ static struct call call_between(long number) {
 
 static void open_calls(void) {
     calls = calloc((size_t)asked.calls + 1, sizeof *calls);
+    for (long i = 0; i < asked.calls; i++) calls[i].six = asked.six;
     traffic_open((unsigned)asked.threads, calls, (unsigned)asked.calls);
     for (long i = 0; i < asked.calls; i++) {
         calls[i].number = (unsigned)(i * asked.step), calls[i].secure = asked.secure, calls[i].strict = asked.strict;
@@ -243,7 +245,7 @@ static void read_words(char **words) {
                  {"calls", &asked.calls, 0, 2048},  {"secure", &asked.secure, 0, 1},       {"seconds", &asked.seconds, 1, 600},
                  {"minutes", &asked.minutes, 1, 1440}, {"window", &asked.window, 1, 1024}, {"threads", &asked.threads, 1, 8},
                  {"step", &asked.step, 1, 64},      {"insist", &asked.insist, 0, 1000},    {"strict", &asked.strict, 0, 1},
-                 {"tell", &asked.tell, 0, 1}};
+                 {"tell", &asked.tell, 0, 1},       {"six", &asked.six, 0, 1}};
     for (; *words; words++) {
         size_t i = 0, length = strcspn(*words, "=");
         char *end = NULL;

@@ -26,11 +26,18 @@ void srtp_key_of(struct srtp_key *key, const uint8_t master[MASTER_LENGTH]);
 /* Writes the tag of a packet, whose roll-over counter is given, after it. */
 void srtp_tag(const struct srtp_key *key, uint32_t roll_over, uint8_t *packet, size_t length);
 
-/* media_calls.c: calls over the ng protocol. Side a is plain; side b is plain or SRTP. */
+/* An address of either family: the port stands at the same place in both. */
+union address {
+    struct sockaddr any;
+    struct sockaddr_in four;
+    struct sockaddr_in6 six;
+};
+
+/* media_calls.c: calls over the ng protocol. Side a is plain and of IPv4; side b is plain or SRTP, of IPv4 or IPv6. */
 struct call {
     unsigned number;
-    bool secure, strict;
-    struct sockaddr_in a, b;     /* where the telephones are */
+    bool secure, strict, six;
+    union address a, b;          /* where the telephones are */
     uint16_t port_to_a, port_to_b; /* the proxy's ports that face them */
     struct srtp_key b_key;       /* what b's packets are tagged by */
 };

@@ -9,6 +9,7 @@ usage: bench/media.sh MODE [NUMBER]...
   paced [CALLS [SECONDS]]      each call a packet each way every 20 ms; 1, 100 and 500 calls, 5 seconds
   flood [SECONDS [WINDOW]]     10 calls, as fast as packets come back, at most WINDOW on their way; 3 seconds, 32
   single [SECONDS [WINDOW]]    the same with one thread of each program
+  families [SECONDS [WINDOW]]  a flood whose answerers are of IPv6, at ::1; 3 seconds, 32
   idle [SECONDS]               no calls, and 100 without media; 10 seconds
   setup [SECONDS]              calls offered, answered and deleted one after the other, while 100 others have media; 5 seconds
   lanes [SECONDS [WINDOW]]     a flood of this program with 0, 1, 2 and 4 threads, and of a bare relay; 3 seconds, 64
@@ -17,9 +18,9 @@ usage: bench/media.sh MODE [NUMBER]...
   soak [MINUTES [CALLS]]       one program alone, ours, a line each minute; 10 minutes, 200 calls
   trace                        what strace -c and perf tell of 100 paced calls, and of a flood with one thread, of plain RTP: which system
                                calls a packet takes, and where the time goes; as root
-  all                          all but neighbours, soak and trace: some ten minutes
+  all                          all but families, neighbours, soak and trace: some ten minutes
 
-paced, flood and single have calls of plain RTP, and calls whose answerer speaks SRTP. Each program is started afresh for each measurement: ours,
+paced, flood, single and families have calls of plain RTP, and calls whose answerer speaks SRTP. Each program is started afresh for each measurement: ours,
 peer, ours, peer. What the words of a line mean is told at the top of bench/media.c. `bench/media.sh all | bench/table --write -` keeps the
 figures in bench/results and puts them into docs/PERFORMANCE.md. Variables, with what they are where they are not set:
 
@@ -64,12 +65,13 @@ stop() {
     running=
 }
 
-# start PROGRAM THREADS CALLS
+# start PROGRAM THREADS CALLS; both programs have an interface of IPv6 too where `six` is set
+six=
 start() {
     local program=$1 words=("--interface=127.0.0.1" "--listen-ng=127.0.0.1:$control" "--port-min=$first" "--port-max=$last" "--num-threads=$2")
     case $program in
-    ours) set -- "$ours" serve "${words[@]}" ;;
-    peer) set -- "$peer" --config-file=none --table=-1 --foreground --log-stderr --log-level=4 --delete-delay=0 "${words[@]}" ;;
+    ours) set -- "$ours" serve ${six:+--interface6=$six} "${words[@]}" ;;
+    peer) set -- "$peer" --config-file=none --table=-1 --foreground --log-stderr --log-level=4 --delete-delay=0 "${words[@]}" ${six:+--interface=$six} ;;
     relay) set -- "$room/relay" "$first" "$3" ;;
     esac
     if "$room/media" probe port=$control; then
@@ -136,6 +138,13 @@ single() {
     local kind threads=1
     for kind in $kinds; do
         in_turn "one-thread $kind" 10 flood seconds="${1:-3}" window="${2:-32}" threads="$senders" secure="$(is_secure "$kind")"
+    done
+}
+
+families() {
+    local kind six=::1
+    for kind in $kinds; do
+        in_turn "flood to IPv6 $kind" 10 flood seconds="${1:-3}" window="${2:-32}" threads="$senders" six=1 secure="$(is_secure "$kind")"
     done
 }
 
@@ -265,7 +274,7 @@ table() {
 
 mode=${1-}
 case $mode in
-paced | flood | single | lanes | neighbours | soak) most=2 ;;
+paced | flood | single | families | lanes | neighbours | soak) most=2 ;;
 idle | setup) most=1 ;;
 trace)
     most=0

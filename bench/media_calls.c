@@ -96,17 +96,18 @@ static void crypto_line(struct call *call, char *line, size_t size) {
     snprintf(line, size, "a=crypto:%d " SUITE " inline:%s\r\n", atoi(number), text);
 }
 
-static void describe(char *text, size_t size, const struct sockaddr_in *where, const char *protocol, const char *more) {
-    snprintf(text, size, "v=0\r\no=- 1 1 IN IP4 127.0.0.1\r\ns=-\r\nc=IN IP4 127.0.0.1\r\nt=0 0\r\nm=audio %d %s 0\r\n%s",
-             ntohs(where->sin_port), protocol, more);
+static void describe(char *text, size_t size, const union address *where, const char *protocol, const char *more) {
+    const char *host = where->any.sa_family == AF_INET6 ? "IN IP6 ::1" : "IN IP4 127.0.0.1";
+    snprintf(text, size, "v=0\r\no=- 1 1 %s\r\ns=-\r\nc=%s\r\nt=0 0\r\nm=audio %d %s 0\r\n%s", host, host, ntohs(where->four.sin_port), protocol, more);
 }
 
 void call_open(struct call *call) {
     const char *protocol = call->secure ? "RTP/SAVP" : "RTP/AVP", *flags = call->strict ? "5:flagsl13:strict sourcee" : "";
+    const char *family = call->six ? "14:address family3:IP6" : "";
     char name[64], sdp[1024], body[2048], crypto[128] = "";
     int length = snprintf(name, sizeof name, "%lx-%u", run, call->number);
     describe(sdp, sizeof sdp, &call->a, "RTP/AVP", "");
-    snprintf(body, sizeof body, "d4:DTLS3:off3:ICE6:remove7:call-id%d:%s7:command5:offer%s8:from-tag1:a3:sdp%zu:%s18:transport protocol%zu:%se", length, name,
+    snprintf(body, sizeof body, "d4:DTLS3:off3:ICE6:remove%s7:call-id%d:%s7:command5:offer%s8:from-tag1:a3:sdp%zu:%s18:transport protocol%zu:%se", family, length, name,
              flags, strlen(sdp), sdp, strlen(protocol), protocol);
     ask(body);
     call->port_to_b = port_in_reply();

@@ -27,7 +27,7 @@
 
 /* One way of a call. */
 struct stream {
-    struct sockaddr_in to;
+    union address to;
     int from_socket, to_socket;
     bool tagged;
     struct srtp_key key;
@@ -61,7 +61,7 @@ struct worker {
 static struct worker *workers[THREADS];
 static unsigned worker_count, call_count;
 static struct call *calls;
-static struct stream *by_port[65536]; /* by the proxy's port that a relayed packet comes from */
+static struct stream *by_port[2][65536]; /* by the proxy's address that a relayed packet comes from: whether of IPv6, and the port */
 
 uint64_t clock_ns(int clock) {
     struct timespec now;
@@ -69,14 +69,15 @@ uint64_t clock_ns(int clock) {
     return (uint64_t)now.tv_sec * 1000000000 + (uint64_t)now.tv_nsec;
 }
 
-static struct sockaddr_in loopback(uint16_t port) {
-    return (struct sockaddr_in){.sin_family = AF_INET, .sin_port = htons(port), .sin_addr.s_addr = htonl(INADDR_LOOPBACK)};
+static union address loopback(bool six, uint16_t port) {
+    if (six) return (union address){.six = {.sin6_family = AF_INET6, .sin6_port = htons(port), .sin6_addr = IN6ADDR_LOOPBACK_INIT}};
+    return (union address){.four = {.sin_family = AF_INET, .sin_port = htons(port), .sin_addr.s_addr = htonl(INADDR_LOOPBACK)}};
 }
 
-static int open_socket(struct worker *worker) {
-    int one = 1, room = 8 << 20, opened = socket(AF_INET, SOCK_DGRAM | SOCK_NONBLOCK, 0);
-    struct sockaddr_in here = loopback(0);
-    if (opened < 0 || bind(opened, (struct sockaddr *)&here, sizeof here)) fail("a socket: %s", strerror(errno));
+static int open_socket(struct worker *worker, bool six) {
+    union address here = loopback(six, 0);
+    int one = 1, room = 8 << 20, opened = socket(here.any.sa_family, SOCK_DGRAM | SOCK_NONBLOCK, 0);
+    if (opened < 0 || bind(opened, &here.any, six ? sizeof here.six : sizeof here.four)) fail("a socket: %s", strerror(errno));
     if (setsockopt(opened, SOL_SOCKET, SO_RCVBUFFORCE, &room, sizeof room)) setsockopt(opened, SOL_SOCKET, SO_RCVBUF, &room, sizeof room);
     setsockopt(opened, SOL_SOCKET, SO_TIMESTAMPNS, &one, sizeof one);
     struct epoll_event event = {.events = EPOLLIN, .data.fd = opened};
@@ -84,10 +85,10 @@ static int open_socket(struct worker *worker) {
     return opened;
 }
 
-static struct sockaddr_in address_of(int opened) {
-    struct sockaddr_in here;
+static union address address_of(int opened) {
+    union address here;
     socklen_t size = sizeof here;
-    getsockname(opened, (struct sockaddr *)&here, &size);
+    getsockname(opened, &here.any, &size);
     return here;
 }
 
@@ -100,7 +101,7 @@ void traffic_open(unsigned threads, struct call *all, unsigned count) {
         worker->poll = epoll_create1(0);
         worker->pairs = own < PAIRS ? own : PAIRS;
         worker->stream = calloc(2 * own, sizeof *worker->stream);
-        for (unsigned k = 0; k < 2 * worker->pairs; k++) worker->sockets[k] = open_socket(worker);
+        for (unsigned k = 0; k < 2 * worker->pairs; k++) worker->sockets[k] = open_socket(worker, k % 2 && all[0].six);
     }
     for (unsigned i = 0; i < count; i++) {
         struct worker *worker = workers[i % worker_count];
@@ -112,7 +113,7 @@ void traffic_open(unsigned threads, struct call *all, unsigned count) {
 
 static void ready_stream(struct worker *worker, const struct call *call, unsigned pair, bool from_a) {
     struct stream *stream = &worker->stream[worker->streams++];
-    stream->to = loopback(from_a ? call->port_to_a : call->port_to_b);
+    stream->to = loopback(!from_a && call->six, from_a ? call->port_to_a : call->port_to_b);
     stream->from_socket = worker->sockets[2 * pair + !from_a];
     stream->to_socket = worker->sockets[2 * pair + from_a];
     stream->tagged = call->secure && !from_a;
@@ -123,7 +124,7 @@ static void ready_stream(struct worker *worker, const struct call *call, unsigne
     uint32_t source = htonl(2 * call->number + from_a + 1);
     memcpy(stream->packet + 8, &source, 4);
     stream->packet[0] = 0x80, stream->packet[1] = 0;
-    by_port[from_a ? call->port_to_b : call->port_to_a] = stream;
+    by_port[from_a && call->six][from_a ? call->port_to_b : call->port_to_a] = stream;
 }
 
 void traffic_ready(void) {
@@ -147,7 +148,8 @@ static void send_packet(struct worker *worker, unsigned number) {
     stream->sent[place].index = index;
     stream->sent[place].given_up = false;
     stream->sent[place].at = clock_ns(CLOCK_REALTIME);
-    while (sendto(stream->from_socket, stream->packet, stream->length, 0, (struct sockaddr *)&stream->to, sizeof stream->to) < 0) {
+    socklen_t size = stream->to.any.sa_family == AF_INET6 ? sizeof stream->to.six : sizeof stream->to.four;
+    while (sendto(stream->from_socket, stream->packet, stream->length, 0, &stream->to.any, size) < 0) {
         if (errno != EAGAIN && errno != EINTR && errno != ENOBUFS) fail("sending: %s", strerror(errno));
     }
     worker->counts.sent++;
@@ -159,8 +161,8 @@ static void send_packet(struct worker *worker, unsigned number) {
 }
 
 /* A relayed packet, and when the system had it. */
-static void note_packet(struct worker *worker, int socket, uint16_t port, const uint8_t *packet, size_t length, uint64_t at) {
-    struct stream *stream = by_port[port];
+static void note_packet(struct worker *worker, int socket, const union address *source, const uint8_t *packet, size_t length, uint64_t at) {
+    struct stream *stream = by_port[source->any.sa_family == AF_INET6][ntohs(source->four.sin_port)];
     uint16_t sequence = (uint16_t)(packet[2] << 8 | packet[3]);
     unsigned place = sequence % REMEMBERED;
     if (!stream || stream->to_socket != socket || length != stream->length_relayed || (uint16_t)stream->sent[place].index != sequence ||
@@ -178,7 +180,7 @@ static void note_packet(struct worker *worker, int socket, uint16_t port, const 
 static void receive_packets(struct worker *worker, int socket) {
     static _Thread_local struct mmsghdr messages[BATCH];
     static _Thread_local struct iovec rooms[BATCH];
-    static _Thread_local struct sockaddr_in sources[BATCH];
+    static _Thread_local union address sources[BATCH];
     static _Thread_local uint8_t packets[BATCH][2048];
     static _Thread_local union {
         struct cmsghdr head;
@@ -197,7 +199,7 @@ static void receive_packets(struct worker *worker, int socket) {
             struct timespec stamp;
             if (!head || head->cmsg_type != SCM_TIMESTAMPNS) fail("the system stamps no packets");
             memcpy(&stamp, CMSG_DATA(head), sizeof stamp);
-            note_packet(worker, socket, ntohs(sources[i].sin_port), packets[i], messages[i].msg_len,
+            note_packet(worker, socket, &sources[i], packets[i], messages[i].msg_len,
                         (uint64_t)stamp.tv_sec * 1000000000 + (uint64_t)stamp.tv_nsec);
         }
     } while (got == BATCH);
