@@ -94,12 +94,12 @@ size_more lines i line found =
 pub size_within : (lines : List (List ℕ)) (i : ℕ) → size_of (take i lines) ≤ size_of lines
 size_within lines i = sum_by-take-le (λ (l : List ℕ). length l + 1) lines i
 
--- one step adds at most 284 bytes to its line
+-- one step adds at most 296 bytes to its line
 pub record IsShort (lines : List (List ℕ)) (i : ℕ) (step : Step) : Type 0 where
   pub short : length (step_text step) + 300 * size_of (take i lines) ≤ 300 * size_of (take (i + 1) lines)
 
 pub step_short : (lines : List (List ℕ)) (i : ℕ) (step : Step) → i < length lines
-    → ((line : List ℕ) → slice_get lines i ≡ Some line → length (step_text step) ≤ length line + 284) → IsShort lines i step
+    → ((line : List ℕ) → slice_get lines i ≡ Some line → length (step_text step) ≤ length line + 296) → IsShort lines i step
 step_short lines i step inside short =
     let line : List ℕ = slice_index_or lines i [] in
     let found : slice_get lines i ≡ Some line = get-inside lines i [] inside in

@@ -1,5 +1,5 @@
 -- The text of an edit that is within another one is no longer than that one's.
-use Rattle.std.proofs.Common.{◌≡◌, ℕ, zero, suc, ◌+◌, ◌-◌, ◌≤◌, ◌==◌, ◌&&◌, ◌||◌, not, Bool, true, false, List, [], ◌∷◌, ◌++◌, length, drop, codes, decimal, Option, Some, None, refl, ap, arith, if◌then◌else◌}
+use Rattle.std.proofs.Common.{◌≡◌, ℕ, zero, suc, ◌+◌, ◌-◌, ◌≤◌, ◌==◌, ◌&&◌, ◌||◌, not, is_some, Bool, true, false, List, [], ◌∷◌, ◌++◌, length, drop, codes, decimal, Option, Some, None, refl, ap, arith, if◌then◌else◌}
 use Rattle.std.proofs.lemmas.List.{length-append}
 use Rattle.std.specs.List.{slice_get, join_with_byte}
 use Rattle.base64.specs.Engines.{standard}
@@ -12,7 +12,7 @@ use Rattle.sdp_text.specs.Hosts.{text_of}
 use Rattle.sdp_text.specs.declared.host.Host.{Host}
 use Rattle.sdp_text.specs.declared.host.Host.TheVariants.{V4, V6}
 use Rattle.sdp_text.specs.Pieces.{fields}
-use Rattle.sdp_text.specs.Roles.{is_media, is_connection, is_origin}
+use Rattle.sdp_text.specs.Roles.{is_media, is_connection, is_origin, mux_line}
 use Rattle.sdp_edit.specs.declared.edits.SectionEdit.{SectionEdit}
 use Rattle.sdp_edit.specs.declared.edits.Edit.{Edit}
 use Rattle.sdp_edit.specs.declared.image.Image.{Image}
@@ -20,9 +20,9 @@ use Rattle.sdp_edit.specs.declared.image.Image.TheVariants.{Dropped, Kept, Conne
 use Rattle.sdp_edit.specs.declared.place.Place.{Place}
 use Rattle.sdp_edit.specs.Texts.{with_end, family_of, proto_text, edited_media_fields, media_text, connection_text, origin_fields, origin_text}
 use Rattle.sdp_edit.specs.Places.{line_place, ends_section, begins_with_title, connection_follows}
-use Rattle.sdp_edit.specs.Attributes.{is_removed, is_feedback}
+use Rattle.sdp_edit.specs.Attributes.{is_removed, is_mux_attribute, is_feedback}
 use Rattle.sdp_edit.specs.Images.{edit_at, media_image, connection_image, origin_image, lacks_feedback, attribute_image, image_of}
-use Rattle.sdp_edit.specs.EditedText.{image_text, added_connection, key_lines, added_keys, edited_line, edited_from, edited}
+use Rattle.sdp_edit.specs.EditedText.{image_text, added_connection, added_mux, key_lines, added_keys, edited_line, edited_from, edited}
 use Rattle.sdp_edit.specs.Widths.{AreLinesWithin, IsHostWithin, IsSectionWithin, AreSectionsWithin, IsWithin}
 use Rattle.sdp_edit.proofs.TextLemmas.{length-with_end}
 
@@ -101,6 +101,16 @@ keys-within (Some s) (Some w) more within = go (ends_section more)
     go : (b : Bool) → length (if b then key_lines s.crypto else []) ≤ length (if b then key_lines w.crypto else [])
     go true = lines-within s.crypto w.crypto within.lines_within
     go false = omega arith
+
+-- The line for one port.
+
+mux-within : (s w : Option SectionEdit) (more : List (List ℕ)) → AreWithinAt s w → length (added_mux s more) ≤ length (added_mux w more)
+unfolding added_mux
+mux-within None None more within = omega arith
+mux-within None (Some w) more within = absurd within
+mux-within (Some s) None more within = absurd within
+mux-within (Some s) (Some w) more within =
+    omega (arith, ap (λ b. length (if b && ends_section more then with_end mux_line else [])) within.mux_is)
 
 -- Connections.
 
@@ -235,7 +245,7 @@ same-attribute None None line within = refl
 same-attribute None (Some w) line within = absurd within
 same-attribute (Some s) None line within = absurd within
 same-attribute (Some s) (Some w) line within =
-    ap (λ p. if is_removed line || (lacks_feedback p && is_feedback line) then Dropped else Kept) within.proto_is
+    ap (λ p. if is_removed line || is_mux_attribute line || (lacks_feedback p && is_feedback line) then Dropped else Kept) within.proto_is
 
 alike : (i j : Image) (line : List ℕ) → i ≡ j → length (image_text i line) ≤ length (image_text j line)
 alike i j line same = omega (arith, ap (λ k. length (image_text k line)) same)
@@ -278,10 +288,13 @@ edited_line-within edit wide before line more within =
       arith,
       image-within edit wide (line_place before) line within,
       added-within s w here.is_head more at,
+      mux-within s w more at,
       keys-within s w more at,
-      length-append (image_text (image_of edit (line_place before) line) line ++ added_connection s here.is_head more) (added_keys s more),
+      length-append (image_text (image_of edit (line_place before) line) line ++ added_connection s here.is_head more ++ added_mux s more) (added_keys s more),
+      length-append (image_text (image_of edit (line_place before) line) line ++ added_connection s here.is_head more) (added_mux s more),
       length-append (image_text (image_of edit (line_place before) line) line) (added_connection s here.is_head more),
-      length-append (image_text (image_of wide (line_place before) line) line ++ added_connection w here.is_head more) (added_keys w more),
+      length-append (image_text (image_of wide (line_place before) line) line ++ added_connection w here.is_head more ++ added_mux w more) (added_keys w more),
+      length-append (image_text (image_of wide (line_place before) line) line ++ added_connection w here.is_head more) (added_mux w more),
       length-append (image_text (image_of wide (line_place before) line) line) (added_connection w here.is_head more),
     )
 

@@ -18,9 +18,9 @@ ice_names = codes "candidate" ∷ codes "remote-candidates" ∷ codes "ice-ufrag
 abbrev pub key_names : List (List ℕ)
 key_names = codes "fingerprint" ∷ codes "setup" ∷ codes "crypto" ∷ []
 
--- how ports are shared between RTP and RTCP (RFC 3605, RFC 5761) and between sections (RFC 5888)
+-- the port of RTCP (RFC 3605), and ports that sections share (RFC 5888)
 abbrev pub port_names : List (List ℕ)
-port_names = codes "rtcp" ∷ codes "rtcp-mux" ∷ codes "group" ∷ []
+port_names = codes "rtcp" ∷ codes "group" ∷ []
 
 abbrev pub is_removed_name : List ℕ → Bool
 is_removed_name name = list_any (bytes_eq name) ice_names || list_any (bytes_eq name) key_names || list_any (bytes_eq name) port_names
@@ -28,6 +28,10 @@ is_removed_name name = list_any (bytes_eq name) ice_names || list_any (bytes_eq 
 -- an attribute that is removed wherever it stands
 unfoldable pub is_removed : List ℕ → Bool
 is_removed line = is_attribute line && is_removed_name (attribute_name line)
+
+-- RTP and RTCP on one port (RFC 5761 section 5.1.1). A section says so without a value; with one the line goes too.
+unfoldable pub is_mux_attribute : List ℕ → Bool
+is_mux_attribute line = is_attribute line && bytes_eq (attribute_name line) (codes "rtcp-mux")
 
 -- feedback messages (RFC 4585 section 4.2), which only the profiles with early feedback have
 unfoldable pub is_feedback : List ℕ → Bool

@@ -1,5 +1,6 @@
 -- The edited text: for each line its image, and the lines that are added after it.
 use Rattle.std.specs.Prelude.{ℕ, List, [], ◌∷◌, ◌++◌, Bool, ◌&&◌, not, Option, Some, None, if◌then◌else◌, All}
+use Rattle.sdp_text.specs.Roles.{mux_line}
 use Rattle.sdes_lines.specs.CryptoLine.{line_text, IsTag}
 use Rattle.sdes_lines.specs.declared.crypto_line.CryptoLine.{CryptoLine}
 use Rattle.sdp_edit.specs.declared.edits.SectionEdit.{SectionEdit}
@@ -24,13 +25,18 @@ added_connection None is_head more = []
 added_connection (Some edit) is_head more =
     if is_head && not (begins_with_title more) && not (connection_follows more) then with_end (connection_text edit.address) else []
 
+-- Where the edit says so, one line `a=rtcp-mux` comes at the end of the section (RFC 5761 section 5.1.1).
+unfoldable pub added_mux : Option SectionEdit → List (List ℕ) → List ℕ
+added_mux None more = []
+added_mux (Some edit) more = if edit.mux && ends_section more then with_end mux_line else []
+
 -- crypto lines in order (RFC 4568)
 unfoldable pub key_lines : List (Option CryptoLine) → List ℕ
 key_lines [] = []
 key_lines (None ∷ more) = key_lines more
 key_lines (Some key ∷ more) = with_end (line_text key.tag key.suite key.key) ++ key_lines more
 
--- The edit's crypto lines come at the end of the section.
+-- The edit's crypto lines come at the end of the section, after that line.
 unfoldable pub added_keys : Option SectionEdit → List (List ℕ) → List ℕ
 added_keys None more = []
 added_keys (Some edit) more = if ends_section more then key_lines edit.crypto else []
@@ -40,7 +46,7 @@ unfoldable pub edited_line : Edit → List (List ℕ) → List ℕ → List (Lis
 edited_line edit before line more =
     let here = line_place (line ∷ before) in
     let section = edit_at edit.sections.list here.section in
-    image_text (image_of edit (line_place before) line) line ++ added_connection section here.is_head more ++ added_keys section more
+    image_text (image_of edit (line_place before) line) line ++ added_connection section here.is_head more ++ added_mux section more ++ added_keys section more
 
 -- all of them from a line on
 unfoldable pub edited_from : Edit → List (List ℕ) → List (List ℕ) → List ℕ

@@ -1,5 +1,5 @@
 -- What becomes of a line.
-use Rattle.std.specs.Prelude.{◌≡◌, ℕ, ◌+◌, ◌-◌, List, Bool, ◌&&◌, ◌||◌, not, ◌==◌, Option, Some, None, true, false, if◌then◌else◌, slice_get}
+use Rattle.std.specs.Prelude.{◌≡◌, ℕ, ◌+◌, ◌-◌, List, Bool, ◌&&◌, ◌||◌, not, ◌==◌, Option, Some, None, true, false, if◌then◌else◌, is_some, slice_get}
 use Rattle.sdp_text.specs.Roles.{is_media, is_connection, is_origin}
 use Rattle.sdp_text.specs.declared.proto.Proto.{Proto}
 use Rattle.sdp_text.specs.declared.proto.Proto.TheVariants.{Avp, Avpf, Savp, Savpf, Other}
@@ -8,7 +8,7 @@ use Rattle.sdp_edit.specs.declared.edits.Edit.{Edit}
 use Rattle.sdp_edit.specs.declared.image.Image.{Image}
 use Rattle.sdp_edit.specs.declared.image.Image.TheVariants.{Dropped, Kept, Media, Connection, Origin}
 use Rattle.sdp_edit.specs.declared.place.Place.{Place}
-use Rattle.sdp_edit.specs.Attributes.{is_removed, is_feedback}
+use Rattle.sdp_edit.specs.Attributes.{is_removed, is_mux_attribute, is_feedback}
 
 -- the edit of the section with this number, from 1; 0 stands for the lines before the first section
 abbrev pub edit_at : List SectionEdit → ℕ → Option SectionEdit
@@ -39,8 +39,9 @@ abbrev pub drops_feedback : Option SectionEdit → Bool
 drops_feedback None = false
 drops_feedback (Some edit) = lacks_feedback edit.proto
 
+-- an edited section loses each `a=rtcp-mux` line of its own
 abbrev pub attribute_image : Option SectionEdit → List ℕ → Image
-attribute_image edit line = if is_removed line || (drops_feedback edit && is_feedback line) then Dropped else Kept
+attribute_image edit line = if is_removed line || (is_some edit && is_mux_attribute line) || (drops_feedback edit && is_feedback line) then Dropped else Kept
 
 -- what becomes of a line at a place
 unfoldable pub image_of : Edit → Place → List ℕ → Image

@@ -9,4 +9,4 @@ text_or_none (Some text) = text
 
 -- what is written for one line
 abbrev pub step_text : Step → List ℕ
-step_text step = text_or_none step.image ++ text_or_none step.connection ++ (text_or_none step.first_key ++ text_or_none step.second_key)
+step_text step = text_or_none step.image ++ text_or_none step.connection ++ text_or_none step.mux ++ (text_or_none step.first_key ++ text_or_none step.second_key)

@@ -28,6 +28,7 @@ pub record IsSectionWithin (section wide : SectionEdit) : Type 0 where
   pub port_within : length (decimal section.port) ≤ length (decimal wide.port)
   pub proto_is : section.proto ≡ wide.proto
   pub address_within : IsHostWithin section.address wide.address
+  pub mux_is : section.mux ≡ wide.mux
   pub lines_within : AreLinesWithin section.crypto wide.crypto
 
 -- the same of each section, and there are as many of them

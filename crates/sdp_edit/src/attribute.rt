@@ -3,7 +3,7 @@
 ghost use Rattle.std.specs.Prelude.{◌≡◌, ◌==◌, drop, ◌≤◌, length};
 ghost use Rattle.std.specs.List.{list_any, before_first};
 ghost use Rattle.std.specs.Str.{bytes_eq};
-ghost use Rattle.sdp_edit.specs.Attributes.{is_attribute, attribute_name, ice_names, key_names, port_names, is_removed_name, is_removed, is_feedback};
+ghost use Rattle.sdp_edit.specs.Attributes.{is_attribute, attribute_name, ice_names, key_names, port_names, is_removed_name, is_removed, is_mux_attribute, is_feedback};
 
 // How many bytes stand before the first colon.
 fn name_length(text: &[u8]) -> usize
@@ -42,7 +42,7 @@ fn is_key_name(name: &[u8]) -> bool
 fn is_port_name(name: &[u8]) -> bool
     ensures { result ≡ list_any (bytes_eq name.now) port_names }
 {
-    name == b"rtcp".as_slice() || name == b"rtcp-mux".as_slice() || name == b"group".as_slice()
+    name == b"rtcp".as_slice() || name == b"group".as_slice()
 }
 
 fn is_removed_name(name: &[u8]) -> bool
@@ -57,6 +57,14 @@ pub(crate) fn is_removed(line: &[u8]) -> bool
     ensures { result ≡ is_removed line.now }
 {
     line.starts_with(b"a=") && is_removed_name(attribute_name(line))
+}
+
+/// Whether the line is an attribute `rtcp-mux`, with a value or without one.
+#[tactic(auto, unfolding(crate::specs::Attributes::is_mux_attribute))]
+pub(crate) fn is_mux_attribute(line: &[u8]) -> bool
+    ensures { result ≡ is_mux_attribute line.now }
+{
+    line.starts_with(b"a=") && attribute_name(line) == b"rtcp-mux".as_slice()
 }
 
 /// Whether the line is an attribute of early feedback.

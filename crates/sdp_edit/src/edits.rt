@@ -16,6 +16,9 @@ pub struct SectionEdit {
     pub proto: Proto,
     /// The address of the section's `c=` line.
     pub address: Host,
+    /// Whether a line `a=rtcp-mux` is written at the end of the section, before the crypto lines (RFC 5761
+    /// section 5.1.1). Those that stood in it go in either case.
+    pub mux: bool,
     /// The crypto lines at the end of the section. Their tags are at most 999,999,999.
     pub crypto: [Option<CryptoLine>; 2],
 }

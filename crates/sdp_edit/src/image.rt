@@ -3,7 +3,7 @@
 ghost use Rattle.std.specs.Prelude.{◌≡◌, ◌-◌, ◌<◌, ◌^◌};
 ghost use Rattle.sdp_edit.specs.Images.{edit_at, media_image, connection_image, origin_image, lacks_feedback, drops_feedback, attribute_image, image_of, Suits};
 
-use crate::attribute::{is_feedback, is_removed};
+use crate::attribute::{is_feedback, is_mux_attribute, is_removed};
 use crate::edits::{Edit, SectionEdit};
 use crate::place::{Place, is_connection, is_media, is_origin};
 use sdp_text::{Host, Proto};
@@ -76,7 +76,10 @@ fn drops_feedback(edit: Option<SectionEdit>) -> bool
 fn attribute_image(edit: Option<SectionEdit>, line: &[u8]) -> Image
     ensures { result ≡ attribute_image edit line.now }
 {
-    if is_removed(line) || (drops_feedback(edit) && is_feedback(line)) {
+    if is_removed(line)
+        || (edit.is_some() && is_mux_attribute(line))
+        || (drops_feedback(edit) && is_feedback(line))
+    {
         Image::Dropped
     } else {
         Image::Kept

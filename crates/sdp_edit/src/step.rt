@@ -3,7 +3,7 @@
 ghost use Rattle.std.specs.Prelude.{◌≡◌, ℕ, ◌+◌, ◌-◌, ◌≤◌, ◌<◌, ◌^◌, List, [], ◌∷◌, ◌++◌, length, drop, slice_get, Some};
 ghost use Rattle.sdp_edit.specs.Images.{Suits};
 ghost use Rattle.sdp_edit.specs.Places.{line_place};
-ghost use Rattle.sdp_edit.specs.EditedText.{image_text, added_connection, key_lines, added_keys, edited_line, KeysHaveTags, SectionHasTags, HaveTags};
+ghost use Rattle.sdp_edit.specs.EditedText.{image_text, added_connection, added_mux, key_lines, added_keys, edited_line, KeysHaveTags, SectionHasTags, HaveTags};
 ghost use Rattle.sdp_edit.specs.Steps.{text_or_none, step_text};
 
 use crate::ahead::{begins_with_title, connection_follows, ends_section};
@@ -15,11 +15,12 @@ use crate::text::{connection_line, media_line, origin_line};
 use sdes_lines::CryptoLine;
 use sdp_text::{Bytes, Sdp};
 
-/// What becomes of a line, and the lines that are added after it: up to four lines to be written, in order.
+/// What becomes of a line, and the lines that are added after it: up to five lines to be written, in order.
 #[derive(Drop)]
 pub(crate) struct Step<'a> {
     image: Option<OutLine<'a>>,
     connection: Option<OutLine<'a>>,
+    mux: Option<OutLine<'a>>,
     first_key: Option<OutLine<'a>>,
     second_key: Option<OutLine<'a>>,
     /// The place after the line.
@@ -55,6 +56,20 @@ fn added_connection<'a>(
     let edit = section?;
     if is_head && !begins_with_title(sdp, next) && !connection_follows(sdp, next) {
         Some(connection_line(&edit.address))
+    } else {
+        None
+    }
+}
+
+// The `a=rtcp-mux` line of a section that ends before the line `next`, where the edit has one.
+#[tactic(auto, unfolding(crate::specs::EditedText::added_mux, crate::specs::Texts::with_end))]
+fn added_mux<'a>(sdp: &Sdp, section: Option<SectionEdit>, next: usize) -> Option<OutLine<'a>>
+    ensures text { text_or_none result ≡ added_mux section (drop next sdp.now) }
+    ensures short { length (text_or_none result) ≤ 12 }
+{
+    let edit = section?;
+    if edit.mux && ends_section(sdp, next) {
+        Some(OutLine::whole(b"a=rtcp-mux"))
     } else {
         None
     }
@@ -103,17 +118,19 @@ pub(crate) fn edited_line<'a>(sdp: &'a Sdp, edit: &Edit, place: Place, index: us
         → step_text result ≡ edited_line edit.now before line (drop (index + 1) sdp.now) }
     ensures here { (before : List (List ℕ)) (line : List ℕ) → place ≡ line_place before → slice_get sdp.now index ≡ Some line
         → result.here ≡ line_place (line ∷ before) }
-    ensures short { (line : List ℕ) → slice_get sdp.now index ≡ Some line → length (step_text result) ≤ length line + 284 }
+    ensures short { (line : List ℕ) → slice_get sdp.now index ≡ Some line → length (step_text result) ≤ length line + 296 }
 {
     let line = sdp.line(index);
     let here = place.after(line);
     let image = image_line(&image_of(edit, place, line), line);
     let section = edit_at(edit.sections.as_slice(), here.section);
     let connection = added_connection(sdp, section, here.is_head, index + 1);
+    let mux = added_mux(sdp, section, index + 1);
     let (first_key, second_key) = added_keys(sdp, section, index + 1);
     Step {
         image,
         connection,
+        mux,
         first_key,
         second_key,
         here,
@@ -146,7 +163,7 @@ impl<'a> Step<'a> {
         ensures { result ≡ length (step_text self.now) }
     {
         let keys = line_len(&self.first_key) + line_len(&self.second_key);
-        line_len(&self.image) + line_len(&self.connection) + keys
+        line_len(&self.image) + line_len(&self.connection) + line_len(&self.mux) + keys
     }
 
     /// Writes them after what `out` holds.
@@ -157,6 +174,7 @@ impl<'a> Step<'a> {
     {
         put_line(&self.image, out);
         put_line(&self.connection, out);
+        put_line(&self.mux, out);
         put_line(&self.first_key, out);
         put_line(&self.second_key, out);
     }

@@ -7,4 +7,5 @@ pub mod Served
 pub mod LineLemmas
 pub mod Firsts
 pub mod Faults
+pub mod MuxLines
 pub mod Numbers

@@ -1,5 +1,6 @@
 -- The sections of a description: each is an `m=` line with the lines up to the next one.
 use Rattle.std.specs.Prelude.{ℕ, ◌+◌, List, [], ◌∷◌, Bool, true, false, ◌&&◌, ◌||◌, not, Option, Some, None, nat_lt, ◌==◌, if◌then◌else◌, is_none, map}
+use Rattle.std.specs.List.{list_any}
 use Rattle.sdp_text.specs.Hosts.{is_unspecified, is_v6}
 use Rattle.sdp_text.specs.Roles.{role}
 use Rattle.sdp_text.specs.declared.host.Host.{Host}
@@ -10,7 +11,7 @@ use Rattle.sdp_text.specs.declared.role.Address.TheVariants.{Known, Unreadable}
 use Rattle.sdp_text.specs.declared.role.MediaLine.{MediaLine}
 use Rattle.sdp_text.specs.declared.role.RtcpLine.{RtcpLine}
 use Rattle.sdp_text.specs.declared.role.Role.{Role}
-use Rattle.sdp_text.specs.declared.role.Role.TheVariants.{Media, Connection, Rtcp, Plain}
+use Rattle.sdp_text.specs.declared.role.Role.TheVariants.{Media, Connection, Rtcp, Mux, Plain}
 use Rattle.sdp_text.specs.declared.part.Part.{Part}
 use Rattle.sdp_text.specs.declared.section.Section.{Section}
 use Rattle.sdp_text.specs.declared.fault.SdpFault.{SdpFault}
@@ -22,6 +23,7 @@ first_connection number [] = None
 first_connection number (Media line ∷ more) = None
 first_connection number (Connection address ∷ more) = Some (number, address)
 first_connection number (Rtcp line ∷ more) = first_connection (number + 1) more
+first_connection number (Mux ∷ more) = first_connection (number + 1) more
 first_connection number (Plain ∷ more) = first_connection (number + 1) more
 
 -- the first `a=rtcp` line before the next `m=` line
@@ -30,7 +32,31 @@ first_rtcp number [] = None
 first_rtcp number (Media line ∷ more) = None
 first_rtcp number (Connection address ∷ more) = first_rtcp (number + 1) more
 first_rtcp number (Rtcp line ∷ more) = Some (number, line)
+first_rtcp number (Mux ∷ more) = first_rtcp (number + 1) more
 first_rtcp number (Plain ∷ more) = first_rtcp (number + 1) more
+
+abbrev pub is_media_role : Role → Bool
+is_media_role (Media line) = true
+is_media_role (Connection address) = false
+is_media_role (Rtcp line) = false
+is_media_role Mux = false
+is_media_role Plain = false
+
+abbrev pub is_mux_role : Role → Bool
+is_mux_role (Media line) = false
+is_mux_role (Connection address) = false
+is_mux_role (Rtcp line) = false
+is_mux_role Mux = true
+is_mux_role Plain = false
+
+-- the roles of the lines up to the next `m=` line
+abbrev pub section_roles : List Role → List Role
+section_roles [] = []
+section_roles (role ∷ more) = if is_media_role role then [] else role ∷ section_roles more
+
+-- whether one of the lines before the next `m=` line is `a=rtcp-mux`
+abbrev pub holds_mux : List Role → Bool
+holds_mux roles = list_any is_mux_role (section_roles roles)
 
 -- the first of two that is there
 abbrev pub first_of_two : {X : Type 0} → Option X → Option X → Option X
@@ -40,9 +66,10 @@ first_of_two (Some x) second = Some x
 -- each section, with the `c=` line in effect: its own first one, else the session's
 abbrev pub parts_from : Option (ℕ × Address) → ℕ → List Role → List Part
 parts_from session number [] = []
-parts_from session number (Media line ∷ more) = record { line = number; media = line; connection = first_of_two (first_connection (number + 1) more) session; rtcp = first_rtcp (number + 1) more } ∷ parts_from session (number + 1) more
+parts_from session number (Media line ∷ more) = record { line = number; media = line; connection = first_of_two (first_connection (number + 1) more) session; rtcp = first_rtcp (number + 1) more; mux = holds_mux more } ∷ parts_from session (number + 1) more
 parts_from session number (Connection address ∷ more) = parts_from session (number + 1) more
 parts_from session number (Rtcp line ∷ more) = parts_from session (number + 1) more
+parts_from session number (Mux ∷ more) = parts_from session (number + 1) more
 parts_from session number (Plain ∷ more) = parts_from session (number + 1) more
 
 abbrev pub parts_of_roles : List Role → List Part
@@ -172,4 +199,4 @@ is_held (Some host) = is_unspecified host
 
 -- a section as callers see it
 abbrev pub section_of : Part → Section
-section_of part = record { line = part.line; port = part.media.port; proto = part.media.proto; address = connection_host part.connection; rtcp_port = rtcp_port part.media.port part.rtcp; rtcp_address = rtcp_host (connection_host part.connection) part.rtcp; hold = is_held (connection_host part.connection) }
+section_of part = record { line = part.line; port = part.media.port; proto = part.media.proto; address = connection_host part.connection; rtcp_port = rtcp_port part.media.port part.rtcp; rtcp_address = rtcp_host (connection_host part.connection) part.rtcp; hold = is_held (connection_host part.connection); mux = part.mux }

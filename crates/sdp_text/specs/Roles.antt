@@ -13,7 +13,7 @@ use Rattle.sdp_text.specs.declared.role.MediaLine.{MediaLine}
 use Rattle.sdp_text.specs.declared.role.MediaPort.{MediaPort}
 use Rattle.sdp_text.specs.declared.role.RtcpLine.{RtcpLine}
 use Rattle.sdp_text.specs.declared.role.Role.{Role}
-use Rattle.sdp_text.specs.declared.role.Role.TheVariants.{Media, Connection, Rtcp, Plain}
+use Rattle.sdp_text.specs.declared.role.Role.TheVariants.{Media, Connection, Rtcp, Mux, Plain}
 
 abbrev pub is_origin : List ℕ → Bool
 is_origin line = starts_with nat_eq line (codes "o=")
@@ -27,6 +27,10 @@ is_media line = starts_with nat_eq line (codes "m=")
 -- RFC 3605 section 2.1
 abbrev pub is_rtcp_attribute : List ℕ → Bool
 is_rtcp_attribute line = starts_with nat_eq line (codes "a=rtcp:")
+
+-- RTP and RTCP share the port for RTP: the line that says so, byte for byte (RFC 5761 section 5.1.1)
+abbrev pub mux_line : List ℕ
+mux_line = codes "a=rtcp-mux"
 
 -- RFC 8866 section 5.14, RFC 4585 section 8, RFC 3711, RFC 5124
 abbrev pub proto_of : List ℕ → Proto
@@ -122,4 +126,4 @@ rtcp_role (Some line) = Rtcp line
 
 -- what a line says; a line that can't be read says nothing
 abbrev pub role : List ℕ → Role
-role line = if is_media line then media_role (media (drop 2 line)) else if is_connection line then connection_role (connection (drop 2 line)) else if is_rtcp_attribute line then rtcp_role (rtcp (drop 7 line)) else Plain
+role line = if is_media line then media_role (media (drop 2 line)) else if is_connection line then connection_role (connection (drop 2 line)) else if is_rtcp_attribute line then rtcp_role (rtcp (drop 7 line)) else if bytes_eq line mux_line then Mux else Plain

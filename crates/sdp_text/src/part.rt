@@ -22,6 +22,8 @@ pub(crate) struct Part {
     pub(crate) connection: Option<(u32, Address)>,
     /// Its first `a=rtcp` line.
     pub(crate) rtcp: Option<(u32, RtcpLine)>,
+    /// Whether one of its lines is `a=rtcp-mux`.
+    pub(crate) mux: bool,
 }
 
 // The first `c=` line before the first `m=` line.
@@ -52,6 +54,7 @@ pub(crate) fn parts_of(alloc: Global, roles: &[Role]) -> Result<Vec<Part>, OutOf
     let mut parts = Vec::new(alloc);
     let mut connection: Option<(u32, Address)> = None;
     let mut rtcp: Option<(u32, RtcpLine)> = None;
+    let mut mux = false;
     let mut number = roles.len();
     while number > 0 {
         let line = number as u32;
@@ -62,13 +65,16 @@ pub(crate) fn parts_of(alloc: Global, roles: &[Role]) -> Result<Vec<Part>, OutOf
                     media,
                     connection: connection.or(session),
                     rtcp,
+                    mux,
                 };
                 parts.push(part)?;
                 connection = None;
                 rtcp = None;
+                mux = false;
             }
             Role::Connection(address) => connection = Some((line, address)),
             Role::Rtcp(at) => rtcp = Some((line, at)),
+            Role::Mux => mux = true,
             Role::Plain => {}
         }
         number -= 1;

@@ -45,6 +45,8 @@ pub(crate) enum Role {
     Media(MediaLine),
     Connection(Address),
     Rtcp(RtcpLine),
+    /// The line is `a=rtcp-mux`.
+    Mux,
     Plain,
 }
 
@@ -212,6 +214,8 @@ pub(crate) fn role_of(line: &[u8]) -> Role
             Some(rtcp) => Role::Rtcp(rtcp),
             None => Role::Plain,
         }
+    } else if line == b"a=rtcp-mux".as_slice() {
+        Role::Mux
     } else {
         Role::Plain
     }

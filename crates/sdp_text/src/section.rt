@@ -21,6 +21,8 @@ pub struct Section {
     pub rtcp_address: Option<Host>,
     /// Whether the address is `0.0.0.0` or `::`, which means hold (RFC 3264 section 8.4).
     pub hold: bool,
+    /// Whether one of its lines is `a=rtcp-mux`: RTP and RTCP share the port for RTP (RFC 5761 section 5.1.1).
+    pub mux: bool,
 }
 
 impl Section {

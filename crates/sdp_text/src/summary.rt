@@ -152,6 +152,7 @@ fn section_of(part: &Part) -> Section
         rtcp_port: rtcp_port(part.media.port, part.rtcp),
         rtcp_address: rtcp_host(address, part.rtcp),
         hold: is_held(address),
+        mux: part.mux,
     }
 }
 
