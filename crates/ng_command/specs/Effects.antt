@@ -42,6 +42,10 @@ flags_of pairs = record {
 abbrev pub replaces : Entries → List ℕ → Bool
 replaces pairs word = has_word word (words_of (value_at pairs (codes "replace")))
 
+-- the word of what an offer asks of RTP and RTCP on one port (RFC 5761)
+abbrev pub asks_mux : Entries → List ℕ → Bool
+asks_mux pairs word = has_word word (words_of (value_at pairs (codes "rtcp-mux")))
+
 -- the addresses signalled are those of `received from`, and not those of the description
 abbrev pub signals_source : Entries → Bool
 signals_source pairs = has_flag pairs (codes "SIP source address") && not (has_flag pairs (codes "trust address"))

@@ -7,7 +7,7 @@ use Rattle.ng_command.specs.Effects.{signals_source, ip_of_tree, protocol_in, as
 use Rattle.ng_command.specs.declared.kind.Kind.{Kind}
 use Rattle.ng_command.specs.declared.kind.Kind.TheVariants as kinds
 use Rattle.ng_command.specs.declared.fault.KeyName.{KeyName}
-use Rattle.ng_command.specs.declared.fault.KeyName.TheVariants.{CallId, FromTag, ToTag, Sdp, Flags, Replace, TransportProtocol, ReceivedFrom, Limit, DeleteDelay, AddressFamily, Ice, Dtls, RecordCall, Codec, Tls}
+use Rattle.ng_command.specs.declared.fault.KeyName.TheVariants.{CallId, FromTag, ToTag, Sdp, Flags, Replace, TransportProtocol, ReceivedFrom, Limit, DeleteDelay, AddressFamily, RtcpMux, Ice, Dtls, RecordCall, Codec, Tls}
 use Rattle.ng_command.specs.declared.fault.CommandFault.{CommandFault}
 use Rattle.ng_command.specs.declared.fault.CommandFault.TheVariants as faults
 
@@ -72,6 +72,7 @@ is_wrong kind pairs Limit = is_list kind && is_none (limit_of (value_at pairs (c
 is_wrong kind pairs DeleteDelay = is_delete kind && is_none (delay_of (value_at pairs (codes "delete delay")))
 is_wrong kind pairs AddressFamily =
     is_offer kind && is_some (value_at pairs (codes "address family")) && is_none (family_spelled (text_at pairs (codes "address family")))
+is_wrong kind pairs RtcpMux = is_offer kind && is_wordless (value_at pairs (codes "rtcp-mux"))
 is_wrong kind pairs Ice = false
 is_wrong kind pairs Dtls = false
 is_wrong kind pairs RecordCall = false
@@ -96,11 +97,12 @@ is_unsupported kind pairs ReceivedFrom = false
 is_unsupported kind pairs Limit = false
 is_unsupported kind pairs DeleteDelay = false
 is_unsupported kind pairs AddressFamily = false
+is_unsupported kind pairs RtcpMux = false
 is_unsupported kind pairs Tls = false
 
 -- the order in which a wrong key is named
 abbrev pub wrong_keys : List KeyName
-wrong_keys = CallId ∷ FromTag ∷ ToTag ∷ Sdp ∷ Flags ∷ Replace ∷ TransportProtocol ∷ ReceivedFrom ∷ Limit ∷ DeleteDelay ∷ AddressFamily ∷ []
+wrong_keys = CallId ∷ FromTag ∷ ToTag ∷ Sdp ∷ Flags ∷ Replace ∷ TransportProtocol ∷ ReceivedFrom ∷ Limit ∷ DeleteDelay ∷ AddressFamily ∷ RtcpMux ∷ []
 
 -- the order in which an unsupported option is named
 abbrev pub unsupported_keys : List KeyName

@@ -1,10 +1,10 @@
 -- What a command says, without memory or spare room.
-use Rattle.std.specs.Prelude.{ℕ, List, [], Bool, Option, Some, None, codes, unwrap_or}
+use Rattle.std.specs.Prelude.{ℕ, List, [], Bool, false, Option, Some, None, codes, unwrap_or}
 use Rattle.ng_bencode.specs.Room.{Room}
 use Rattle.ng_bencode.specs.Tree.{Entries}
 use Rattle.ng_bencode.specs.Lookup.{value_at}
 use Rattle.ng_command.specs.Values.{text_at}
-use Rattle.ng_command.specs.Effects.{flags_of, replaces, protocol_in, source_of, has_flag, limit_of, delay_of, family_spelled}
+use Rattle.ng_command.specs.Effects.{flags_of, replaces, asks_mux, protocol_in, source_of, has_flag, limit_of, delay_of, family_spelled}
 use Rattle.ng_command.specs.declared.kind.Kind.{Kind}
 use Rattle.ng_command.specs.declared.kind.Kind.TheVariants as kinds
 use Rattle.ng_command.specs.declared.command.Options.{Options}
@@ -36,25 +36,40 @@ said (command.List limit) = Listing limit
 abbrev pub text_in : Entries → List ℕ → List ℕ
 text_in pairs key = unwrap_or (text_at pairs key) []
 
-abbrev pub options_of : Entries → (protocol family : Option (List ℕ)) → Options
-options_of pairs protocol family = record {
+-- how an answer is to be served
+abbrev pub answer_options : Entries → Options
+answer_options pairs = record {
   flags = flags_of pairs;
   replace_origin = replaces pairs (codes "origin");
   replace_session = replaces pairs (codes "session connection");
-  transport = protocol_in protocol;
+  transport = None;
   source = source_of pairs;
-  family = family_spelled family;
+  family = None;
+  mux_offer = false;
+  mux_demux = false;
+  mux_accept = false;
 }
 
--- what the keys of a command without a fault say; an answer's `transport protocol` and `address family` are ignored
+-- How an offer is to be served. It alone asks for a protocol, for a family and for RTP and RTCP on one port: in an answer
+-- `transport protocol`, `address family` and `rtcp-mux` are ignored.
+abbrev pub offer_options : Entries → Options
+offer_options pairs = record (answer_options pairs) {
+  transport = protocol_in (text_at pairs (codes "transport protocol"));
+  family = family_spelled (text_at pairs (codes "address family"));
+  mux_offer = asks_mux pairs (codes "offer");
+  mux_demux = asks_mux pairs (codes "demux");
+  mux_accept = asks_mux pairs (codes "accept");
+}
+
+-- what the keys of a command without a fault say
 abbrev pub meaning : Kind → Entries → Said
 meaning kinds.Ping pairs = Ping
 meaning kinds.Offer pairs =
     Offer (text_in pairs (codes "call-id")) (text_in pairs (codes "from-tag")) (text_in pairs (codes "sdp"))
-    (options_of pairs (text_at pairs (codes "transport protocol")) (text_at pairs (codes "address family")))
+    (offer_options pairs)
 meaning kinds.Answer pairs =
     Answer (text_in pairs (codes "call-id")) (text_in pairs (codes "from-tag")) (text_in pairs (codes "to-tag")) (text_in pairs (codes "sdp"))
-    (options_of pairs None None)
+    (answer_options pairs)
 meaning kinds.Delete pairs =
     Delete (text_in pairs (codes "call-id")) (text_at pairs (codes "from-tag")) (has_flag pairs (codes "fatal"))
     (unwrap_or (delay_of (value_at pairs (codes "delete delay"))) 0)

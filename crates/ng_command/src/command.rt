@@ -43,7 +43,7 @@ pub struct AnswerIn {
     pub to_tag: Text,
     /// The answerer's description.
     pub sdp: Text,
-    /// How it is to be served. An answer asks for no protocol and for no family.
+    /// How it is to be served. An answer asks for no protocol, for no family and for nothing under `rtcp-mux`.
     pub options: Options,
 }
 
@@ -82,4 +82,13 @@ pub struct Options {
     pub source: Option<Ip>,
     /// The family that the offer asks for on the leg of the other side (`address family`), in an offer alone.
     pub family: Option<Family>,
+    /// Whether the other side is to be offered RTP and RTCP on one port (RFC 5761), also where the description does not
+    /// offer it (the word `offer` of `rtcp-mux`, in an offer alone).
+    pub mux_offer: bool,
+    /// Whether the other side is never to be offered it, while this side has it where its description offers it (the word
+    /// `demux` of `rtcp-mux`, in an offer alone).
+    pub mux_demux: bool,
+    /// Whether this side has it where its description offers it, also where the other side declines (the word `accept` of
+    /// `rtcp-mux`, in an offer alone).
+    pub mux_accept: bool,
 }

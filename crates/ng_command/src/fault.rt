@@ -30,6 +30,8 @@ pub enum KeyName {
     DeleteDelay,
     /// `address family`
     AddressFamily,
+    /// `rtcp-mux`
+    RtcpMux,
     /// `ICE`
     Ice,
     /// `DTLS`

@@ -4,11 +4,11 @@ ghost use Rattle.std.specs.Option.{option_copied};
 ghost use Rattle.ng_bencode.specs.Row.{list_in};
 ghost use Rattle.ng_bencode.specs.Tree.{tree_of, trees_of, pairs_of, Items, Int};
 ghost use Rattle.ng_bencode.specs.Lookup.{value_at};
-ghost use Rattle.ng_command.specs.Effects.{has_flag, flags_of, replaces, signals_source, family_named, family_spelled, address_in, ip_of_tree, source_of, protocol_of, protocol_in, asks_dtls, limit_of, delay_of};
-ghost use Rattle.ng_command.specs.Meanings.{options_of};
+ghost use Rattle.ng_command.specs.Effects.{has_flag, flags_of, replaces, asks_mux, signals_source, family_named, family_spelled, address_in, ip_of_tree, source_of, protocol_of, protocol_in, asks_dtls, limit_of, delay_of};
+ghost use Rattle.ng_command.specs.Meanings.{answer_options, offer_options};
 
 use crate::command::Options;
-use crate::values::{has_word, text_of};
+use crate::values::{has_word, text_at, text_of};
 use ng_bencode::{Pairs, Values, lookup};
 use relay_outside::{Family, Flags, Ip};
 use sdp_text::{Host, Proto, read_ipv4, read_ipv6};
@@ -162,17 +162,41 @@ pub(crate) fn is_dtls(name: Option<&[u8]>) -> bool
     }
 }
 
-/// How an offer or an answer is to be served, with the protocol and the family that it asks for.
-pub(crate) fn options_of(pairs: &Pairs, protocol: Option<&[u8]>, family: Option<&[u8]>) -> Options
-    ensures { result ≡ options_of (pairs_of (list_in pairs.now)) (option_copied protocol.entry) (option_copied family.entry) }
+/// Whether a word of `rtcp-mux` is given.
+fn asks_mux(pairs: &Pairs, word: &[u8]) -> bool
+    ensures { result ≡ asks_mux (pairs_of (list_in pairs.now)) word.now }
+{
+    has_word(pairs, b"rtcp-mux", word)
+}
+
+/// How an answer is to be served.
+pub(crate) fn answer_options(pairs: &Pairs) -> Options
+    ensures { result ≡ answer_options (pairs_of (list_in pairs.now)) }
 {
     Options {
         flags: flags_of(pairs),
         replace_origin: has_word(pairs, b"replace", b"origin"),
         replace_session: has_word(pairs, b"replace", b"session connection"),
-        transport: protocol_in(protocol),
+        transport: None,
         source: source_of(pairs),
-        family: family_spelled(family),
+        family: None,
+        mux_offer: false,
+        mux_demux: false,
+        mux_accept: false,
+    }
+}
+
+/// How an offer is to be served.
+pub(crate) fn offer_options(pairs: &Pairs) -> Options
+    ensures { result ≡ offer_options (pairs_of (list_in pairs.now)) }
+{
+    Options {
+        transport: protocol_in(text_at(pairs, b"transport protocol")),
+        family: family_spelled(text_at(pairs, b"address family")),
+        mux_offer: asks_mux(pairs, b"offer"),
+        mux_demux: asks_mux(pairs, b"demux"),
+        mux_accept: asks_mux(pairs, b"accept"),
+        ..answer_options(pairs)
     }
 }
 

@@ -8,7 +8,7 @@ ghost use Rattle.ng_command.specs.Bodies.{kind_named, said_or_fault, Agrees, IsC
 use crate::command::{AnswerIn, Command, DeleteIn, OfferIn, QueryIn};
 use crate::fault::CommandFault;
 use crate::kind::{Kind, kind_of};
-use crate::options::{DEFAULT_LIMIT, delay_of, has_flag, limit_of, options_of};
+use crate::options::{DEFAULT_LIMIT, answer_options, delay_of, has_flag, limit_of, offer_options};
 use crate::values::text_at;
 use crate::verdict::fault_of;
 use ng_bencode::{Pairs, Text, decode};
@@ -21,9 +21,9 @@ use std::alloc::Global;
 ///
 /// The first fault, by the order of the variants of `CommandFault`; of keys the first in the order
 /// `call-id`, `from-tag`, `to-tag`, `sdp`, `flags`, `replace`, `transport protocol`, `received from`,
-/// `limit`, `delete delay`, `address family`, and of options the first in the order `ICE`, `DTLS`,
-/// `transport protocol`, `record call`, `codec`. Keys that the command does not use are ignored, whatever
-/// they hold.
+/// `limit`, `delete delay`, `address family`, `rtcp-mux`, and of options the first in the order `ICE`,
+/// `DTLS`, `transport protocol`, `record call`, `codec`. Keys that the command does not use are ignored,
+/// whatever they hold.
 pub fn read(alloc: Global, body: &[u8]) -> Result<Command, CommandFault>
     ensures { IsCommandRead body.now result }
 {
@@ -84,11 +84,7 @@ fn offer_of(alloc: Global, pairs: &Pairs) -> Result<Command, OutOfMemory>
     let call_id = copy_at(alloc, pairs, b"call-id")?;
     let from_tag = copy_at(alloc, pairs, b"from-tag")?;
     let sdp = copy_at(alloc, pairs, b"sdp")?;
-    let options = options_of(
-        pairs,
-        text_at(pairs, b"transport protocol"),
-        text_at(pairs, b"address family"),
-    );
+    let options = offer_options(pairs);
     Ok(Command::Offer(OfferIn {
         call_id,
         from_tag,
@@ -104,7 +100,7 @@ fn answer_of(alloc: Global, pairs: &Pairs) -> Result<Command, OutOfMemory>
     let from_tag = copy_at(alloc, pairs, b"from-tag")?;
     let to_tag = copy_at(alloc, pairs, b"to-tag")?;
     let sdp = copy_at(alloc, pairs, b"sdp")?;
-    let options = options_of(pairs, None, None);
+    let options = answer_options(pairs);
     Ok(Command::Answer(AnswerIn {
         call_id,
         from_tag,

@@ -15,7 +15,7 @@ use crate::values::{has_key, is_name, is_there, is_wordless, text_at, text_of};
 use ng_bencode::{Pairs, lookup};
 
 /// The keys in the order in which a wrong one is named.
-const WRONG_KEYS: [KeyName; 11] = [
+const WRONG_KEYS: [KeyName; 12] = [
     KeyName::CallId,
     KeyName::FromTag,
     KeyName::ToTag,
@@ -27,6 +27,7 @@ const WRONG_KEYS: [KeyName; 11] = [
     KeyName::Limit,
     KeyName::DeleteDelay,
     KeyName::AddressFamily,
+    KeyName::RtcpMux,
 ];
 
 /// The keys in the order in which an unsupported option is named.
@@ -106,6 +107,7 @@ fn is_wrong(kind: Kind, pairs: &Pairs, key: KeyName) -> bool
         KeyName::AddressFamily => kind.is_offer()
             && is_there(pairs, b"address family")
             && family_spelled(text_at(pairs, b"address family")).is_none(),
+        KeyName::RtcpMux => kind.is_offer() && is_wordless(pairs, b"rtcp-mux"),
         _ => false,
     }
 }

@@ -53,6 +53,7 @@ key_simple key.ReceivedFrom = refl
 key_simple key.Limit = refl
 key_simple key.DeleteDelay = refl
 key_simple key.AddressFamily = refl
+key_simple key.RtcpMux = refl
 key_simple key.Ice = refl
 key_simple key.Dtls = refl
 key_simple key.RecordCall = refl

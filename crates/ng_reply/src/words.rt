@@ -135,6 +135,7 @@ fn key_text(key: KeyName) -> &'static [u8]
         KeyName::Limit => b"limit",
         KeyName::DeleteDelay => b"delete delay",
         KeyName::AddressFamily => b"address family",
+        KeyName::RtcpMux => b"rtcp-mux",
         KeyName::Ice => b"ICE",
         KeyName::Dtls => b"DTLS",
         KeyName::RecordCall => b"record call",
