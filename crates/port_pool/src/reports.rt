@@ -2,14 +2,15 @@ ghost use Rattle.std.specs.Prelude.{◌≡◌, ◌<◌, ◌≤◌, [], ◌∷◌
 
 use crate::holder::Side;
 use relay_outside::{Addr, OutOfMemory};
+use rtcp_reports::Block;
 use std::alloc::Global;
 use std::marker::Model;
 
 /// How many legs a call may have: one for each side of a section.
 pub const MOST_LEGS: usize = 16;
 
-/// What is told of a committed leg: where it stands, where its packets go, and how many packets of each half there were since
-/// the leg came.
+/// What is told of a committed leg: where it stands, where its packets go, and how many packets of each half there were and what
+/// they reported since the leg came.
 #[derive(Clone, Copy, PartialEq, Eq, Debug)]
 pub struct LegReport {
     /// The section of the description, from 0.
@@ -28,6 +29,8 @@ pub struct LegReport {
     pub rtcp_accepted: u64,
     /// How many RTCP packets were sent to the side.
     pub rtcp_sent: u64,
+    /// What the side last reported of its reception: the last report block of the last accepted RTCP packet that has one.
+    pub report: Option<Block>,
 }
 
 /// What is told of the legs of a call, with room for all of them. Contracts see it as a list.

@@ -9,6 +9,10 @@ mod cases;
 #[cfg(test)]
 mod replay_window_tests;
 #[cfg(test)]
+mod rtcp_mux_tests;
+#[cfg(test)]
+mod rtcp_reports_tests;
+#[cfg(test)]
 mod rtp_packet_tests;
 #[cfg(test)]
 mod srtcp_context_tests;

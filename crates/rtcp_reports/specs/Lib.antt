@@ -1,0 +1,2 @@
+pub mod Compound
+pub mod ReportBlocks
