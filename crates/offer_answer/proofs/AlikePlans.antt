@@ -32,8 +32,9 @@ use Rattle.offer_answer.specs.Keys.{chosen_in, leg_key, key_in_force, key_place_
 use Rattle.offer_answer.specs.Demands.{legs_for, new_active_sections, new_legs, new_keys, is_dropped, dropped_sections}
 use Rattle.offer_answer.specs.Faults.{lacks_line, misfits_offerer, may_answer, misfits_answerer, takes_no_line, fault_of_answer_to}
 use Rattle.offer_answer.specs.Families.{family_by, new_family, leg_family, family_after, misfits}
+use Rattle.offer_answer.specs.Mux.{mux_taken, mux_back}
 use Rattle.offer_answer.specs.Signals.{is_rejected_by, leg_signal, side_signal, section_signal, answer_signal}
-use Rattle.offer_answer.specs.Texts.{edit_with, written_host, standing_port, new_port, offered_port, offer_section, answered_port, answering_line, answered_lines, answer_section}
+use Rattle.offer_answer.specs.Texts.{edit_with, written_host, standing_port, new_port, offered_port, offer_section, answered_port, answering_line, answered_lines, answered_mux, answer_section}
 use Rattle.offer_answer.specs.Plan.{offer_fault, demand, answer_fault, signal, offer_text, answer_text, tag, is_side, protocol, AnswerRead}
 use Rattle.offer_answer.proofs.Numbers.{in-numbers, in-filter}
 use Rattle.offer_answer.proofs.Written.{map-alike, section-is}
@@ -194,11 +195,8 @@ module _ (config : Config) (rounds others : List Round) (ask : OfferAsk) (s : Al
   section_text : (ports : List ℕ) (keys : List NewKey) (section : ℕ) → section < most_sections →
       offer_section config rounds ask ports keys section ≡ offer_section config others ask ports keys section
   section_text ports keys section below =
-      section-is (offered_port config rounds ask ports section) (offered_port config others ask ports section) (written_profile rounds ask section) (written_profile others ask section)
-      (written_host config (offered_port config rounds ask ports section) (Some (family_after rounds ask section (other_side (offerer rounds ask)))))
-      (written_host config (offered_port config others ask ports section) (Some (family_after others ask section (other_side (offerer others ask)))))
-      (offered_lines rounds ask keys section) (offered_lines others ask keys section)
-      (port_alike ports section (s.sections_are section below)) (written_next config rounds others ask section s) (host_alike ports section (s.sections_are section below)) (lines_next config rounds others ask keys section s below)
+      section-is (port_alike ports section (s.sections_are section below)) (written_next config rounds others ask section s) (host_alike ports section (s.sections_are section below))
+      (lines_next config rounds others ask keys section s below) refl
 
   pub offer_text_alike : (ports : List ℕ) (keys : List NewKey) → offer_text config rounds ask ports keys ≡ offer_text config others ask ports keys
   unfolding offer_text
@@ -309,7 +307,9 @@ module _ (config : Config) (rounds others : List Round) (ask : AnswerAsk) (s : A
       leg = (s.sections_are section below).legs_are side
 
       said : Side → Section → Options → Option CryptoLine → Option NewKey → LegSignal
-      said by at options line key = if side_eq side by then leg_signal at options line key else leg_signal (section_in ask.sdp section) ask.options line key
+      said by at options line key =
+          if side_eq side by then leg_signal at options line key (mux_back options at (section_in ask.sdp section))
+          else leg_signal (section_in ask.sdp section) ask.options line key (mux_taken options at (section_in ask.sdp section))
 
   section_signal_alike : (offer other : MadeOffer) (section : ℕ) → AlikeOffers offer other → section_signal rounds offer ask section ≡ section_signal others other ask section
   section_signal_alike offer other section o =
@@ -386,13 +386,16 @@ module _ (config : Config) (rounds others : List Round) (ask : AnswerAsk) (s : A
             ∙ sym (ap (λ (b : Bool). written_host config (if b then 0 else at) (leg_family others section (maker other))) (rejected_out section past))
       ]
 
+  answered_mux_alike : (offer other : MadeOffer) (section : ℕ) → AlikeOffers offer other → answered_mux rounds offer ask section ≡ answered_mux others other ask section
+  answered_mux_alike offer other section o =
+      ap (λ (b : Bool). not b && mux_back offer.ask.options (section_in offer.ask.sdp section) (section_in ask.sdp section)) (rejected_both section)
+      ∙ ap (λ (options : Options). not (is_rejected_by others ask section) && mux_back options (section_in offer.ask.sdp section) (section_in ask.sdp section)) o.options_are
+      ∙ ap (λ (at : Section). not (is_rejected_by others ask section) && mux_back other.ask.options at (section_in ask.sdp section)) (section_alike offer other section o)
+
   answer_section_alike : (offer other : MadeOffer) (section : ℕ) → AlikeOffers offer other → answer_section config rounds offer ask section ≡ answer_section config others other ask section
   answer_section_alike offer other section o =
-      section-is (answered_port config rounds offer ask section) (answered_port config others other ask section) (section_in offer.ask.sdp section).proto (section_in other.ask.sdp section).proto
-      (written_host config (answered_port config rounds offer ask section) (leg_family rounds section (maker offer)))
-      (written_host config (answered_port config others other ask section) (leg_family others section (maker other)))
-      (answered_lines rounds offer ask section) (answered_lines others other ask section)
-      (answered_port_alike offer other section o) (ap (λ (at : Section). at.proto) (section_alike offer other section o)) (answered_host_alike offer other section o) (answered_lines_alike offer other section o)
+      section-is (answered_port_alike offer other section o) (ap (λ (at : Section). at.proto) (section_alike offer other section o)) (answered_host_alike offer other section o)
+      (answered_lines_alike offer other section o) (answered_mux_alike offer other section o)
 
   answers_alike : (offer other : Option MadeOffer) → AlikeLast offer other →
       elim offer as (λ _. List ℕ) [ None ↦ [] | Some made ↦ edited (lines_of ask.sdp) (edit_with config ask.options (map (answer_section config rounds made ask) (all_sections ask.sdp))) ]

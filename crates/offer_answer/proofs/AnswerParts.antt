@@ -24,6 +24,7 @@ use Rattle.offer_answer.specs.Sides.{MadeOffer, is_settled, is_some_sides, last_
 use Rattle.offer_answer.specs.Sections.{section_count, section_in, no_section, all_sections, active_sections, is_active, is_active_in}
 use Rattle.offer_answer.specs.Profiles.{is_srtp, is_srtp_leg, profile_offered, written_profile}
 use Rattle.offer_answer.specs.Keys.{chosen_in, leg_key, committed_line, committed_key, no_lines, offered_lines, last_lines}
+use Rattle.offer_answer.specs.Mux.{mux_taken, mux_back}
 use Rattle.offer_answer.specs.Signals.{is_rejected_by, leg_signal, side_signal, section_signal, answer_signal}
 use Rattle.offer_answer.specs.Faults.{may_answer, misfits_answerer, takes_no_line, fault_of_answer_to}
 use Rattle.offer_answer.specs.Families.{leg_family, misfits}
@@ -94,36 +95,56 @@ key-is config rounds offer ask section o from side a l e =
 by-side : (rounds : List Round) (offer : MadeOffer) (ask : AnswerAsk) (section : ℕ) (side : Side) (own : Bool) → side_eq side (maker offer) ≡ own →
     side_signal rounds offer ask section side
     ≡ (if own then leg_signal (section_in offer.ask.sdp section) offer.ask.options (committed_line rounds ask section side) (committed_key rounds ask section side)
-    else leg_signal (section_in ask.sdp section) ask.options (committed_line rounds ask section side) (committed_key rounds ask section side))
+    (mux_back offer.ask.options (section_in offer.ask.sdp section) (section_in ask.sdp section))
+    else leg_signal (section_in ask.sdp section) ask.options (committed_line rounds ask section side) (committed_key rounds ask section side)
+    (mux_taken offer.ask.options (section_in offer.ask.sdp section) (section_in ask.sdp section)))
 by-side rounds offer ask section side own e =
     ap (λ (b : Bool). if b then leg_signal (section_in offer.ask.sdp section) offer.ask.options (committed_line rounds ask section side) (committed_key rounds ask section side)
-    else leg_signal (section_in ask.sdp section) ask.options (committed_line rounds ask section side) (committed_key rounds ask section side)) e
+    (mux_back offer.ask.options (section_in offer.ask.sdp section) (section_in ask.sdp section))
+    else leg_signal (section_in ask.sdp section) ask.options (committed_line rounds ask section side) (committed_key rounds ask section side)
+    (mux_taken offer.ask.options (section_in offer.ask.sdp section) (section_in ask.sdp section))) e
+
+-- what is said by the options of the offer and by both sections
+by-both : (config : Config) (rounds : List Round) (offer : MadeOffer) (ask : AnswerAsk) (section : ℕ) (o : AnsweredSection) (last : LastOffer)
+    (says : Options → Section → Section → Bool) → AnsweredAt config rounds offer ask section o → IsLast rounds offer last →
+    says last.options o.made.section o.section ≡ says offer.ask.options (section_in offer.ask.sdp section) (section_in ask.sdp section)
+by-both config rounds offer ask section o last says a i =
+    ap (λ (options : Options). says options o.made.section o.section) i.kept.options_are
+    ∙ ap (λ (s : Section). says offer.ask.options s o.section) a.made_is.section_is
+    ∙ ap (says offer.ask.options (section_in offer.ask.sdp section)) a.section_is
 
 -- the leg of the offer's side, and the other one
 pub own-signal : (config : Config) (rounds : List Round) (offer : MadeOffer) (ask : AnswerAsk) (section : ℕ) (o : AnsweredSection) (last : LastOffer) (side : Side)
-    (line : Option CryptoLine) (key : Option DrawnKey) → AnsweredAt config rounds offer ask section o → IsLast rounds offer last → side_eq side last.maker ≡ true →
+    (line : Option CryptoLine) (key : Option DrawnKey) (mux : Bool) → AnsweredAt config rounds offer ask section o → IsLast rounds offer last → side_eq side last.maker ≡ true →
     line ≡ line_committed o last.maker side → key ≡ key_for_line (leg_at o.kept side) (line_committed o last.maker side) →
-    leg_signal o.made.section last.options line (option_map (drawn_for_leg section side) key) ≡ side_signal rounds offer ask section side
-own-signal config rounds offer ask section o last side line key a i own l k =
-    ap (λ s. leg_signal s last.options line (option_map (drawn_for_leg section side) key)) a.made_is.section_is
-    ∙ ap (λ s. leg_signal (section_in offer.ask.sdp section) s line (option_map (drawn_for_leg section side) key)) i.kept.options_are
-    ∙ ap (λ x. leg_signal (section_in offer.ask.sdp section) offer.ask.options x (option_map (drawn_for_leg section side) key))
+    mux ≡ mux_back last.options o.made.section o.section →
+    leg_signal o.made.section last.options line (option_map (drawn_for_leg section side) key) mux ≡ side_signal rounds offer ask section side
+own-signal config rounds offer ask section o last side line key mux a i own l k m =
+    ap (λ s. leg_signal s last.options line (option_map (drawn_for_leg section side) key) mux) a.made_is.section_is
+    ∙ ap (λ s. leg_signal (section_in offer.ask.sdp section) s line (option_map (drawn_for_leg section side) key) mux) i.kept.options_are
+    ∙ ap (λ x. leg_signal (section_in offer.ask.sdp section) offer.ask.options x (option_map (drawn_for_leg section side) key) mux)
     (l ∙ line-is config rounds offer ask section o last.maker side a i.offer_is i.kept.maker_is)
-    ∙ ap (λ x. leg_signal (section_in offer.ask.sdp section) offer.ask.options (committed_line rounds ask section side) x)
+    ∙ ap (λ x. leg_signal (section_in offer.ask.sdp section) offer.ask.options (committed_line rounds ask section side) x mux)
     (ap (option_map (drawn_for_leg section side)) k ∙ key-is config rounds offer ask section o last.maker side a i.offer_is i.kept.maker_is)
+    ∙ ap (leg_signal (section_in offer.ask.sdp section) offer.ask.options (committed_line rounds ask section side) (committed_key rounds ask section side))
+    (m ∙ by-both config rounds offer ask section o last mux_back a i)
     ∙ sym (by-side rounds offer ask section side true (sym (ap (side_eq side) i.kept.maker_is) ∙ own))
 
 pub others-signal : (config : Config) (rounds : List Round) (offer : MadeOffer) (ask : AnswerAsk) (section : ℕ) (o : AnsweredSection) (last : LastOffer) (options : Options) (side : Side)
-    (line : Option CryptoLine) (key : Option DrawnKey) → AnsweredAt config rounds offer ask section o → IsLast rounds offer last → ask.options ≡ options → side_eq side last.maker ≡ false →
+    (line : Option CryptoLine) (key : Option DrawnKey) (mux : Bool) → AnsweredAt config rounds offer ask section o → IsLast rounds offer last → ask.options ≡ options →
+    side_eq side last.maker ≡ false →
     line ≡ line_committed o last.maker side → key ≡ key_for_line (leg_at o.kept side) (line_committed o last.maker side) →
-    leg_signal o.section options line (option_map (drawn_for_leg section side) key) ≡ side_signal rounds offer ask section side
-others-signal config rounds offer ask section o last options side line key a i asked others l k =
-    ap (λ s. leg_signal s options line (option_map (drawn_for_leg section side) key)) a.section_is
-    ∙ ap (λ s. leg_signal (section_in ask.sdp section) s line (option_map (drawn_for_leg section side) key)) (sym asked)
-    ∙ ap (λ x. leg_signal (section_in ask.sdp section) ask.options x (option_map (drawn_for_leg section side) key))
+    mux ≡ mux_taken last.options o.made.section o.section →
+    leg_signal o.section options line (option_map (drawn_for_leg section side) key) mux ≡ side_signal rounds offer ask section side
+others-signal config rounds offer ask section o last options side line key mux a i asked others l k m =
+    ap (λ s. leg_signal s options line (option_map (drawn_for_leg section side) key) mux) a.section_is
+    ∙ ap (λ s. leg_signal (section_in ask.sdp section) s line (option_map (drawn_for_leg section side) key) mux) (sym asked)
+    ∙ ap (λ x. leg_signal (section_in ask.sdp section) ask.options x (option_map (drawn_for_leg section side) key) mux)
     (l ∙ line-is config rounds offer ask section o last.maker side a i.offer_is i.kept.maker_is)
-    ∙ ap (λ x. leg_signal (section_in ask.sdp section) ask.options (committed_line rounds ask section side) x)
+    ∙ ap (λ x. leg_signal (section_in ask.sdp section) ask.options (committed_line rounds ask section side) x mux)
     (ap (option_map (drawn_for_leg section side)) k ∙ key-is config rounds offer ask section o last.maker side a i.offer_is i.kept.maker_is)
+    ∙ ap (leg_signal (section_in ask.sdp section) ask.options (committed_line rounds ask section side) (committed_key rounds ask section side))
+    (m ∙ by-both config rounds offer ask section o last mux_taken a i)
     ∙ sym (by-side rounds offer ask section side false (sym (ap (side_eq side) i.kept.maker_is) ∙ others))
 
 pub reject-signal : (rounds : List Round) (offer : MadeOffer) (ask : AnswerAsk) (section : ℕ) (rejected : Bool) → is_rejected_by rounds ask section ≡ rejected →

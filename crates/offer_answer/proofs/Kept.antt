@@ -21,9 +21,9 @@ none-set zero section = refl
 none-set (suc n) zero = refl
 none-set (suc n) (suc section) = none-set n section
 
-same-widest : (host : Host) (old new : MadeSection) → SameMade old new → widest_section host new ≡ widest_section host old
-same-widest host old new s =
-    ap (λ (made : MadeSection). widest_section host made) (parts s)
+same-widest : (host : Host) (options : Options) (old new : MadeSection) → SameMade old new → widest_section host options new ≡ widest_section host options old
+same-widest host options old new s =
+    ap (widest_section host options) (parts s)
   where
     parts : SameMade old new → record { section = new.section; line = old.line; written = new.written; lines = old.lines } ≡ old
     parts s = let a = s.section_is in let b = s.written_is in λ i. record { section = a i; line = old.line; written = b i; lines = old.lines }
@@ -39,7 +39,8 @@ same-sections : (host : Host) (old new : LastOffer) → SameOffer old new → ol
 same-sections host old new s few =
     ap (λ n. map (widest_at host new) (numbers 0 n)) s.count_is
     ∙ map-numbers (widest_at host new) (widest_at host old) 0 old.count
-    (λ k lt. same-widest host (made_at old k) (made_at new k) (s.sections_are k (omega (arith, lt, few))))
+    (λ k lt. ap (λ (options : Options). widest_section host options (made_at new k)) s.options_are
+    ∙ same-widest host old.options (made_at old k) (made_at new k) (s.sections_are k (omega (arith, lt, few))))
 
 same-len : (config : Config) (old new : LastOffer) (lines : List (List ℕ)) → SameOffer old new → old.count ≤ 8 → widest_len config new lines ≡ widest_len config old lines
 same-len config old new lines s few =

@@ -24,10 +24,11 @@ use Rattle.port_pool.specs.declared.holder.Side.{Side}
 use Rattle.port_pool.specs.Signals.{NewKey, other_side}
 use Rattle.offer_answer.specs.Rounds.{Round, OfferAsk}
 use Rattle.offer_answer.specs.Sides.{offerer}
-use Rattle.offer_answer.specs.Sections.{most_sections, section_count, is_active, is_active_in, all_sections}
+use Rattle.offer_answer.specs.Sections.{most_sections, section_count, section_in, is_active, is_active_in, all_sections}
 use Rattle.offer_answer.specs.Profiles.{is_srtp, written_profile}
 use Rattle.offer_answer.specs.Keys.{no_lines, line_with, lines_of_keys, key_among, key_in_force, is_for, leg_keys, offered_lines}
 use Rattle.offer_answer.specs.Families.{family_after}
+use Rattle.offer_answer.specs.Mux.{mux_on}
 use Rattle.offer_answer.specs.Texts.{host_of_ip, interface_host, written_host, session_host, edit_with, offered_port, offer_section, offer_edit}
 use Rattle.offer_answer.specs.Plan.{offer_text}
 use Rattle.offer_answer.specs.Dialogs.{leg_at, no_state}
@@ -86,12 +87,14 @@ tags-all f n tags = tags-from f 0 n (λ i low high. tags i (omega (arith, high))
 
 -- The edit and its text.
 
-abbrev pub section-of : ℕ → Proto → Host → List (Option CryptoLine) → SectionEdit
-section-of port proto address crypto = record { port = port; proto = proto; address = address; crypto = crypto }
+abbrev pub section-of : ℕ → Proto → Host → List (Option CryptoLine) → Bool → SectionEdit
+section-of port proto address crypto mux = record { port = port; proto = proto; address = address; crypto = crypto; mux = mux }
 
-pub section-is : (p q : ℕ) (s t : Proto) (a b : Host) (xs ys : List (Option CryptoLine)) → p ≡ q → s ≡ t → a ≡ b → xs ≡ ys → section-of p s a xs ≡ section-of q t b ys
-section-is p q s t a b xs ys e f g h =
-    ap (λ x. section-of x s a xs) e ∙ ap (λ x. section-of q x a xs) f ∙ ap (λ x. section-of q t x xs) g ∙ ap (section-of q t b) h
+pub section-is : {p q : ℕ} {s t : Proto} {a b : Host} {xs ys : List (Option CryptoLine)} {m n : Bool} → p ≡ q → s ≡ t → a ≡ b → xs ≡ ys → m ≡ n →
+    section-of p s a xs m ≡ section-of q t b ys n
+section-is {p} {q} {s} {t} {a} {b} {xs} {ys} {m} {n} e f g h k =
+    ap (λ x. section-of x s a xs m) e ∙ ap (λ x. section-of q x a xs m) f ∙ ap (λ x. section-of q t x xs m) g ∙ ap (λ x. section-of q t b x m) h
+    ∙ ap (section-of q t b ys) k
 
 abbrev edit-of : Host → Bool → Bool → List SectionEdit → Edit
 edit-of address origin session sections = record { address = address; replace_origin = origin; replace_session = session; sections = record { list = sections; spare = 0 } }
@@ -254,13 +257,21 @@ host-is config rounds ask ports keys next section f below =
         ∙ f.families_are section (other_side (offerer rounds ask)) below active)
     go false active = refl
 
+mux-is : (config : Config) (rounds : List Round) (ask : OfferAsk) (ports : List ℕ) (keys : List NewKey) (next : OfferedNext) (section : ℕ) →
+    FilledFor config rounds ask ports keys next → section < most_sections →
+    mux_on next.last.options (made_at next.last section).section ≡ mux_on ask.options (section_in ask.sdp section)
+mux-is config rounds ask ports keys next section f below =
+    ap (mux_on next.last.options) (f.last_for.sections_are section below).section_is
+    ∙ ap (λ (options : Options). mux_on options (section_in ask.sdp section)) f.last_for.options_are
+
 section-is-written : (config : Config) (rounds : List Round) (ask : OfferAsk) (ports : List ℕ) (keys : List NewKey) (next : OfferedNext) (section : ℕ) →
     FilledFor config rounds ask ports keys next → section < most_sections → section_written config next section ≡ offer_section config rounds ask ports keys section
 section-is-written config rounds ask ports keys next section f below =
     let m = f.last_for.sections_are section below in
-    section-is _ _ _ _ _ _ _ _ (port-is config rounds ask ports keys next section f below) m.written_is
+    section-is (port-is config rounds ask ports keys next section f below) m.written_is
     (host-is config rounds ask ports keys next section f below)
     (lines-are rounds ask keys section (made_at next.last section) m)
+    (mux-is config rounds ask ports keys next section f below)
 
 -- the edit with what is written of the offer's sections has the offer's text
 pub offer-written : (config : Config) (rounds : List Round) (ask : OfferAsk) (ports : List ℕ) (keys : List NewKey) (next : OfferedNext)

@@ -17,9 +17,10 @@ use Rattle.offer_answer.specs.Sides.{MadeOffer, last_offer, maker, offered_sdp}
 use Rattle.offer_answer.specs.Sections.{no_section, section_in, section_count, is_active, is_active_in, all_sections}
 use Rattle.offer_answer.specs.Profiles.{is_srtp}
 use Rattle.offer_answer.specs.Keys.{no_lines, chosen_in, line_with}
+use Rattle.offer_answer.specs.Mux.{mux_back}
 use Rattle.offer_answer.specs.Signals.{is_rejected_by}
 use Rattle.offer_answer.specs.Families.{leg_family}
-use Rattle.offer_answer.specs.Texts.{written_host, session_host, answering_line, answered_port, answered_lines, answer_section, answer_edit}
+use Rattle.offer_answer.specs.Texts.{written_host, session_host, answering_line, answered_port, answered_lines, answered_mux, answer_section, answer_edit}
 use Rattle.offer_answer.specs.Plan.{OfferRead, answer_text}
 use Rattle.offer_answer.specs.Dialogs.{LegFor, SectionFor, key_for, leg_at, drawn_for_leg}
 use Rattle.offer_answer.specs.LastOffers.{MadeFor}
@@ -117,20 +118,33 @@ port-back : (config : Config) (rounds : List Round) (offer : MadeOffer) (ask : A
 port-back config rounds offer ask section leg r l e =
     ap (λ x. if x then 0 else leg.port) e ∙ ap (λ x. if is_rejected_by rounds ask section then 0 else x) l.port_is
 
+mux-back : (rounds : List Round) (offer : MadeOffer) (ask : AnswerAsk) (section : ℕ) (made : MadeSection) (r : Bool) (answered : Section) (options : Options) →
+    MadeFor offer section made → r ≡ is_rejected_by rounds ask section → answered ≡ section_in ask.sdp section → options ≡ offer.ask.options →
+    (not r && mux_back options made.section answered) ≡ answered_mux rounds offer ask section
+mux-back rounds offer ask section made r answered options m rejected here o =
+    ap (λ x. not x && mux_back options made.section answered) rejected
+    ∙ ap (λ (x : Options). not (is_rejected_by rounds ask section) && mux_back x made.section answered) o
+    ∙ ap (λ (x : Section). not (is_rejected_by rounds ask section) && mux_back offer.ask.options x answered) m.section_is
+    ∙ ap (λ (x : Section). not (is_rejected_by rounds ask section) && mux_back offer.ask.options (section_in offer.ask.sdp section) x) here
+
 -- what is written of a section of the answer
-pub section-back : (config : Config) (rounds : List Round) (offer : MadeOffer) (ask : AnswerAsk) (section : ℕ) (made : MadeSection) (kept : DialogSection) (side : Side) (r : Bool) →
+pub section-back : (config : Config) (rounds : List Round) (offer : MadeOffer) (ask : AnswerAsk) (section : ℕ) (made : MadeSection) (kept : DialogSection) (side : Side) (r : Bool)
+    (answered : Section) (options : Options) →
     MadeFor offer section made → SectionFor config rounds section kept → side ≡ maker offer → OfferRead offer.ask → r ≡ is_rejected_by rounds ask section →
+    answered ≡ section_in ask.sdp section → options ≡ offer.ask.options →
     section-of (if r then 0 else (leg_at kept side).port) made.section.proto (written_host config (if r then 0 else (leg_at kept side).port) (leg_at kept side).family)
     (if not r && is_srtp made.section.proto then option_and_then (line_back (leg_at kept side)) made.line ∷ None ∷ [] else no_lines)
+    (not r && mux_back options made.section answered)
     ≡ answer_section config rounds offer ask section
-section-back config rounds offer ask section made kept side r m s e heard rejected =
+section-back config rounds offer ask section made kept side r answered options m s e heard rejected here o =
     let leg : LegFor config rounds section (maker offer) (leg_at kept side) = subst (λ x. LegFor config rounds section (maker offer) (leg_at kept x)) (sym e) (s.legs_are (maker offer)) in
     let port = port-back config rounds offer ask section (leg_at kept side) r leg rejected in
     let host : written_host config (if r then 0 else (leg_at kept side).port) (leg_at kept side).family
     ≡ written_host config (answered_port config rounds offer ask section) (leg_family rounds section (maker offer)) =
     ap (λ p. written_host config p (leg_at kept side).family) port ∙ ap (written_host config (answered_port config rounds offer ask section)) leg.family_is in
-    section-is _ _ _ _ _ _ _ _ port (ap (λ (x : Section). x.proto) m.section_is) host
+    section-is port (ap (λ (x : Section). x.proto) m.section_is) host
     (lines-back config rounds offer ask section made (leg_at kept side) r m leg heard rejected)
+    (mux-back rounds offer ask section made r answered options m rejected here o)
 
 -- the edit with these sections has the answer's text
 pub answer-written : (config : Config) (rounds : List Round) (offer : MadeOffer) (ask : AnswerAsk) (options : Options) (lines : List (List ℕ)) (edit : Edit) →

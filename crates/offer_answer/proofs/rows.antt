@@ -4,3 +4,4 @@ mod Secure
 mod Texts
 mod ChosenLines
 mod Families
+mod Mux

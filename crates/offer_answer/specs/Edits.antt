@@ -17,6 +17,7 @@ use Rattle.port_pool.specs.Signals.{other_side}
 use Rattle.offer_answer.specs.Sections.{is_active}
 use Rattle.offer_answer.specs.Profiles.{is_srtp}
 use Rattle.offer_answer.specs.Keys.{no_lines}
+use Rattle.offer_answer.specs.Mux.{mux_on}
 use Rattle.offer_answer.specs.Texts.{host_of_ip, interface_host, written_host}
 use Rattle.offer_answer.specs.Dialogs.{key_for, leg_at, no_state}
 use Rattle.offer_answer.specs.LastOffers.{no_made}
@@ -70,6 +71,7 @@ section_written config next section =
       port = port_written next section;
       proto = made.written;
       address = written_host config (port_written next section) (family_written next section);
+      mux = mux_on next.last.options made.section;
       crypto = if has_lines made then tagged_lines made.lines else no_lines;
     }
 
@@ -90,17 +92,18 @@ longest_host config = longer_host (interface_host config) (host_of_ip (interface
 abbrev pub any_line : ℕ → CryptoLine
 any_line tag = record { tag = tag; suite = Tag80; key = replicate 30 0 }
 
--- the section with a port of five digits and this address, and with both lines where it has any
-abbrev pub widest_section : Host → MadeSection → SectionEdit
-widest_section host made = record {
+-- the section with a port of five digits and this address, and with both crypto lines where it has any; `a=rtcp-mux` is decided already
+abbrev pub widest_section : Host → Options → MadeSection → SectionEdit
+widest_section host options made = record {
   port = 65535;
   proto = made.written;
   address = host;
+  mux = mux_on options made.section;
   crypto = if has_lines made then Some (any_line 1) ∷ Some (any_line 2) ∷ [] else no_lines;
 }
 
 abbrev pub widest_at : Host → LastOffer → ℕ → SectionEdit
-widest_at host last section = widest_section host (made_at last section)
+widest_at host last section = widest_section host last.options (made_at last section)
 
 abbrev pub widest_sections : Host → LastOffer → List SectionEdit
 widest_sections host last = map (widest_at host last) (numbers 0 last.count)

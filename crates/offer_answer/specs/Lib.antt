@@ -3,6 +3,7 @@ pub mod Sides
 pub mod Sections
 pub mod Profiles
 pub mod Keys
+pub mod Mux
 pub mod Signals
 pub mod Families
 pub mod Demands

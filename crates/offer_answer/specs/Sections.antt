@@ -25,7 +25,7 @@ section_count sdp = length (sections_of sdp)
 
 -- a section that isn't there is as one that isn't used
 abbrev pub no_section : Section
-no_section = record { line = 0; port = 0; proto = Other; address = None; rtcp_port = 0; rtcp_address = None; hold = false }
+no_section = record { line = 0; port = 0; proto = Other; address = None; rtcp_port = 0; rtcp_address = None; hold = false; mux = false }
 
 -- the section with this index, from 0
 abbrev pub section_in : List ℕ → ℕ → Section

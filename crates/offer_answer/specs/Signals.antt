@@ -1,5 +1,5 @@
 -- What an answer commits for a section.
-use Rattle.std.specs.Prelude.{ℕ, List, [], ◌∷◌, Bool, false, not, ◌&&◌, Option, Some, None, if◌then◌else◌, map, option_map}
+use Rattle.std.specs.Prelude.{ℕ, List, [], ◌∷◌, Bool, not, ◌&&◌, Option, Some, None, if◌then◌else◌, map, option_map}
 use Rattle.relay_outside.specs.declared.address.Ip.{Ip}
 use Rattle.relay_outside.specs.declared.address.Ip.TheVariants as ips
 use Rattle.sdes_lines.specs.declared.crypto_line.Suite.{Suite}
@@ -18,6 +18,7 @@ use Rattle.offer_answer.specs.Rounds.{Round, AnswerAsk}
 use Rattle.offer_answer.specs.Sides.{MadeOffer, maker, offered_sdp}
 use Rattle.offer_answer.specs.Sections.{section_in, all_sections, is_active_in, has_pairs}
 use Rattle.offer_answer.specs.Keys.{committed_line, committed_key}
+use Rattle.offer_answer.specs.Mux.{mux_taken, mux_back}
 
 -- the section isn't active in the offer or in the answer, or its pairs have gone
 abbrev pub is_rejected_by : List Round → AnswerAsk → ℕ → Bool
@@ -39,15 +40,15 @@ signalled None None = ips.V4 (0 ∷ 0 ∷ 0 ∷ 0 ∷ [])
 abbrev pub line_key : CryptoLine → List ℕ × Suite
 line_key line = (line.key, line.suite)
 
--- What a leg is committed with, by its side's section in a description with these options, the crypto line that the side chose
--- and the key under which packets are sent to it. Hold is read from the description alone (RFC 3264 section 8.4).
-abbrev pub leg_signal : Section → Options → Option CryptoLine → Option NewKey → LegSignal
-leg_signal section options line key = record {
+-- What a leg is committed with, by its side's section in a description with these options, the crypto line that the side chose,
+-- the key under which packets are sent to it and whether it is muxed. Hold is read from the description alone (RFC 3264 section 8.4).
+abbrev pub leg_signal : Section → Options → Option CryptoLine → Option NewKey → Bool → LegSignal
+leg_signal section options line key mux = record {
   rtp = record { ip = signalled options.source section.address; port = section.port };
   rtcp = record { ip = signalled options.source section.rtcp_address; port = section.rtcp_port };
   flags = options.flags;
   hold = section.hold;
-  mux = false;
+  mux = mux;
   inbound = option_map line_key line;
   outbound = option_map (λ (k : NewKey). k.number) key;
 }
@@ -57,9 +58,11 @@ abbrev pub side_signal : List Round → MadeOffer → AnswerAsk → ℕ → Side
 side_signal rounds offer ask section side =
     let line = committed_line rounds ask section side in
     let key = committed_key rounds ask section side in
+    let offered = section_in offer.ask.sdp section in
+    let answered = section_in ask.sdp section in
     if side_eq side (maker offer)
-    then leg_signal (section_in offer.ask.sdp section) offer.ask.options line key
-    else leg_signal (section_in ask.sdp section) ask.options line key
+    then leg_signal offered offer.ask.options line key (mux_back offer.ask.options offered answered)
+    else leg_signal answered ask.options line key (mux_taken offer.ask.options offered answered)
 
 abbrev pub section_signal : List Round → MadeOffer → AnswerAsk → ℕ → SectionSignal
 section_signal rounds offer ask section =

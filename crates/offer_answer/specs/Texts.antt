@@ -1,5 +1,5 @@
 -- What descriptions become (RFC 3264 sections 5 and 6).
-use Rattle.std.specs.Prelude.{ℕ, List, [], ◌∷◌, not, ◌&&◌, ◌==◌, Option, Some, None, if◌then◌else◌, map, find, zip, unwrap_or, option_map, option_and_then}
+use Rattle.std.specs.Prelude.{ℕ, List, [], ◌∷◌, Bool, not, ◌&&◌, ◌==◌, Option, Some, None, if◌then◌else◌, map, find, zip, unwrap_or, option_map, option_and_then}
 use Rattle.histories.specs.Words.{or_else}
 use Rattle.relay_outside.specs.declared.address.Ip.{Ip}
 use Rattle.relay_outside.specs.declared.address.Ip.TheVariants as ips
@@ -21,6 +21,7 @@ use Rattle.offer_answer.specs.Sides.{MadeOffer, offerer, maker}
 use Rattle.offer_answer.specs.Sections.{section_in, all_sections, is_active_in, leg_of}
 use Rattle.offer_answer.specs.Profiles.{is_srtp, written_profile}
 use Rattle.offer_answer.specs.Keys.{chosen_in, leg_key, line_with, no_lines, offered_lines}
+use Rattle.offer_answer.specs.Mux.{mux_on, mux_back}
 use Rattle.offer_answer.specs.Signals.{is_rejected_by}
 use Rattle.offer_answer.specs.Families.{leg_family, family_after}
 use Rattle.offer_answer.specs.Demands.{new_legs}
@@ -72,6 +73,7 @@ offer_section config rounds ask ports keys section = record {
   port = offered_port config rounds ask ports section;
   proto = written_profile rounds ask section;
   address = written_host config (offered_port config rounds ask ports section) (Some (family_after rounds ask section (other_side (offerer rounds ask))));
+  mux = mux_on ask.options (section_in ask.sdp section);
   crypto = offered_lines rounds ask keys section;
 }
 
@@ -94,11 +96,17 @@ answered_lines rounds offer ask section =
     then option_and_then (answering_line rounds offer section) (chosen_in offer.ask.chosen section) ∷ None ∷ []
     else no_lines
 
+-- a rejected section has no `a=rtcp-mux`
+abbrev pub answered_mux : List Round → MadeOffer → AnswerAsk → ℕ → Bool
+answered_mux rounds offer ask section =
+    not (is_rejected_by rounds ask section) && mux_back offer.ask.options (section_in offer.ask.sdp section) (section_in ask.sdp section)
+
 abbrev pub answer_section : Config → List Round → MadeOffer → AnswerAsk → ℕ → SectionEdit
 answer_section config rounds offer ask section = record {
   port = answered_port config rounds offer ask section;
   proto = (section_in offer.ask.sdp section).proto;
   address = written_host config (answered_port config rounds offer ask section) (leg_family rounds section (maker offer));
+  mux = answered_mux rounds offer ask section;
   crypto = answered_lines rounds offer ask section;
 }
 

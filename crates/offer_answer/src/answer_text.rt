@@ -8,6 +8,7 @@ ghost use Rattle.offer_answer.specs.Rounds.{Round, AnswerAsk};
 ghost use Rattle.offer_answer.specs.Sides.{MadeOffer, last_offer};
 ghost use Rattle.offer_answer.specs.Keys.{no_lines};
 ghost use Rattle.offer_answer.specs.Profiles.{is_srtp};
+ghost use Rattle.offer_answer.specs.Mux.{mux_back};
 ghost use Rattle.offer_answer.specs.Texts.{answer_section};
 ghost use Rattle.offer_answer.specs.Plan.{OfferRead, answer_text};
 ghost use Rattle.offer_answer.specs.Dialogs.{DialogFor, leg_at, no_state};
@@ -17,14 +18,15 @@ ghost use Rattle.offer_answer.specs.Edits.{line_back};
 use crate::dialog::Dialog;
 use crate::last_offer::{LastOffer, MadeSection};
 use crate::leg::Leg;
+use crate::mux::mux_back;
 use crate::offer_text::{host_of_ip, made_at, reserved_edit, session_host, written_host};
 use crate::offered_section::is_srtp;
-use crate::rejected_sections::is_rejected;
+use crate::rejected_sections::{is_rejected, section_in};
 use ng_command::Options;
 use relay_outside::{Config, OutOfMemory};
 use sdes_lines::CryptoLine;
 use sdp_edit::{Edit, SectionEdit};
-use sdp_text::Sdp;
+use sdp_text::{Sdp, Section};
 use std::alloc::Global;
 
 /// The greatest tag of a usable line (RFC 4568 section 9.1).
@@ -75,6 +77,13 @@ fn lines_back(made: &MadeSection, leg: &Leg, is_rejected: bool) -> [Option<Crypt
     }
 }
 
+/// Whether a section of an answer is written with `a=rtcp-mux`, by the offer's options and section. A rejected one never is.
+fn answered_mux(options: &Options, offered: &Section, answered: &Section, is_rejected: bool) -> bool
+    ensures { result ≡ (not is_rejected && mux_back options.now offered.now answered.now) }
+{
+    !is_rejected && mux_back(options, offered, answered)
+}
+
 /// The offerer's leg of a section.
 fn makers_leg(dialog: &Dialog, last: &LastOffer, section: usize) -> Leg
     requires { section < 8 }
@@ -101,10 +110,12 @@ fn answered_section(
     let leg = makers_leg(dialog, last, section);
     let is_rejected = is_rejected(dialog, last, sdp, section);
     let port = port_back(&leg, is_rejected);
+    let answered = section_in(sdp, section);
     SectionEdit {
         port,
         proto: made.section.proto,
         address: written_host(config, port, leg.family),
+        mux: answered_mux(&last.options, &made.section, &answered, is_rejected),
         crypto: lines_back(&made, &leg, is_rejected),
     }
 }

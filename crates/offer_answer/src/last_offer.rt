@@ -31,6 +31,7 @@ impl MadeSection {
             rtcp_port: 0,
             rtcp_address: None,
             hold: false,
+            mux: false,
         },
         line: None,
         written: Proto::Other,

@@ -2,8 +2,9 @@
 //!
 //! `specs/Rounds.antt` has the accepted offers and answers of a call, latest first. `specs/Plan.antt` has the plan as functions
 //! of them: faults, demands, signals and texts. It stands over the sides of the call (`Sides`), its sections and their pairs
-//! (`Sections`), the profiles of legs (`Profiles`), their keys and crypto lines (`Keys`), their families (`Families`), and over
-//! `Demands`, `Signals`, `Texts` and `Faults`. `specs/Laws.antt` has what holds of every plan, which `law` proves.
+//! (`Sections`), the profiles of legs (`Profiles`), their keys and crypto lines (`Keys`), their families (`Families`), which of them
+//! have RTP and RTCP on one port (`Mux`), and over `Demands`, `Signals`, `Texts` and `Faults`. `specs/Laws.antt` has what holds of
+//! every plan, which `law` proves.
 //!
 //! A `Dialog` keeps the state that the rounds lead to (`specs/Dialogs.antt`), and `offer` makes the plan of an offer from it, or tells its
 //! first fault (`specs/Offers.antt`).
@@ -19,6 +20,7 @@ mod fault;
 mod last_offer;
 mod law;
 mod leg;
+mod mux;
 mod next_answer;
 mod next_offer;
 mod offer_plan;

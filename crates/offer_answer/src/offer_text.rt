@@ -14,6 +14,7 @@ ghost use Rattle.offer_answer.specs.PortsAndKeys.{FilledFor};
 ghost use Rattle.offer_answer.specs.Edits.{IsEditReserved, under_tag, tagged_lines, has_lines, made_at, port_written, family_written, section_written, sections_written, longest_host, any_line, widest_at, widest_sections, widest_len};
 
 use crate::last_offer::{LastOffer, MadeSection, OfferedNext};
+use crate::mux::mux_on;
 use crate::offered_section::{is_active, is_srtp, other_side};
 use ng_command::Options;
 use relay_outside::{Config, Family, Ip, OutOfMemory};
@@ -151,6 +152,7 @@ fn offered_edit(config: &Config, next: &OfferedNext, section: usize) -> SectionE
         port,
         proto: made.written,
         address: written_host(config, port, offered_family(next, section)),
+        mux: mux_on(&next.last.options, &made.section),
         crypto: offered_lines(&made),
     }
 }
@@ -235,6 +237,7 @@ fn widest_at(host: Host, last: &LastOffer, section: usize) -> SectionEdit
         port: u16::MAX,
         proto: made.written,
         address: host,
+        mux: mux_on(&last.options, &made.section),
         crypto: widest_lines(&made),
     }
 }

@@ -41,6 +41,7 @@ const NO_SECTION: Section = Section {
     rtcp_port: 0,
     rtcp_address: None,
     hold: false,
+    mux: false,
 };
 
 /// Whether the profile is SRTP.

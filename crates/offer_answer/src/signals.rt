@@ -14,6 +14,7 @@ use crate::answered_section::{AnsweredSection, answered_section, is_same};
 use crate::dialog::Dialog;
 use crate::last_offer::LastOffer;
 use crate::leg::DrawnKey;
+use crate::mux::{mux_back, mux_taken};
 use crate::rejected_sections::is_rejected;
 use ng_command::Options;
 use port_pool::{LegSignal, SectionSignal, Side, Signal};
@@ -64,14 +65,15 @@ fn number_of(key: Option<DrawnKey>) -> Option<u64>
 }
 
 /// What a leg is committed with, by its side's section in a description with these options, the crypto line that the side
-/// chose, and the key under which packets are sent to it.
+/// chose, the key under which packets are sent to it, and whether it is muxed.
 fn leg_signal(
     section: &Section,
     options: &Options,
     line: Option<CryptoLine>,
     key: Option<DrawnKey>,
+    mux: bool,
 ) -> LegSignal
-    ensures { (number : ℕ) (side : Side) → result ≡ leg_signal section.now options.now line (option_map (drawn_for_leg number side) key) }
+    ensures { (number : ℕ) (side : Side) → result ≡ leg_signal section.now options.now line (option_map (drawn_for_leg number side) key) mux }
 {
     LegSignal {
         rtp: Addr {
@@ -84,7 +86,7 @@ fn leg_signal(
         },
         flags: options.flags,
         hold: section.hold,
-        mux: false,
+        mux,
         inbound: key_of(line),
         outbound: number_of(key),
     }
@@ -103,10 +105,13 @@ fn side_signal(
 {
     let line = answered.committed_line(last.maker, side);
     let key = answered.committed_key(last.maker, side);
+    let offered = &answered.made.section;
     if is_same(side, last.maker) {
-        leg_signal(&answered.made.section, &last.options, line, key)
+        let mux = mux_back(&last.options, offered, &answered.section);
+        leg_signal(offered, &last.options, line, key, mux)
     } else {
-        leg_signal(&answered.section, options, line, key)
+        let mux = mux_taken(&last.options, offered, &answered.section);
+        leg_signal(&answered.section, options, line, key, mux)
     }
 }
 

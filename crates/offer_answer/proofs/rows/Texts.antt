@@ -5,11 +5,11 @@ use Rattle.base64.specs.Rfc4648.{encode_symbols}
 use Rattle.sdes_lines.specs.declared.crypto_line.Suite.TheVariants.{Tag80, Tag32}
 use Rattle.sdes_lines.specs.CryptoLine.{line_text}
 use Rattle.sdp_text.specs.declared.proto.Proto.TheVariants.{Avp, Savp}
-use Rattle.sdp_edit.specs.Attributes.{is_removed, is_feedback}
+use Rattle.sdp_edit.specs.Attributes.{is_removed, is_mux_attribute, is_feedback}
 use Rattle.sdp_edit.specs.Images.{image_of}
 use Rattle.sdp_edit.specs.Places.{line_place}
 use Rattle.sdp_edit.specs.Texts.{with_end, connection_text, media_text, origin_text}
-use Rattle.sdp_edit.specs.EditedText.{edited_from, edited_line, image_text, added_connection, added_keys, key_lines}
+use Rattle.sdp_edit.specs.EditedText.{edited_from, edited_line, image_text, added_connection, added_mux, added_keys, key_lines}
 use Rattle.port_pool.specs.declared.holder.Side.TheVariants.{A, B}
 use Rattle.port_pool.specs.Ports.{range_pairs}
 use Rattle.offer_answer.specs.Rounds.{Round, Offered, Answered, AnswerAsk}
@@ -18,7 +18,7 @@ use Rattle.offer_answer.proofs.rows.Calls.{config, plain, replacing, towards, al
 
 -- what is opened so that a text computes
 unfoldable pub offers_and_answers : Unit {0}
-unfolding offer_text answer_text range_pairs digits is_removed is_feedback image_of line_place with_end connection_text media_text origin_text edited_from edited_line image_text added_connection added_keys key_lines line_text encode_symbols
+unfolding offer_text answer_text range_pairs digits is_removed is_mux_attribute is_feedback image_of line_place with_end connection_text media_text origin_text edited_from edited_line image_text added_connection added_mux added_keys key_lines line_text encode_symbols
 offers_and_answers = tt
 
 -- Side A's description, and what side B gets.

@@ -9,6 +9,7 @@ use Rattle.offer_answer.specs.declared.leg.Leg.{Leg}
 use Rattle.offer_answer.specs.declared.leg.DialogSection.{DialogSection}
 use Rattle.offer_answer.specs.declared.last_offer.MadeSection.{MadeSection}
 use Rattle.offer_answer.proofs.Written.{section-is}
+use Rattle.offer_answer.proofs.AnswerParts.{section-answered}
 use Rattle.offer_answer.proofs.WrittenBack.{section-back}
 use Rattle.offer_answer.proofs.answer_text.answered_section.Goals as goal
 
@@ -23,8 +24,9 @@ returns-clause-edit c = λ rounds offer ask d o m heard l.
     ∙ ap (λ (g : Leg). if not r && is_srtp made.section.proto then option_and_then (line_back g) made.line ∷ None ∷ [] else no_lines) c.makers_leg-leg.ensures in
     let host = c.written_host.ensures.host ∙ ap (λ p. written_host c.args.config.now p c.makers_leg-leg.result.family) port
     ∙ ap (λ (g : Leg). written_host c.args.config.now (if r then 0 else (leg_at kept c.args.last.now.maker).port) g.family) c.makers_leg-leg.ensures in
-    section-is _ _ _ _ _ _ _ _ port refl host lines
-    ∙ section-back c.args.config.now rounds offer ask section made kept c.args.last.now.maker r
+    section-is port refl host lines c.answered_mux.ensures
+    ∙ section-back c.args.config.now rounds offer ask section made kept c.args.last.now.maker r c.section_in-answered.result c.args.last.now.options
     (subst (MadeFor offer section) (sym c.made_at-made.ensures) (m.sections_are section c.requires))
     (d.sections_are section c.requires)
     m.maker_is heard (c.is_rejected-is_rejected.ensures c.args.config.now rounds offer ask d (record { offer_is = o; kept = m }) l)
+    (c.section_in-answered.ensures ∙ section-answered c.args.sdp.now ask.sdp section l) m.options_are
