@@ -107,6 +107,7 @@ cell_expires {O} config old h now moment due for is answer =
                 held = l.held;
                 one_each = l.one_each;
                 counted = record { accepted = l.counted.accepted; sent = l.counted.sent };
+                reported = l.reported;
               };
         };
       };

@@ -33,7 +33,7 @@ use Rattle.call_cell.specs.declared.outcome.Lost.TheVariants as lost
 use Rattle.call_cell.specs.declared.contexts.Inbound.{Inbound}
 use Rattle.call_cell.specs.declared.contexts.Outbound.{Outbound}
 use Rattle.call_cell.specs.Protection.{is_packet, Departure, Held, refused_by, opened_rtp, opened_rtcp, opened_under, lost_by, wrapped_rtp, wrapped_rtcp, wrapped_under}
-use Rattle.call_cell.specs.Contexts.{InboundFor, InboundOpensTo, OutboundFor, OutboundWrapsTo, no_packet}
+use Rattle.call_cell.specs.Contexts.{InboundFor, InboundOpensTo, OutboundFor, OutboundWrapsTo}
 
 -- The halves of notes.
 
@@ -292,35 +292,3 @@ wraps_rtcp key notes bytes old new buf_old buf_new r result is for does =
     OutboundWrapsTo (wrapped_rtcp key.number (srtcp_out.rtcp_wrapping key.bytes notes bytes)) key notes old (record { number = old.number; rtp = old.rtp; rtcp = new }) buf_new x in
     subst P (sym is)
     (rtcp_wraps key notes old new buf_old buf_new r for (srtcp_out.rtcp_wrapping key.bytes notes bytes) (wrapping_is_rtcp key.bytes notes bytes) does)
-
--- What is no packet is not protected.
-
-none_rtp : (key : NewKey) (notes : List Note) (bytes : List ℕ) (o : Option RtpHead) → is_some o ≡ false
-    → wrapped_rtp key.number (option_map_or (λ (found : RtpHead). srtp_out.wrapped_at key.bytes key.suite bytes found (srtp_out.sent_index notes found)) o (Err wrapping_fault.TooOld))
-    ≡ Held lost.OutTooOld
-none_rtp key notes bytes None q = refl
-none_rtp key notes bytes (Some found) q = absurd (let f = q in cc)
-
-no_rtp_leaves : (key : NewKey) (notes : List Note) (bytes : List ℕ) → is_packet Rtp bytes ≡ false → wrapped_under key notes Rtp bytes ≡ Held lost.OutTooOld
-unfolding wrapped_under srtp_out.wrapping
-no_rtp_leaves key notes bytes q = none_rtp key notes bytes (rtp_head bytes) q
-
-none_rtcp : (key : NewKey) (notes : List Note) (bytes : List ℕ) (o : Option ℕ) → is_some o ≡ false
-    → wrapped_rtcp key.number (option_map_or (λ (ssrc : ℕ). srtcp_out.rtcp_wrapped_at key.bytes bytes ssrc (srtcp_out.sent_rtcp_index notes ssrc)) o (Err wrapping_fault.TooManySources))
-    ≡ Held lost.OutSources
-none_rtcp key notes bytes None q = refl
-none_rtcp key notes bytes (Some ssrc) q = absurd (let f = q in cc)
-
-no_rtcp_leaves : (key : NewKey) (notes : List Note) (bytes : List ℕ) → is_packet Rtcp bytes ≡ false → wrapped_under key notes Rtcp bytes ≡ Held lost.OutSources
-unfolding wrapped_under srtcp_out.rtcp_wrapping
-no_rtcp_leaves key notes bytes q = none_rtcp key notes bytes (rtcp_ssrc bytes) q
-
-no_leaves : (half : Half) (key : NewKey) (notes : List Note) (bytes : List ℕ) → is_packet half bytes ≡ false → wrapped_under key notes half bytes ≡ Held (no_packet half)
-no_leaves Rtp key notes bytes q = no_rtp_leaves key notes bytes q
-no_leaves Rtcp key notes bytes q = no_rtcp_leaves key notes bytes q
-
-pub wraps_nothing : (half : Half) (key : NewKey) (notes : List Note) (bytes : List ℕ) (old : Outbound) (buf : List ℕ) (cause : Lost) → is_packet half bytes ≡ false
-    → cause ≡ no_packet half → OutboundWrapsTo (wrapped_under key notes half bytes) key notes old old buf (Err cause)
-wraps_nothing half key notes bytes old buf cause q is =
-    let P : Departure → Type 0 = λ (w : Departure). OutboundWrapsTo w key notes old old buf (Err cause) in
-    subst P (sym (no_leaves half key notes bytes q)) (record { answer = ap loss is; contexts = refl })

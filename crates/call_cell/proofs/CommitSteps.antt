@@ -124,6 +124,7 @@ silent_leg config m signal h leg is for =
       held = for.held;
       one_each = for.one_each;
       counted = record { accepted = for.counted.accepted; sent = for.counted.sent };
+      reported = for.reported;
     }
 
 said_leg : {O : Type 0} (config : Config) (m : ℕ) (signal : List SectionSignal) (h : List CellEntry) (old new : Leg O) (s : LegSignal)
@@ -150,6 +151,7 @@ said_leg {O} config m signal h old new s is keys does for =
       held = for.held;
       one_each = for.one_each;
       counted = record { accepted = for.counted.accepted; sent = for.counted.sent };
+      reported = for.reported;
     })
 
 pub committed_leg : {O : Type 0} (config : Config) (m : ℕ) (signal : List SectionSignal) (h : List CellEntry) (old new : Leg O) (said : Option LegSignal)

@@ -11,7 +11,7 @@ use Rattle.port_pool.specs.declared.holder.Holder.{Holder}
 use Rattle.port_pool.specs.Signals.{NewKey, same_leg}
 use Rattle.call_cell.specs.declared.counts.Counts.{Counts}
 use Rattle.call_cell.specs.Cells.{CellEntry, Receipt, Relayed, Deed, is_accepted, is_end, legs_of, life, relayed, accepted_of, since_end}
-use Rattle.call_cell.specs.Deeds.{found, opposite_of, is_leaving}
+use Rattle.call_cell.specs.Deeds.{kind, way, found, opposite_of, is_leaving}
 use Rattle.call_cell.specs.Demands.{accepted_count, sent_count, is_sent, is_sent_by, CountsBelow}
 use Rattle.call_cell.specs.LegHistories.{relay_entry}
 use Rattle.call_cell.specs.Preparations.{prepare_entry}
@@ -72,7 +72,7 @@ accepts leg p d = same_leg leg p.holder && is_accepted d.outcome
 
 -- the packet is sent by the leg's end of a half
 abbrev pub sent_from : List CellEntry → Holder → Half → Receipt → Deed → Bool
-sent_from h leg half p d = is_sent d.outcome && (is_half p.half half && is_leaving (opposite_of h (found h p)) leg)
+sent_from h leg half p d = is_sent d.outcome && (is_half (way h p) half && is_leaving (opposite_of h (found h p)) leg)
 
 count_case : (half : Half) (r : Relayed) (rest : List Relayed) (n : ℕ) → count_by (λ (x : Relayed). is_half x.deed.kind half) rest ≡ n → (b : Bool)
     → count_by (λ (x : Relayed). is_half x.deed.kind half) (cond b (r ∷ rest) rest) ≡ cond (b && is_half r.deed.kind half) (n + 1) n
@@ -106,26 +106,26 @@ module _ (m : ℕ) (p : Receipt) (ok : Bool) (d : Deed) (h : List CellEntry) (le
   counted_still for none unsent = record { accepted = accepted_same for none; sent = λ half. sent_same for half (unsent half) }
 
   -- accepted, and sent by another leg or not at all
-  pub counted_accepts : IsCounted h leg counts → accepts leg p d ≡ true → d.kind ≡ p.half → ((half : Half) → sent_from h leg half p d ≡ false)
-      → IsCounted (relay_entry m p ok d ∷ h) leg (more_accepted p.half counts)
-  counted_accepts for so kind unsent = record {
+  pub counted_accepts : IsCounted h leg counts → accepts leg p d ≡ true → d.kind ≡ (kind h p) → ((half : Half) → sent_from h leg half p d ≡ false)
+      → IsCounted (relay_entry m p ok d ∷ h) leg (more_accepted (kind h p) counts)
+  counted_accepts for so is_kind unsent = record {
     accepted = λ half.
-        accepted_after p.half half counts
-        ∙ rises (is_half p.half half) (accepted_in half counts) (accepted_count h leg half) (for.accepted half)
+        accepted_after (kind h p) half counts
+        ∙ rises (is_half (kind h p) half) (accepted_in half counts) (accepted_count h leg half) (for.accepted half)
         ∙ sym (ap as_counted (accepted_more m p ok d h leg half
         ∙ ap (λ (b : Bool). cond (b && is_half d.kind half) (accepted_count h leg half + 1) (accepted_count h leg half)) so
-        ∙ ap (λ (k : Half). cond (is_half k half) (accepted_count h leg half + 1) (accepted_count h leg half)) kind));
-    sent = λ half. sent_unaccepted p.half half counts ∙ sent_same for half (unsent half);
+        ∙ ap (λ (k : Half). cond (is_half k half) (accepted_count h leg half + 1) (accepted_count h leg half)) is_kind));
+    sent = λ half. sent_unaccepted (kind h p) half counts ∙ sent_same for half (unsent half);
   }
 
   -- accepted by another leg, and sent by this one where the send returned Ok
-  pub counted_sends : (done : Bool) → IsCounted h leg counts → accepts leg p d ≡ false → ((half : Half) → sent_from h leg half p d ≡ (done && is_half p.half half))
-      → IsCounted (relay_entry m p ok d ∷ h) leg (more_sent p.half done counts)
+  pub counted_sends : (done : Bool) → IsCounted h leg counts → accepts leg p d ≡ false → ((half : Half) → sent_from h leg half p d ≡ (done && is_half (way h p) half))
+      → IsCounted (relay_entry m p ok d ∷ h) leg (more_sent (way h p) done counts)
   counted_sends done for none sent_so = record {
-    accepted = λ half. accepted_unsent p.half half done counts ∙ accepted_same for none half;
+    accepted = λ half. accepted_unsent (way h p) half done counts ∙ accepted_same for none half;
     sent = λ half.
-        sent_after p.half half done counts
-        ∙ rises (done && is_half p.half half) (sent_in half counts) (sent_count h leg half) (for.sent half)
+        sent_after (way h p) half done counts
+        ∙ rises (done && is_half (way h p) half) (sent_in half counts) (sent_count h leg half) (for.sent half)
         ∙ sym (ap as_counted (ap (λ (b : Bool). cond b (sent_count h leg half + 1) (sent_count h leg half)) (sent_so half)));
   }
 

@@ -38,13 +38,13 @@ held_case log faults leg keys notes half from to old new buf cause (Held other) 
 held_case log faults leg keys notes half from to old new buf cause (Leaves shield bytes) does = absurd (let f = does.answer in cc)
 
 pub held : {O : Type 0} (log : O → EndLog OutCall) (faults : O → ℕ) (leg : Holder) (keys : ℕ → Option NewKey) (notes : ℕ → List Note) (s : LegSignal)
-    (half : Half) (bytes : List ℕ) (from : LocalPort) (to : Addr) (old new : Sending O) (buf : List ℕ) (cause : Lost) → s.hold ≡ false
-    → ProtectsTo (wrapped_by keys notes s.outbound half bytes) leg keys notes old new buf (Err cause)
-    → ForwardsTo log faults (wrapped_for keys notes s half bytes) leg keys notes half from to old new buf (Err cause)
-held {O} log faults leg keys notes s half bytes from to old new buf cause free does =
+    (half kind : Half) (bytes : List ℕ) (from : LocalPort) (to : Addr) (old new : Sending O) (buf : List ℕ) (cause : Lost) → s.hold ≡ false
+    → ProtectsTo (wrapped_by keys notes s.outbound kind bytes) leg keys notes old new buf (Err cause)
+    → ForwardsTo log faults (wrapped_for keys notes s kind bytes) leg keys notes half from to old new buf (Err cause)
+held {O} log faults leg keys notes s half kind bytes from to old new buf cause free does =
     let P : Bool → Type 0 = λ (b : Bool).
-    ForwardsTo {O = O} log faults (if b then Held lost.Hold else wrapped_by keys notes s.outbound half bytes) leg keys notes half from to old new buf (Err cause) in
-    subst P (sym free) (held_case log faults leg keys notes half from to old new buf cause (wrapped_by keys notes s.outbound half bytes) does)
+    ForwardsTo {O = O} log faults (if b then Held lost.Hold else wrapped_by keys notes s.outbound kind bytes) leg keys notes half from to old new buf (Err cause) in
+    subst P (sym free) (held_case log faults leg keys notes half from to old new buf cause (wrapped_by keys notes s.outbound kind bytes) does)
 
 -- A send.
 
@@ -95,15 +95,15 @@ sent_case {O} log faults leg keys notes half from to old mid new buf size done r
     }
 
 pub sent : {O : Type 0} (log : O → EndLog OutCall) (faults : O → ℕ) (leg : Holder) (keys : ℕ → Option NewKey) (notes : ℕ → List Note) (s : LegSignal)
-    (half : Half) (bytes : List ℕ) (from : LocalPort) (to : Addr) (old mid new : Sending O) (buf : List ℕ) (size : ℕ) (done : Bool) (result : Result ℕ Lost) → s.hold ≡ false
-    → ProtectsTo (wrapped_by keys notes s.outbound half bytes) leg keys notes old mid buf (Ok size) → SameEnds old mid → SameKeys mid new
+    (half kind : Half) (bytes : List ℕ) (from : LocalPort) (to : Addr) (old mid new : Sending O) (buf : List ℕ) (size : ℕ) (done : Bool) (result : Result ℕ Lost) → s.hold ≡ false
+    → ProtectsTo (wrapped_by keys notes s.outbound kind bytes) leg keys notes old mid buf (Ok size) → SameEnds old mid → SameKeys mid new
     → SendsBy log faults half to (take size buf) done mid new → result ≡ send_answer from size done
-    → ForwardsTo log faults (wrapped_for keys notes s half bytes) leg keys notes half from to old new buf result
-sent {O} log faults leg keys notes s half bytes from to old mid new buf size done result free does ends same sends is =
+    → ForwardsTo log faults (wrapped_for keys notes s kind bytes) leg keys notes half from to old new buf result
+sent {O} log faults leg keys notes s half kind bytes from to old mid new buf size done result free does ends same sends is =
     let P : Bool → Type 0 = λ (b : Bool).
-    ForwardsTo {O = O} log faults (if b then Held lost.Hold else wrapped_by keys notes s.outbound half bytes) leg keys notes half from to old new buf result in
+    ForwardsTo {O = O} log faults (if b then Held lost.Hold else wrapped_by keys notes s.outbound kind bytes) leg keys notes half from to old new buf result in
     subst P (sym free)
-    (sent_case log faults leg keys notes half from to old mid new buf size done result (wrapped_by keys notes s.outbound half bytes) does ends same sends is)
+    (sent_case log faults leg keys notes half from to old mid new buf size done result (wrapped_by keys notes s.outbound kind bytes) does ends same sends is)
 
 -- A leg.
 
@@ -140,19 +140,19 @@ leg_case {O} log faults keys notes half from to old new buf sent result from_is 
 
 abbrev leg_over : {O : Type 0} → Leg O → Sending O → Counts → Leg O
 leg_over old sending counts =
-    record { holder = old.holder; lease = old.lease; signal = old.signal; receiving = old.receiving; sending = sending; counts = counts }
+    record { holder = old.holder; lease = old.lease; signal = old.signal; receiving = old.receiving; sending = sending; counts = counts; report = old.report }
 
-pub leg_forwards : {O : Type 0} (log : O → EndLog OutCall) (faults : O → ℕ) (keys : ℕ → Option NewKey) (notes : ℕ → List Note) (half : Half)
+pub leg_forwards : {O : Type 0} (log : O → EndLog OutCall) (faults : O → ℕ) (keys : ℕ → Option NewKey) (notes : ℕ → List Note) (kind half : Half)
     (learner : Learner) (plain : List ℕ) (s : LegSignal) (to : Addr) (from : LocalPort) (old : Leg O) (new : Sending O) (counts : Counts) (buf : List ℕ)
     (sent : Result ℕ Lost) (result : Outcome) → in_force_with old.signal (learner_in half old.receiving) ≡ Some (s, learner) → to ≡ endpoint_of learner → from ≡ leased_port half old.lease
     → counts ≡ more_sent half (is_ok sent) old.counts → result ≡ outcome_of from to sent
-    → ForwardsTo log faults (wrapped_for keys notes s half plain) old.holder keys notes half from to old.sending new buf sent
-    → LegForwardsBy log faults (in_force_with old.signal (learner_in half old.receiving)) keys notes half plain old (leg_over old new counts) buf result
-leg_forwards {O} log faults keys notes half learner plain s to from old new counts buf sent result signal to_is from_is counted is does =
-    let P : Option (LegSignal × Learner) → Type 0 = λ (o : Option (LegSignal × Learner)). LegForwardsBy {O = O} log faults o keys notes half plain old (leg_over old new counts) buf result in
-    let Q : Counts → Type 0 = λ (c : Counts). LegForwards {O = O} log faults (wrapped_for keys notes s half plain) keys notes half (endpoint_of learner) old (leg_over old new c) buf result in
-    let R : Addr → Type 0 = λ (a : Addr). LegForwards {O = O} log faults (wrapped_for keys notes s half plain) keys notes half a old (with_send half (is_ok sent) old new) buf result in
+    → ForwardsTo log faults (wrapped_for keys notes s kind plain) old.holder keys notes half from to old.sending new buf sent
+    → LegForwardsBy log faults (in_force_with old.signal (learner_in half old.receiving)) keys notes kind half plain old (leg_over old new counts) buf result
+leg_forwards {O} log faults keys notes kind half learner plain s to from old new counts buf sent result signal to_is from_is counted is does =
+    let P : Option (LegSignal × Learner) → Type 0 = λ (o : Option (LegSignal × Learner)). LegForwardsBy {O = O} log faults o keys notes kind half plain old (leg_over old new counts) buf result in
+    let Q : Counts → Type 0 = λ (c : Counts). LegForwards {O = O} log faults (wrapped_for keys notes s kind plain) keys notes half (endpoint_of learner) old (leg_over old new c) buf result in
+    let R : Addr → Type 0 = λ (a : Addr). LegForwards {O = O} log faults (wrapped_for keys notes s kind plain) keys notes half a old (with_send half (is_ok sent) old new) buf result in
     subst P (sym signal)
     (subst Q (sym counted)
     (subst R to_is
-    (leg_case log faults keys notes half from to old new buf sent result from_is is (wrapped_for keys notes s half plain) does)))
+    (leg_case log faults keys notes half from to old new buf sent result from_is is (wrapped_for keys notes s kind plain) does)))

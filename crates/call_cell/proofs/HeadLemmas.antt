@@ -26,6 +26,10 @@ no_packet_by half bytes o read none = is_packet_by half bytes ∙ ap (λ (x : Op
 pub packet_by : (half : Half) (bytes : List ℕ) (o : Option Head) (h : Head) → o ≡ head_of half bytes → o ≡ Some h → is_packet half bytes ≡ true
 packet_by half bytes o h read is = is_packet_by half bytes ∙ ap (λ (x : Option Head). is_some x) (sym read ∙ is)
 
+pub packet_of : (h : Head) (bytes : List ℕ) → IsHead h bytes → is_packet (half_of h) bytes ≡ true
+packet_of (heads.Rtp found) bytes is = ap (λ (o : Option RtpHead). is_some o) is
+packet_of (heads.Rtcp ssrc) bytes is = ap (λ (o : Option ℕ). is_some o) is
+
 -- a head that was read is of the half, and is that of the bytes
 pub record IsRead (half : Half) (bytes : List ℕ) (h : Head) : Type 0 where
   pub half_is : half_of h ≡ half

@@ -85,6 +85,7 @@ told_as leg port to = Some (record {
   rtp_sent = leg.counts.rtp_sent;
   rtcp_accepted = leg.counts.rtcp_accepted;
   rtcp_sent = leg.counts.rtcp_sent;
+  report = leg.report;
 })
 
 -- what a leg tells

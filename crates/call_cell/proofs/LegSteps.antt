@@ -6,7 +6,9 @@ use Rattle.relay_outside.specs.declared.settings.Config.{Config}
 use Rattle.rtp_packet.specs.declared.head.Half.{Half}
 use Rattle.sdes_lines.specs.declared.crypto_line.Suite.{Suite}
 use Rattle.sdes_lines.specs.declared.crypto_line.Suite.TheVariants.{Tag80, Tag32}
+use Rattle.rtcp_reports.specs.declared.block.Block.{Block}
 use Rattle.srtp_sources.specs.Notes.{Note, is_half}
+use Rattle.histories.specs.Words.{or_else}
 use Rattle.port_pool.specs.declared.holder.Holder.{Holder}
 use Rattle.port_pool.specs.declared.signal.LegSignal.{LegSignal}
 use Rattle.port_pool.specs.Signals.{NewKey, same_leg}
@@ -15,7 +17,9 @@ use Rattle.call_cell.specs.declared.receiver.Receiving.{Receiving}
 use Rattle.call_cell.specs.declared.sender.Sending.{Sending}
 use Rattle.call_cell.specs.declared.leg.Leg.{Leg}
 use Rattle.call_cell.specs.Cells.{CellEntry, Relayed, Receipt, Shield, Deed, in_force, is_accepted, key_numbered}
-use Rattle.call_cell.specs.Protection.{accepted, protected}
+use Rattle.call_cell.specs.Protection.{accepted, protected, Judged, Passed}
+use Rattle.call_cell.specs.Deeds.{judged, kind, way}
+use Rattle.call_cell.specs.Blocks.{block_in, block_of, last_report}
 use Rattle.call_cell.specs.Lessons.{address, steps_of, learned}
 use Rattle.call_cell.specs.Contexts.{OutboundFor}
 use Rattle.relay_outside.specs.declared.address.Addr.{Addr}
@@ -82,6 +86,19 @@ receiving_takes m p ok d h leg s receiving is_so force for =
       learned = λ half. for.learned half ∙ ap (λ (o : Option Addr). learner_of half (Some s) o) (sym (learned_takes m p ok d h leg s half is_so force));
       inbound = subst (λ (l : List Note). InboundIn s.inbound (boxed_in receiving.inbound) l) (sym (accepted_takes m p ok d h leg is_so)) for.inbound;
     }
+
+-- The last report block.
+
+reported_keeps : (m : ℕ) (p : Receipt) (ok : Bool) (d : Deed) (h : List CellEntry) (leg : Holder) → takes leg p d ≡ false
+    → last_report (relay_entry m p ok d ∷ h) leg ≡ last_report h leg
+reported_keeps m p ok d h leg is_not =
+    ap (λ (b : Bool). or_else (if b then block_of (kind h p) (judged h p leg) else None) (last_report h leg)) is_not
+
+reported_takes : (m : ℕ) (p : Receipt) (ok : Bool) (d : Deed) (h : List CellEntry) (leg : Holder) (noted : Option Note) (plain : List ℕ) → takes leg p d ≡ true
+    → judged h p leg ≡ Passed noted plain → last_report (relay_entry m p ok d ∷ h) leg ≡ or_else (block_in (kind h p) plain) (last_report h leg)
+reported_takes m p ok d h leg noted plain is_so is_judged =
+    ap (λ (b : Bool). or_else (if b then block_of (kind h p) (judged h p leg) else None) (last_report h leg)) is_so
+    ∙ ap (λ (j : Judged). or_else (block_of (kind h p) j) (last_report h leg)) is_judged
 
 -- Sending.
 
@@ -173,14 +190,15 @@ leg_keeps config m p ok d h leg is_not unsent apart for =
       held = for.held;
       one_each = for.one_each;
       counted = counted_still m p ok d h leg.holder leg.counts for.counted is_not unsent;
+      reported = for.reported ∙ sym (reported_keeps m p ok d h leg.holder is_not);
     }
 
 pub leg_takes : {O : Type 0} (config : Config) (m : ℕ) (p : Receipt) (ok : Bool) (d : Deed) (h : List CellEntry) (leg : Leg O) (s : LegSignal) (receiving : Receiving)
-    → takes leg.holder p d ≡ true → d.kind ≡ p.half → ((half : Half) → sent_from h leg.holder half p d ≡ false)
+    (noted : Option Note) (plain : List ℕ) → judged h p leg.holder ≡ Passed noted plain → takes leg.holder p d ≡ true → d.kind ≡ kind h p → ((half : Half) → sent_from h leg.holder half p d ≡ false)
     → IsElsewhere leg.holder (key_numbered h) d.shield → leg.signal ≡ Some s
     → ReceivingFor (Some s) receiving (taught_half p.half s.flags p.source (learned h leg.holder)) (cons_option d.noted (accepted h leg.holder))
-    → LegStandsFor config h leg → LegStandsFor config (relay_entry m p ok d ∷ h) (with_receiving p.half leg receiving)
-leg_takes config m p ok d h leg s receiving is_so kind unsent apart signal takes_it for =
+    → LegStandsFor config h leg → LegStandsFor config (relay_entry m p ok d ∷ h) (with_receiving (kind h p) plain leg receiving)
+leg_takes config m p ok d h leg s receiving noted plain is_judged is_so is_kind unsent apart signal takes_it for =
     let new = receiving_takes m p ok d h leg.holder s receiving is_so (sym for.signal ∙ signal) takes_it in
     record {
       pair = for.pair;
@@ -195,12 +213,13 @@ leg_takes config m p ok d h leg s receiving is_so kind unsent apart signal takes
       section = for.section;
       held = for.held;
       one_each = for.one_each;
-      counted = counted_accepts m p ok d h leg.holder leg.counts for.counted is_so kind unsent;
+      counted = counted_accepts m p ok d h leg.holder leg.counts for.counted is_so is_kind unsent;
+      reported = ap (λ (o : Option Block). or_else (block_in (kind h p) plain) o) for.reported ∙ sym (reported_takes m p ok d h leg.holder noted plain is_so is_judged);
     }
 
 pub leg_sends : {O : Type 0} (config : Config) (m : ℕ) (p : Receipt) (ok : Bool) (d : Deed) (h : List CellEntry) (leg : Leg O) (sending : Sending O)
-    → takes leg.holder p d ≡ false → ((half : Half) → sent_from h leg.holder half p d ≡ (ok && is_half p.half half)) → SendingFor leg.holder (key_numbered h) (noted_under d.shield (protected h)) sending → SameNumbers leg.sending sending
-    → LegStandsFor config h leg → LegStandsFor config (relay_entry m p ok d ∷ h) (with_send p.half ok leg sending)
+    → takes leg.holder p d ≡ false → ((half : Half) → sent_from h leg.holder half p d ≡ (ok && is_half (way h p) half)) → SendingFor leg.holder (key_numbered h) (noted_under d.shield (protected h)) sending → SameNumbers leg.sending sending
+    → LegStandsFor config h leg → LegStandsFor config (relay_entry m p ok d ∷ h) (with_send (way h p) ok leg sending)
 leg_sends config m p ok d h leg sending is_not sent noted same for =
     record {
       pair = for.pair;
@@ -215,4 +234,5 @@ leg_sends config m p ok d h leg sending is_not sent noted same for =
       held = λ suite. held_still suite leg.sending sending same ∙ for.held suite;
       one_each = for.one_each;
       counted = counted_sends m p ok d h leg.holder leg.counts ok for.counted is_not sent;
+      reported = for.reported ∙ sym (reported_keeps m p ok d h leg.holder is_not);
     }

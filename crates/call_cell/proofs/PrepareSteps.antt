@@ -37,6 +37,7 @@ use Rattle.call_cell.proofs.KeysEqual.{suite_is}
 use Rattle.call_cell.proofs.Steps.{prepare_in_force, prepare_accepted, prepare_learned, new_leg_unanswered, new_leg_notes_nothing}
 use Rattle.call_cell.proofs.CommitSteps.{has_of}
 use Rattle.call_cell.proofs.Joined.{side_is}
+use Rattle.call_cell.specs.Blocks.{last_report}
 use Rattle.call_cell.proofs.Counting.{counted_stays, counted_begins}
 
 -- A leg with keys is the leg with another part for sending.
@@ -357,6 +358,7 @@ leg_stays {O} config m call legs prepared keys dropped h came leg stays one for 
       held = held;
       one_each = one;
       counted = counted_stays m call legs keys dropped h leg.holder leg.counts stays for.counted;
+      reported = for.reported ∙ sym (ap (λ (b : Bool). cond b None (last_report h leg.holder)) stays);
     })
 
 pub leg_begins : {O : Type 0} (config : Config) (m call : ℕ) (legs : List Holder) (prepared : List PreparedKey) (keys : List NewKey) (dropped : List ℕ) (h : List CellEntry)
@@ -389,4 +391,5 @@ leg_begins {O} config m call legs prepared keys dropped h came leg new one small
       held = held;
       one_each = one;
       counted = counted_begins m call legs keys dropped h leg.holder leg.counts new fresh.uncounted;
+      reported = fresh.unreported ∙ sym (ap (λ (b : Bool). cond b None (last_report h leg.holder)) new);
     })

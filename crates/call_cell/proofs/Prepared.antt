@@ -1,5 +1,7 @@
 -- What an offer prepares, part by part.
-use Rattle.std.proofs.Common.{◌≡◌, refl, ap, subst, sym, ℕ, zero, suc, ◌<◌, Bool, false, List, [], ◌∷◌, ◌++◌, map, inl, inr, get_or, arith}
+use Rattle.std.proofs.Common.{◌≡◌, refl, ap, subst, sym, ◌∙◌, ℕ, zero, suc, ◌<◌, Bool, true, false, List, [], ◌∷◌, ◌++◌, length, map, inl, inr, get_or, set, arith}
+use Rattle.std.specs.Prelude.{if◌then◌else◌}
+use Rattle.std.proofs.lemmas.List.{get_or-set_same, get_or-set_other}
 use Rattle.std.specs.List.{AllZip}
 use Rattle.histories.specs.Words.{In, here, there, has}
 use Rattle.histories.proofs.Lists.{in_append}
@@ -10,6 +12,8 @@ use Rattle.call_cell.specs.declared.prepare.PreparedKey.{PreparedKey}
 use Rattle.call_cell.specs.declared.prepare.Prepare as prepared
 use Rattle.call_cell.specs.DroppedLegs.{FlagsAre}
 use Rattle.call_cell.specs.Preparations.{PrepareFor, IsPrepared, IsFreshLeg, added, parts_added}
+use Rattle.srtp_sources.proofs.Knowing.{equal, differ}
+use Rattle.call_cell.proofs.Placing.{same_or_not}
 
 pub no_flags : (section : ℕ) → section < 8
     → get_or (false ∷ false ∷ false ∷ false ∷ false ∷ false ∷ false ∷ false ∷ []) section false ≡ has [] section
@@ -72,5 +76,25 @@ one_more_key {O} old new p k keys dropped same_legs same_dropped more is for =
     record {
       keys_are = subst (λ (l : List PreparedKey). AllZip IsPrepared l (keys ++ k ∷ [])) (sym more) (zip_more old.keys.items keys p k for.keys_are is);
       drops = subst (λ (l : List Bool). FlagsAre l (has dropped)) (sym same_dropped) for.drops;
+      fresh = λ x i. for.fresh x (subst (λ (l : List (Leg O)). In x l) same_legs i);
+    }
+
+-- a section more is flagged
+flag_on : (flags : List Bool) (section : ℕ) (dropped : List ℕ) → section < length flags → FlagsAre flags (has dropped)
+    → FlagsAre (set flags section true) (has (section ∷ dropped))
+flag_on flags section dropped below for s small = elim (same_or_not s section) [
+  | inl is ↦ ap (λ (n : ℕ). get_or (set flags section true) n false) is ∙ get_or-set_same flags section true false below
+      ∙ sym (ap (λ (b : Bool). if b then true else has dropped s) (equal section s (sym is)))
+  | inr apart ↦ get_or-set_other flags section s true false apart ∙ for s small
+      ∙ sym (ap (λ (b : Bool). if b then true else has dropped s) (differ section s (λ q. apart (sym q))))
+]
+
+pub one_more_drop : {O : Type 0} (old new : prepared.Prepare O) (section : ℕ) (keys : List NewKey) (dropped : List ℕ) → new.legs.items ≡ old.legs.items
+    → new.keys.items ≡ old.keys.items → new.dropped ≡ set old.dropped section true → section < length old.dropped
+    → PrepareFor old keys dropped → PrepareFor new keys (section ∷ dropped)
+one_more_drop {O} old new section keys dropped same_legs same_keys more below for =
+    record {
+      keys_are = subst (λ (l : List PreparedKey). AllZip IsPrepared l keys) (sym same_keys) for.keys_are;
+      drops = subst (λ (l : List Bool). FlagsAre l (has (section ∷ dropped))) (sym more) (flag_on old.dropped section dropped below for.drops);
       fresh = λ x i. for.fresh x (subst (λ (l : List (Leg O)). In x l) same_legs i);
     }

@@ -8,6 +8,7 @@ use Rattle.relay_outside.specs.declared.settings.Config.{Config}
 use Rattle.relay_outside.specs.declared.address.Addr.{Addr}
 use Rattle.rtp_packet.specs.declared.head.Half.{Half}
 use Rattle.rtp_packet.specs.declared.head.Half.TheVariants.{Rtp, Rtcp}
+use Rattle.rtcp_reports.specs.declared.block.Block.{Block}
 use Rattle.histories.specs.Words.{In, first, numbers}
 use Rattle.histories.proofs.Lists.{maps, spread, picked, filtered, first_is_in}
 use Rattle.port_pool.specs.Ports.{pair_port}
@@ -24,6 +25,7 @@ use Rattle.call_cell.specs.declared.leg.Leg.{Leg}
 use Rattle.call_cell.specs.declared.cell.Cell.{Cell}
 use Rattle.call_cell.specs.Cells.{CellEntry, legs, in_force, since_end}
 use Rattle.call_cell.specs.Lessons.{learned, leg_endpoint_by}
+use Rattle.call_cell.specs.Blocks.{last_report}
 use Rattle.call_cell.specs.Demands.{CountsBelow, accepted_count, sent_count, report_under, report_of, report_in, report_at, section_reports, reports, stands_at}
 use Rattle.call_cell.specs.LegHistories.{LegStandsFor, LegsStandFor}
 use Rattle.call_cell.specs.CellHistories.{CellFor, cell_last_moment}
@@ -34,8 +36,8 @@ use Rattle.call_cell.proofs.Few.{at_in}
 
 -- A leg.
 
-report : Holder → (port : ℕ) → Addr → (a b c d : ℕ) → Option LegReport
-report leg port endpoint a b c d = Some (record {
+report : Holder → (port : ℕ) → Addr → (a b c d : ℕ) → Option Block → Option LegReport
+report leg port endpoint a b c d block = Some (record {
   section = leg.section;
   side = leg.side;
   port = port;
@@ -44,6 +46,7 @@ report leg port endpoint a b c d = Some (record {
   rtp_sent = b;
   rtcp_accepted = c;
   rtcp_sent = d;
+  report = block;
 })
 
 -- a count below 2 ^ 63 is kept as it is
@@ -59,15 +62,17 @@ told_case {O} config h leg for below (Some s) =
     let at = pair_port config leg.holder.pair in
     let to = leg_endpoint_by s (learned h leg.holder Rtp) Rtp in
     let k = leg.counts in
-    ap (λ (n : ℕ). report leg.holder n to k.rtp_accepted k.rtp_sent k.rtcp_accepted k.rtcp_sent) (for.port Rtp)
-    ∙ ap (λ (n : ℕ). report leg.holder at to n k.rtp_sent k.rtcp_accepted k.rtcp_sent)
+    ap (λ (n : ℕ). report leg.holder n to k.rtp_accepted k.rtp_sent k.rtcp_accepted k.rtcp_sent leg.report) (for.port Rtp)
+    ∙ ap (λ (n : ℕ). report leg.holder at to n k.rtp_sent k.rtcp_accepted k.rtcp_sent leg.report)
     (uncut k.rtp_accepted (accepted_count h leg.holder Rtp) (for.counted.accepted Rtp) (below Rtp).0)
-    ∙ ap (λ (n : ℕ). report leg.holder at to (accepted_count h leg.holder Rtp) n k.rtcp_accepted k.rtcp_sent)
+    ∙ ap (λ (n : ℕ). report leg.holder at to (accepted_count h leg.holder Rtp) n k.rtcp_accepted k.rtcp_sent leg.report)
     (uncut k.rtp_sent (sent_count h leg.holder Rtp) (for.counted.sent Rtp) (below Rtp).1)
-    ∙ ap (λ (n : ℕ). report leg.holder at to (accepted_count h leg.holder Rtp) (sent_count h leg.holder Rtp) n k.rtcp_sent)
+    ∙ ap (λ (n : ℕ). report leg.holder at to (accepted_count h leg.holder Rtp) (sent_count h leg.holder Rtp) n k.rtcp_sent leg.report)
     (uncut k.rtcp_accepted (accepted_count h leg.holder Rtcp) (for.counted.accepted Rtcp) (below Rtcp).0)
-    ∙ ap (λ (n : ℕ). report leg.holder at to (accepted_count h leg.holder Rtp) (sent_count h leg.holder Rtp) (accepted_count h leg.holder Rtcp) n)
+    ∙ ap (λ (n : ℕ). report leg.holder at to (accepted_count h leg.holder Rtp) (sent_count h leg.holder Rtp) (accepted_count h leg.holder Rtcp) n leg.report)
     (uncut k.rtcp_sent (sent_count h leg.holder Rtcp) (for.counted.sent Rtcp) (below Rtcp).1)
+    ∙ ap (λ (o : Option Block). report leg.holder at to (accepted_count h leg.holder Rtp) (sent_count h leg.holder Rtp) (accepted_count h leg.holder Rtcp) (sent_count h leg.holder Rtcp) o)
+    for.reported
 
 told_leg : {O : Type 0} (config : Config) (h : List CellEntry) (leg : Leg O) → LegStandsFor config h leg
     → ((half : Half) → (accepted_count h leg.holder half < 2 ^ 63) × (sent_count h leg.holder half < 2 ^ 63)) → leg_report leg ≡ report_of config h leg.holder
@@ -144,6 +149,7 @@ fits_case config h leg one_report below (Some s) q =
       rtp_sent = sent_count h leg Rtp;
       rtcp_accepted = accepted_count h leg Rtcp;
       rtcp_sent = sent_count h leg Rtcp;
+      report = last_report h leg;
     } in
     let same : it ≡ one_report = (let e = q in cc) in
     subst (λ (t : LegReport). CountsFit t) same
@@ -233,6 +239,7 @@ still config cell h all_reports for =
               held = l.held;
               one_each = l.one_each;
               counted = record { accepted = l.counted.accepted; sent = l.counted.sent };
+              reported = l.reported;
             };
       };
     }

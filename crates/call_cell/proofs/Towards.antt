@@ -25,7 +25,7 @@ use Rattle.call_cell.specs.declared.leg.Leg.{Leg}
 use Rattle.call_cell.specs.Cells.{CellEntry, Receipt, Shield, Sending, Deed, in_force, is_accepted, is_opposite, opposite, key_numbered}
 use Rattle.call_cell.specs.Protection.{protected, Departure, Held, Leaves}
 use Rattle.call_cell.specs.Lessons.{learned, leg_endpoint_by}
-use Rattle.call_cell.specs.Deeds.{sent_outcome, deed, deed_wrapped, found, opposite_of, is_leaving, lost_deed, sent_deed, wrapped_towards, wrapped_numbered}
+use Rattle.call_cell.specs.Deeds.{kind, way, way_on, in_force_of, sent_outcome, deed, deed_wrapped, found, opposite_of, is_leaving, lost_deed, sent_deed, wrapped_towards, wrapped_numbered}
 use Rattle.call_cell.specs.Demands.{is_sent}
 use Rattle.call_cell.specs.Parts.{SendingFor, HasNamed, learner_in, learner_of, SendsBy, SameNumbers, IsOf, wrapped_by, wrapped_for}
 use Rattle.call_cell.specs.LegHistories.{FrontIs, outbound_of, LegStandsFor, LegsStandFor, LegsDo, LegsRelay, LegSends, LegKeeps, LegForwards, LegForwardsBy, EndsFor, relay_entry, sent_ok, send_outcome, port_by, leased_port, local_port}
@@ -79,7 +79,7 @@ faces {O} config h p those i x new noted plain buf size k z t place =
 pub kept_lost : {O : Type 0} (log : O → EndLog OutCall) (faults : O → ℕ) (config : Config) (h : List CellEntry) (p : Receipt) (those : List (Leg O)) (i : ℕ)
     (x new : Leg O) (noted : Option Note) (plain buf : List ℕ) (size k : ℕ) (z y : Leg O) (out : List ℕ) (cause : Lost) (result : Outcome)
     → Facing config h p those i x new noted plain buf size k z → LegKeeps cause (get_or those k z) y result
-    → deed config h p (sent_ok (outcomes.Lost cause)) ≡ lost_deed p.half noted cause
+    → deed config h p (sent_ok (outcomes.Lost cause)) ≡ lost_deed (kind h p) noted cause
     → LegsRelay log faults config h p those (set (set those i new) k y) out result
 kept_lost {O} log faults config h p those i x new noted plain buf size k z y out cause result f keeps it =
     let mid = set those i new in
@@ -94,7 +94,7 @@ kept_lost {O} log faults config h p those i x new noted plain buf size k z y out
 
 abbrev sending_to : {O : Type 0} → List CellEntry → Receipt → Leg O → LegSignal → List ℕ → Sending
 sending_to h p leg s bytes =
-    record { pair = leg.holder.pair; half = p.half; to = leg_endpoint_by s (learned h leg.holder p.half) p.half; bytes = bytes }
+    record { pair = leg.holder.pair; half = way h p; to = leg_endpoint_by s (learned h leg.holder (way h p)) (way h p); bytes = bytes }
 
 -- a leg leaves by the port of its pair
 leaves_by : {O : Type 0} (config : Config) (h : List CellEntry) (leg : Leg O) → LegStandsFor config h leg → (half : Half)
@@ -133,7 +133,7 @@ pub record Leaving {O : Type 0} (log : O → EndLog OutCall) (faults : O → ℕ
     (x new : Leg O) (noted : Option Note) (plain buf : List ℕ) (size k : ℕ) (z y : Leg O) (s : LegSignal) (shield : Option Shield) (bytes out : List ℕ)
     (result : Outcome) : Type 0 where
   pub facing : Facing config h p those i x new noted plain buf size k z
-  pub sends : LegSends log faults (key_numbered h) (protected h) shield bytes p.half (leg_endpoint_by s (learned h (get_or those k z).holder p.half) p.half)
+  pub sends : LegSends log faults (key_numbered h) (protected h) shield bytes (way h p) (leg_endpoint_by s (learned h (get_or those k z).holder (way h p)) (way h p))
       (get_or those k z) y out result
   pub numbers : SameNumbers (get_or those k z).sending y.sending
 
@@ -172,32 +172,32 @@ and_none false b c q = refl
 -- what the leg on the other side sends
 sent_at : {O : Type 0} (config : Config) (h : List CellEntry) (p : Receipt) (those : List (Leg O)) (i : ℕ) (x new : Leg O) (noted : Option Note)
     (plain buf : List ℕ) (size k : ℕ) (z : Leg O) (shield : Option Shield) (w : Sending) (ok : Bool) → Facing config h p those i x new noted plain buf size k z
-    → (half : Half) → sent_from h (get_or those k z).holder half p (sent_deed config p.half noted shield w ok) ≡ (ok && is_half p.half half)
+    → (half : Half) → sent_from h (get_or those k z).holder half p (sent_deed config (kind h p) noted shield w ok) ≡ (ok && is_half (way h p) half)
 sent_at config h p those i x new noted plain buf size k z shield w ok f half =
     and_one (is_sent (sent_outcome config w ok)) ok (is_leaving (opposite_of h (found h p)) (get_or those k z).holder)
     (ap (λ (o : Option Holder). is_leaving o (get_or those k z).holder) (leaving_by config h p those i x new noted plain buf size k z f)
     ∙ same_itself (get_or those k z).holder)
-    (sent_is config w ok) (is_half p.half half)
+    (sent_is config w ok) (is_half (way h p) half)
 
 -- the other legs send nothing
 unsent_off : {O : Type 0} (config : Config) (h : List CellEntry) (p : Receipt) (those : List (Leg O)) (i : ℕ) (x new : Leg O) (noted : Option Note)
     (plain buf : List ℕ) (size k : ℕ) (z : Leg O) (d : Deed) → Facing config h p those i x new noted plain buf size k z
     → (j : ℕ) (v : Leg O) → j < length those → (j ≡ k → ⊥) → (half : Half) → sent_from h (get_or those j v).holder half p d ≡ false
 unsent_off config h p those i x new noted plain buf size k z d f j v within apart half =
-    and_none (is_sent d.outcome) (is_half p.half half) (is_leaving (opposite_of h (found h p)) (get_or those j v).holder)
+    and_none (is_sent d.outcome) (is_half (way h p) half) (is_leaving (opposite_of h (found h p)) (get_or those j v).holder)
     (ap (λ (o : Option Holder). is_leaving o (get_or those j v).holder) (leaving_by config h p those i x new noted plain buf size k z f)
     ∙ apart_leg config h those k z f.taking.for f.below j v within apart)
 
 leaving_each : {O : Type 0} (log : O → EndLog OutCall) (faults : O → ℕ) (config : Config) (h : List CellEntry) (p : Receipt) (those : List (Leg O)) (i : ℕ)
     (x new : Leg O) (noted : Option Note) (plain buf : List ℕ) (size k : ℕ) (z y : Leg O) (s : LegSignal) (shield : Option Shield) (bytes out : List ℕ)
     (result : Outcome) → Leaving log faults config h p those i x new noted plain buf size k z y s shield bytes out result → (m : ℕ) (j : ℕ) (v : Leg O) → j < length those
-    → LegStandsFor config (relay_entry m p (sent_ok result) (sent_deed config p.half noted shield (sending_to h p (get_or those k z) s bytes) (sent_ok result)) ∷ h)
+    → LegStandsFor config (relay_entry m p (sent_ok result) (sent_deed config (kind h p) noted shield (sending_to h p (get_or those k z) s bytes) (sent_ok result)) ∷ h)
     (get_or (set (set those i new) k y) j v)
 leaving_each {O} log faults config h p those i x new noted plain buf size k z y s shield bytes out result l m j v within =
     let ok = sent_ok result in
     let t = l.facing.taking in
     let w : Sending = sending_to h p (get_or those k z) s bytes in
-    let d : Deed = sent_deed config p.half noted shield w ok in
+    let d : Deed = sent_deed config (kind h p) noted shield w ok in
     let acc : is_accepted d.outcome ≡ true = sent_accepted config w ok in
     let P : Leg O → Type 0 = λ (leg : Leg O). LegStandsFor config (relay_entry m p ok d ∷ h) leg in
     let long : k < length (set those i new) = omega (arith, l.facing.below, length-set those i new) in
@@ -223,7 +223,7 @@ leaving_each {O} log faults config h p those i x new noted plain buf size k z y 
 leaving_legs : {O : Type 0} (log : O → EndLog OutCall) (faults : O → ℕ) (config : Config) (h : List CellEntry) (p : Receipt) (those : List (Leg O)) (i : ℕ)
     (x new : Leg O) (noted : Option Note) (plain buf : List ℕ) (size k : ℕ) (z y : Leg O) (s : LegSignal) (shield : Option Shield) (bytes out : List ℕ)
     (result : Outcome) → Leaving log faults config h p those i x new noted plain buf size k z y s shield bytes out result → (m : ℕ)
-    → LegsStandFor config (relay_entry m p (sent_ok result) (sent_deed config p.half noted shield (sending_to h p (get_or those k z) s bytes) (sent_ok result)) ∷ h)
+    → LegsStandFor config (relay_entry m p (sent_ok result) (sent_deed config (kind h p) noted shield (sending_to h p (get_or those k z) s bytes) (sent_ok result)) ∷ h)
     (set (set those i new) k y)
 leaving_legs {O} log faults config h p those i x new noted plain buf size k z y s shield bytes out result l m =
     let t = l.facing.taking in
@@ -232,7 +232,7 @@ leaving_legs {O} log faults config h p those i x new noted plain buf size k z y 
     let r : y.holder ≡ (get_or mid k z).holder = ap (λ (leg : Leg O). leg.holder) l.sends.rest ∙ sym (ap (λ (leg : Leg O). leg.holder) (off_set those i k new z l.facing.apart)) in
     let long : k < length mid = omega (arith, l.facing.below, length-set those i new) in
     record {
-      holders = holders_over m p (sent_ok result) (sent_deed config p.half noted shield (sending_to h p (get_or those k z) s bytes) (sent_ok result)) h (set mid k y)
+      holders = holders_over m p (sent_ok result) (sent_deed config (kind h p) noted shield (sending_to h p (get_or those k z) s bytes) (sent_ok result)) h (set mid k y)
           (same_holders mid k y z r ∙ same_holders those i new x q ∙ t.for.holders);
       apart = apart_over mid k y z long r (apart_over those i new x t.place.below q t.for.apart);
       each = λ j v within. leaving_each log faults config h p those i x new noted plain buf size k z y s shield bytes out result l m j v
@@ -259,8 +259,8 @@ leaving_ends {O} log faults config h p those i x new noted plain buf size k z y 
           let same : same_leg (get_or those k z).holder (get_or those j v).holder ≡ true
           = subst (λ (a : Leg O). same_leg (get_or those k z).holder a.holder ≡ true) leg (same_itself (get_or those k z).holder) in
           subst P (sym same)
-          (subst (λ (a : Leg O). SendsBy log faults p.half w.to bytes ok a.sending (get_or (set mid k y) j v).sending) leg
-          (subst (λ (a : Leg O). SendsBy log faults p.half w.to bytes ok (get_or those k z).sending a.sending) now l.sends.sends))
+          (subst (λ (a : Leg O). SendsBy log faults (way h p) w.to bytes ok a.sending (get_or (set mid k y) j v).sending) leg
+          (subst (λ (a : Leg O). SendsBy log faults (way h p) w.to bytes ok (get_or those k z).sending a.sending) now l.sends.sends))
       | inr off ↦
           let other : same_leg (get_or those k z).holder (get_or those j v).holder ≡ false = apart_leg config h those k z t.for l.facing.below j v within off in
           let as_before : (get_or (set mid k y) j v).sending ≡ (get_or those j v).sending
@@ -271,7 +271,7 @@ leaving_ends {O} log faults config h p those i x new noted plain buf size k z y 
 pub leaves : {O : Type 0} (log : O → EndLog OutCall) (faults : O → ℕ) (config : Config) (h : List CellEntry) (p : Receipt) (those : List (Leg O)) (i : ℕ)
     (x new : Leg O) (noted : Option Note) (plain buf : List ℕ) (size k : ℕ) (z y : Leg O) (s : LegSignal) (shield : Option Shield) (bytes out : List ℕ)
     (result : Outcome) → Leaving log faults config h p those i x new noted plain buf size k z y s shield bytes out result
-    → deed config h p (sent_ok result) ≡ sent_deed config p.half noted shield (sending_to h p (get_or those k z) s bytes) (sent_ok result)
+    → deed config h p (sent_ok result) ≡ sent_deed config (kind h p) noted shield (sending_to h p (get_or those k z) s bytes) (sent_ok result)
     → LegsRelay log faults config h p those (set (set those i new) k y) out result
 leaves {O} log faults config h p those i x new noted plain buf size k z y s shield bytes out result l it =
     let ok = sent_ok result in
@@ -280,12 +280,12 @@ leaves {O} log faults config h p those i x new noted plain buf size k z y s shie
     let w : Sending = sending_to h p o s bytes in
     let P : Deed → Type 0 = λ (d : Deed). LegsDo log faults config h p those (set (set those i new) k y) out result d in
     let leg_o = t.for.each k z l.facing.below in
-    let answer : result ≡ send_outcome (local_port config o.holder.pair p.half) w.to (length bytes) ok
-    = l.sends.answer ∙ ap (λ (a : LocalPort). send_outcome a w.to (length bytes) ok) (leaves_by config h o leg_o p.half) in
+    let answer : result ≡ send_outcome (local_port config o.holder.pair (way h p)) w.to (length bytes) ok
+    = l.sends.answer ∙ ap (λ (a : LocalPort). send_outcome a w.to (length bytes) ok) (leaves_by config h o leg_o (way h p)) in
     let by = leaving_by config h p those i x new noted plain buf size k z l.facing in
     subst P (sym it) (record {
       outcome = answer ∙ sent_so config w ok;
-      front = subst (λ (r : Outcome). FrontIs r (Some w) out) (sym answer) (front_case (local_port config o.holder.pair p.half) w out ok l.sends.buffer);
+      front = subst (λ (r : Outcome). FrontIs r (Some w) out) (sym answer) (front_case (local_port config o.holder.pair (way h p)) w out ok l.sends.buffer);
       legs_for = λ m. leaving_legs log faults config h p those i x new noted plain buf size k z y s shield bytes out result l m;
       ends = λ j v within. subst (λ (a : Option Holder). EndsFor log faults (is_leaving a (get_or those j v).holder) (Some w) ok (get_or those j v).sending (get_or (set (set those i new) k y) j v).sending)
           (sym by) (leaving_ends log faults config h p those i x new noted plain buf size k z y s shield bytes out result l j v within);
@@ -297,7 +297,7 @@ wrapped_case : {O : Type 0} (log : O → EndLog OutCall) (faults : O → ℕ) (c
     (x new : Leg O) (noted : Option Note) (plain buf : List ℕ) (size k : ℕ) (z y : Leg O) (s : LegSignal) (out : List ℕ) (result : Outcome)
     → Facing config h p those i x new noted plain buf size k z → SameNumbers (get_or those k z).sending y.sending → (w : Departure)
     → ((ok : Bool) → deed config h p ok ≡ deed_wrapped config h p noted (get_or those k z).holder s ok w)
-    → LegForwards log faults w (key_numbered h) (protected h) p.half (leg_endpoint_by s (learned h (get_or those k z).holder p.half) p.half) (get_or those k z) y out result
+    → LegForwards log faults w (key_numbered h) (protected h) (way h p) (leg_endpoint_by s (learned h (get_or those k z).holder (way h p)) (way h p)) (get_or those k z) y out result
     → LegsRelay log faults config h p those (set (set those i new) k y) out result
 wrapped_case log faults config h p those i x new noted plain buf size k z y s out result f numbers (Held cause) it does =
     kept_lost log faults config h p those i x new noted plain buf size k z y out cause result f does (it (sent_ok (outcomes.Lost cause)))
@@ -309,7 +309,7 @@ signal_case : {O : Type 0} (log : O → EndLog OutCall) (faults : O → ℕ) (co
     (x new : Leg O) (noted : Option Note) (plain buf : List ℕ) (size k : ℕ) (z y : Leg O) (out : List ℕ) (result : Outcome)
     → Facing config h p those i x new noted plain buf size k z → SameNumbers (get_or those k z).sending y.sending → (o : Option LegSignal)
     → in_force h (get_or those k z).holder ≡ o
-    → LegForwardsBy log faults (in_force_with o (learner_of p.half o (learned h (get_or those k z).holder p.half))) (key_numbered h) (protected h) p.half plain (get_or those k z) y out result
+    → LegForwardsBy log faults (in_force_with o (learner_of (way h p) o (learned h (get_or those k z).holder (way h p)))) (key_numbered h) (protected h) (kind h p) (way h p) plain (get_or those k z) y out result
     → LegsRelay log faults config h p those (set (set those i new) k y) out result
 signal_case log faults config h p those i x new noted plain buf size k z y out result f numbers None is does =
     let t = f.taking in
@@ -317,33 +317,47 @@ signal_case log faults config h p those i x new noted plain buf size k z y out r
     (deed_to config h p true (get_or those i x).holder (get_or those k z).holder noted plain None (found_at config h p those i x t.for t.place) t.is_judged f.is_opposite is)
 signal_case log faults config h p those i x new noted plain buf size k z y out result f numbers (Some s) is does =
     let t = f.taking in
-    wrapped_case log faults config h p those i x new noted plain buf size k z y s out result f numbers (wrapped_for (key_numbered h) (protected h) s p.half plain)
+    wrapped_case log faults config h p those i x new noted plain buf size k z y s out result f numbers (wrapped_for (key_numbered h) (protected h) s (kind h p) plain)
     (λ ok. deed_to config h p ok (get_or those i x).holder (get_or those k z).holder noted plain (Some s) (found_at config h p those i x t.for t.place) t.is_judged f.is_opposite is
-    ∙ ap (λ (w : Departure). deed_wrapped config h p noted (get_or those k z).holder s ok w) (towards_so h s p.half plain))
+    ∙ ap (λ (w : Departure). deed_wrapped config h p noted (get_or those k z).holder s ok w) (towards_so h s (kind h p) plain))
     does
 
+-- the port by which the leg on the other side sends
+way_so : {O : Type 0} (config : Config) (h : List CellEntry) (p : Receipt) (those : List (Leg O)) (i : ℕ) (x new : Leg O) (noted : Option Note)
+    (plain buf : List ℕ) (size k : ℕ) (z : Leg O) → Facing config h p those i x new noted plain buf size k z
+    → way_on (get_or those k z).signal (kind h p) ≡ way h p
+way_so {O} config h p those i x new noted plain buf size k z f =
+    ap (λ (o : Option LegSignal). way_on o (kind h p)) (f.taking.for.each k z f.below).signal
+    ∙ sym (ap (λ (o : Option Holder). way_on (in_force_of h o) (kind h p)) (leaving_by config h p those i x new noted plain buf size k z f))
+
 pub relays_towards : {O : Type 0} (log : O → EndLog OutCall) (faults : O → ℕ) (config : Config) (h : List CellEntry) (p : Receipt) (those : List (Leg O)) (i : ℕ)
-    (x new : Leg O) (noted : Option Note) (plain buf : List ℕ) (size k : ℕ) (z y : Leg O) (out : List ℕ) (result : Outcome)
-    → Taking config h p those i x new noted plain buf size → IsPlace (is_opposite (get_or those i x).holder) (set those i new) k z
+    (x new : Leg O) (noted : Option Note) (plain buf : List ℕ) (size k : ℕ) (z y : Leg O) (out : List ℕ) (result : Outcome) (read : Half)
+    → Taking config h p those i x new noted plain buf size → IsPlace (is_opposite (get_or those i x).holder) (set those i new) k z → read ≡ kind h p
     → SameNumbers (get_or (set those i new) k z).sending y.sending
     → ((keys : ℕ → Option NewKey) (notes : ℕ → List Note) → SendingFor (get_or (set those i new) k z).holder keys notes (get_or (set those i new) k z).sending
     → HasNamed (outbound_of (get_or (set those i new) k z).signal) keys (get_or (set those i new) k z).sending
-    → LegForwardsBy log faults (in_force_with (get_or (set those i new) k z).signal (learner_in p.half (get_or (set those i new) k z).receiving)) keys notes p.half (take size buf)
-    (get_or (set those i new) k z) y out result)
+    → LegForwardsBy log faults (in_force_with (get_or (set those i new) k z).signal (learner_in (way_on (get_or (set those i new) k z).signal read) (get_or (set those i new) k z).receiving))
+    keys notes read (way_on (get_or (set those i new) k z).signal read) (take size buf) (get_or (set those i new) k z) y out result)
     → LegsRelay log faults config h p those (set (set those i new) k y) out result
-relays_towards {O} log faults config h p those i x new noted plain buf size k z y out result t place numbers does =
+relays_towards {O} log faults config h p those i x new noted plain buf size k z y out result read t place is numbers does =
     let f = faces config h p those i x new noted plain buf size k z t place in
     let there : get_or (set those i new) k z ≡ get_or those k z = off_set those i k new z f.apart in
     let leg_o = t.for.each k z f.below in
     let o = get_or those k z in
+    let w = way h p in
     let P : Leg O → Type 0 = λ (leg : Leg O). SendingFor leg.holder (key_numbered h) (protected h) leg.sending
     → HasNamed (outbound_of leg.signal) (key_numbered h) leg.sending
-    → LegForwardsBy log faults (in_force_with leg.signal (learner_in p.half leg.receiving)) (key_numbered h) (protected h) p.half (take size buf) leg y out result in
+    → LegForwardsBy log faults (in_force_with leg.signal (learner_in (way_on leg.signal read) leg.receiving)) (key_numbered h) (protected h) read (way_on leg.signal read) (take size buf) leg y out result in
     let many : size ≡ length plain = (let q = t.takes.answer in cc) in
     let front : take size buf ≡ plain = ap (λ (n : ℕ). take n buf) many ∙ t.takes.buffer in
     let one = (subst P there (does (key_numbered h) (protected h))) leg_o.sending (named_so (outbound_of o.signal) (key_numbered h) o.sending leg_o.named) in
-    let two : LegForwardsBy log faults (in_force_with o.signal (learner_of p.half o.signal (learned h o.holder p.half))) (key_numbered h) (protected h) p.half plain o y out result
-    = subst (λ (l : List ℕ). LegForwardsBy log faults (in_force_with o.signal (learner_of p.half o.signal (learned h o.holder p.half))) (key_numbered h) (protected h) p.half l o y out result) front
-    (subst (λ (a : Option Learner). LegForwardsBy log faults (in_force_with o.signal a) (key_numbered h) (protected h) p.half (take size buf) o y out result) (leg_o.receiving.learned p.half) one) in
+    let read_so : LegForwardsBy log faults (in_force_with o.signal (learner_in (way_on o.signal (kind h p)) o.receiving)) (key_numbered h) (protected h) (kind h p) (way_on o.signal (kind h p)) (take size buf) o y out result
+    = subst (λ (e : Half). LegForwardsBy log faults (in_force_with o.signal (learner_in (way_on o.signal e) o.receiving)) (key_numbered h) (protected h) e (way_on o.signal e) (take size buf) o y out result) is one in
+    let by : LegForwardsBy log faults (in_force_with o.signal (learner_in w o.receiving)) (key_numbered h) (protected h) (kind h p) w (take size buf) o y out result
+    = subst (λ (e : Half). LegForwardsBy log faults (in_force_with o.signal (learner_in e o.receiving)) (key_numbered h) (protected h) (kind h p) e (take size buf) o y out result)
+    (way_so config h p those i x new noted plain buf size k z f) read_so in
+    let two : LegForwardsBy log faults (in_force_with o.signal (learner_of w o.signal (learned h o.holder w))) (key_numbered h) (protected h) (kind h p) w plain o y out result
+    = subst (λ (l : List ℕ). LegForwardsBy log faults (in_force_with o.signal (learner_of w o.signal (learned h o.holder w))) (key_numbered h) (protected h) (kind h p) w l o y out result) front
+    (subst (λ (a : Option Learner). LegForwardsBy log faults (in_force_with o.signal a) (key_numbered h) (protected h) (kind h p) w (take size buf) o y out result) (leg_o.receiving.learned w) by) in
     signal_case log faults config h p those i x new noted plain buf size k z y out result f
     (subst (λ (leg : Leg O). SameNumbers leg.sending y.sending) there numbers) o.signal (sym leg_o.signal) two

@@ -5,3 +5,4 @@ mod Keys
 mod Spans
 mod Asked
 mod Families
+mod Muxed

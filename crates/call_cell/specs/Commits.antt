@@ -47,9 +47,10 @@ with_commit leg s receiving = record {
   receiving = receiving;
   sending = leg.sending;
   counts = leg.counts;
+  report = leg.report;
 }
 
--- the leg is committed: it has its keys, ends and counts as before
+-- the leg is committed: it has its keys, ends, counts and last report block as before
 pub record LegCommits {O : Type 0} (s : LegSignal) (old new : Leg O) : Type 0 where
   pub receiving : (known : Half → Option Addr) (notes : List Note) → ReceivingFor old.signal old.receiving known notes
       → ReceivingFor (Some s) new.receiving (λ half. relearned old.signal s half (known half)) (renoted old.signal s notes)

@@ -1,8 +1,6 @@
 -- The SRTP and the SRTCP context of one key together: for which notes they stand, and what their calls do.
 use Rattle.std.specs.Prelude.{ℕ, ◌≡◌, List, [], take, length, Option, Some, None, Result, Ok, Err}
 use Rattle.std.specs.List.{cons_option}
-use Rattle.rtp_packet.specs.declared.head.Half.{Half}
-use Rattle.rtp_packet.specs.declared.head.Half.TheVariants.{Rtp, Rtcp}
 use Rattle.sdes_lines.specs.declared.crypto_line.Suite.{Suite}
 use Rattle.srtp_sources.specs.Notes.{Note}
 use Rattle.srtp_context.specs.Contexts as srtp
@@ -10,7 +8,6 @@ use Rattle.srtcp_context.specs.Contexts as srtcp
 use Rattle.port_pool.specs.Signals.{NewKey}
 use Rattle.call_cell.specs.declared.outcome.Refused.{Refused}
 use Rattle.call_cell.specs.declared.outcome.Lost.{Lost}
-use Rattle.call_cell.specs.declared.outcome.Lost.TheVariants as lost
 use Rattle.call_cell.specs.declared.contexts.Inbound.{Inbound}
 use Rattle.call_cell.specs.declared.contexts.Outbound.{Outbound}
 use Rattle.call_cell.specs.Cells.{Shield}
@@ -65,11 +62,6 @@ pub record OutboundSends (key : NewKey) (notes : List Note) (shield : Option Shi
   pub buffer : take (length bytes) buf ≡ bytes
   pub under : IsUnder key.number shield
   pub contexts : OutboundFor key new (cons_option (note_of shield) notes)
-
--- why what is no packet of a half is not protected: it has no index, and no source
-abbrev pub no_packet : Half → Lost
-no_packet Rtp = lost.OutTooOld
-no_packet Rtcp = lost.OutSources
 
 abbrev pub OutboundWrapsTo : Departure → NewKey → List Note → Outbound → Outbound → List ℕ → Result ℕ Lost → Type 0
 OutboundWrapsTo (Held cause) key notes old new buf result = ContextsRefuse cause old new result

@@ -1,10 +1,12 @@
 -- What a relay does with a packet, after the history of its cell since the last End: the first cause for which it is
 -- refused or lost, or its one send.
-use Rattle.std.specs.Prelude.{ℕ, Bool, true, false, not, List, length, Option, Some, None, filter, if◌then◌else◌}
+use Rattle.std.specs.Prelude.{ℕ, Bool, true, false, not, ◌&&◌, List, length, Option, Some, None, filter, if◌then◌else◌}
 use Rattle.relay_outside.specs.declared.address.Addr.{Addr}
 use Rattle.relay_outside.specs.declared.settings.Config.{Config}
 use Rattle.rtp_packet.specs.declared.head.Half.{Half}
-use Rattle.srtp_sources.specs.Notes.{Note}
+use Rattle.rtp_packet.specs.declared.head.Half.TheVariants.{Rtp}
+use Rattle.rtcp_mux.specs.PacketType.{half_of_packet}
+use Rattle.srtp_sources.specs.Notes.{Note, is_half}
 use Rattle.histories.specs.Words.{first}
 use Rattle.port_pool.specs.Ports.{pair_family, half_port}
 use Rattle.port_pool.specs.declared.holder.Holder.{Holder}
@@ -21,13 +23,6 @@ use Rattle.call_cell.specs.Cells.{CellEntry, Receipt, Shield, Sending, Deed, leg
 use Rattle.call_cell.specs.Protection.{accepted, protected, Judged, Stopped, Passed, is_packet, opened_by, Departure, Held, Leaves, wrapped_with}
 use Rattle.call_cell.specs.Lessons.{learned, leg_endpoint_by}
 
--- the half as which a packet is read, and the half by which it leaves: that of the port that took it
-abbrev pub kind : List CellEntry → Receipt → Half
-kind h p = p.half
-
-abbrev pub way : List CellEntry → Receipt → Half
-way h p = p.half
-
 -- the leg that the packet was taken for, where it is still there
 abbrev pub found : List CellEntry → Receipt → Option Holder
 found h p = first (filter (same_leg p.holder) (legs h))
@@ -36,6 +31,29 @@ found h p = first (filter (same_leg p.holder) (legs h))
 abbrev pub opposite_of : List CellEntry → Option Holder → Option Holder
 opposite_of h None = None
 opposite_of h (Some leg) = opposite h leg
+
+-- what is in force on a leg, where there is one
+abbrev pub in_force_of : List CellEntry → Option Holder → Option LegSignal
+in_force_of h None = None
+in_force_of h (Some leg) = in_force h leg
+
+-- Whether a packet is RTP or RTCP: it is what its port is for, but where the leg takes both on its RTP port (RFC 5761), the
+-- packet itself tells.
+abbrev pub kind_on : Option LegSignal → Half → List ℕ → Half
+kind_on None half bytes = half
+kind_on (Some s) half bytes = if s.mux && is_half half Rtp then half_of_packet bytes else half
+
+abbrev pub kind : List CellEntry → Receipt → Half
+kind h p = kind_on (in_force_of h (found h p)) p.half p.bytes
+
+-- the port by which a packet of a kind leaves to a leg with that in force: that for its kind, but a leg that takes both on its
+-- RTP port is sent both by that one
+abbrev pub way_on : Option LegSignal → Half → Half
+way_on None kind = kind
+way_on (Some s) kind = if s.mux then Rtp else kind
+
+abbrev pub way : List CellEntry → Receipt → Half
+way h p = way_on (in_force_of h (opposite_of h (found h p))) (kind h p)
 
 abbrev pub is_leaving : Option Holder → Holder → Bool
 is_leaving None leg = false

@@ -17,6 +17,7 @@ use Rattle.call_cell.specs.declared.outcome.Outcome.{Outcome}
 use Rattle.call_cell.specs.declared.outcome.Outcome.TheVariants as outcomes
 use Rattle.call_cell.specs.Cells.{CellEvent, CellEntry, Prepare, Commit, Relay, Expire, Read, End, Relayed, Sending, legs_of, legs, life, in_force, since_end, is_accepted, relayed, accepted_of, prepared_call}
 use Rattle.call_cell.specs.Lessons.{learned, leg_endpoint_by}
+use Rattle.call_cell.specs.Blocks.{last_report}
 use Rattle.call_cell.specs.Deeds.{deed, way, found, opposite_of, is_leaving}
 
 -- Timeouts.
@@ -81,6 +82,7 @@ report_under config h leg (Some s) = Some (record {
   rtp_sent = sent_count h leg Rtp;
   rtcp_accepted = accepted_count h leg Rtcp;
   rtcp_sent = sent_count h leg Rtcp;
+  report = last_report h leg;
 })
 
 abbrev pub report_of : Config → List CellEntry → Holder → Option LegReport

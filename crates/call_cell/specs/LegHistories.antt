@@ -9,6 +9,7 @@ use Rattle.rtp_packet.specs.declared.head.Half.{Half}
 use Rattle.rtp_packet.specs.declared.head.Half.TheVariants.{Rtp, Rtcp}
 use Rattle.sdes_lines.specs.declared.crypto_line.Suite.{Suite}
 use Rattle.srtp_sources.specs.Notes.{Note}
+use Rattle.histories.specs.Words.{or_else}
 use Rattle.port_pool.specs.Ports.{pair_family, half_port}
 use Rattle.port_pool.specs.declared.pairs.Lease.{Lease}
 use Rattle.port_pool.specs.declared.signal.LegSignal.{LegSignal}
@@ -16,6 +17,7 @@ use Rattle.port_pool.specs.Signals.{NewKey, same_leg}
 use Rattle.endpoint_learn.specs.declared.learner.Learner.{Learner}
 use Rattle.call_cell.specs.declared.outcome.Incoming.{Incoming}
 use Rattle.call_cell.specs.declared.outcome.LocalPort.{LocalPort}
+use Rattle.call_cell.specs.declared.heads.PlainPacket.{PlainPacket}
 use Rattle.call_cell.specs.declared.outcome.Refused.{Refused}
 use Rattle.call_cell.specs.declared.outcome.Lost.{Lost}
 use Rattle.call_cell.specs.declared.outcome.Lost.TheVariants as lost
@@ -28,6 +30,7 @@ use Rattle.call_cell.specs.Cells.{CellEntry, Receipt, Shield, Sending, Deed, Rel
 use Rattle.call_cell.specs.Protection.{accepted, protected, Judged, Stopped, Passed, Departure, Held, Leaves}
 use Rattle.call_cell.specs.Lessons.{learned}
 use Rattle.call_cell.specs.Deeds.{deed, found, opposite_of, is_leaving}
+use Rattle.call_cell.specs.Blocks.{block_in, last_report}
 use Rattle.call_cell.specs.Counts.{IsCounted, more_accepted, more_sent}
 use Rattle.call_cell.specs.Contexts.{ContextsRefuse}
 use Rattle.call_cell.specs.LegKeys.{keys_for, key_number_for, OnePerSuite}
@@ -52,15 +55,16 @@ leased_port half lease = record { family = lease.family; port = port_by half lea
 abbrev pub local_port : Config → ℕ → Half → LocalPort
 local_port config pair half = record { family = pair_family config pair; port = half_port config pair half }
 
--- a packet of a half was accepted
-abbrev pub with_receiving : {O : Type 0} → Half → Leg O → Receiving → Leg O
-with_receiving half leg receiving = record {
+-- a packet of a kind was accepted
+abbrev pub with_receiving : {O : Type 0} → Half → (plain : List ℕ) → Leg O → Receiving → Leg O
+with_receiving kind plain leg receiving = record {
   holder = leg.holder;
   lease = leg.lease;
   signal = leg.signal;
   receiving = receiving;
   sending = leg.sending;
-  counts = more_accepted half leg.counts;
+  counts = more_accepted kind leg.counts;
+  report = or_else (block_in kind plain) leg.report;
 }
 
 abbrev pub with_sending : {O : Type 0} → Leg O → parts.Sending O → Leg O
@@ -71,6 +75,7 @@ with_sending leg sending = record {
   receiving = leg.receiving;
   sending = sending;
   counts = leg.counts;
+  report = leg.report;
 }
 
 -- a packet of a half left, and its send had this result
@@ -82,21 +87,27 @@ with_send half ok leg sending = record {
   receiving = leg.receiving;
   sending = sending;
   counts = more_sent half ok leg.counts;
+  report = leg.report;
 }
 
--- a packet of a half and source was accepted from a leg that an answer has committed
-pub record LegTakes {O : Type 0} (half : Half) (source : Addr) (known : Half → Option Addr) (notes : List Note) (noted : Option Note)
+-- a packet of a kind was accepted by a half, from a source, of a leg that an answer has committed
+pub record LegTakes {O : Type 0} (half kind : Half) (source : Addr) (known : Half → Option Addr) (notes : List Note) (noted : Option Note)
     (plain : List ℕ) (old new : Leg O) (buf : List ℕ) (result : Result ℕ Refused) : Type 0 where
   pub answer : result ≡ Ok (length plain)
   pub buffer : take (length plain) buf ≡ plain
   pub signal : LegSignal
   pub in_force : old.signal ≡ Some signal
   pub receiving : ReceivingFor (Some signal) new.receiving (taught_half half signal.flags source known) (cons_option noted notes)
-  pub rest : new ≡ with_receiving half old new.receiving
+  pub rest : new ≡ with_receiving kind plain old new.receiving
 
-abbrev pub LegAccepts : {O : Type 0} → Judged → Half → Addr → (Half → Option Addr) → List Note → Leg O → Leg O → List ℕ → Result ℕ Refused → Type 0
-LegAccepts (Stopped cause) half source known notes old new buf result = ContextsRefuse cause old new result
-LegAccepts (Passed noted plain) half source known notes old new buf result = LegTakes half source known notes noted plain old new buf result
+-- how long the plain packet is
+abbrev pub length_in : Result PlainPacket Refused → Result ℕ Refused
+length_in (Ok plain) = Ok plain.len
+length_in (Err cause) = Err cause
+
+abbrev pub LegAccepts : {O : Type 0} → Judged → Half → Half → Addr → (Half → Option Addr) → List Note → Leg O → Leg O → List ℕ → Result ℕ Refused → Type 0
+LegAccepts (Stopped cause) half kind source known notes old new buf result = ContextsRefuse cause old new result
+LegAccepts (Passed noted plain) half kind source known notes old new buf result = LegTakes half kind source known notes noted plain old new buf result
 
 -- whether the one send of a relay, if it made one, returned Ok
 abbrev pub sent_ok : Outcome → Bool
@@ -138,11 +149,12 @@ abbrev pub in_force_with : Option LegSignal → Option Learner → Option (LegSi
 in_force_with (Some s) (Some learner) = Some (s, learner)
 in_force_with _ _ = None
 
-abbrev pub LegForwardsBy : {O : Type 0} → (O → EndLog OutCall) → (O → ℕ) → Option (LegSignal × Learner) → (ℕ → Option NewKey) → (ℕ → List Note) → Half
+-- a plain packet of a kind leaves by a half
+abbrev pub LegForwardsBy : {O : Type 0} → (O → EndLog OutCall) → (O → ℕ) → Option (LegSignal × Learner) → (ℕ → Option NewKey) → (ℕ → List Note) → Half → Half
     → List ℕ → Leg O → Leg O → List ℕ → Outcome → Type 0
-LegForwardsBy log faults None keys notes half plain old new buf result = LegKeeps lost.Hold old new result
-LegForwardsBy log faults (Some (s, learner)) keys notes half plain old new buf result =
-    LegForwards log faults (wrapped_for keys notes s half plain) keys notes half (endpoint_of learner) old new buf result
+LegForwardsBy log faults None keys notes kind half plain old new buf result = LegKeeps lost.Hold old new result
+LegForwardsBy log faults (Some (s, learner)) keys notes kind half plain old new buf result =
+    LegForwards log faults (wrapped_for keys notes s kind plain) keys notes half (endpoint_of learner) old new buf result
 
 -- the leg stands for a history since the last End
 pub record LegStandsFor {O : Type 0} (config : Config) (h : List CellEntry) (leg : Leg O) : Type 0 where
@@ -158,6 +170,7 @@ pub record LegStandsFor {O : Type 0} (config : Config) (h : List CellEntry) (leg
   pub held : (suite : Suite) → key_number_in (contexts_of suite leg.sending) ≡ key_number_for suite (keys_for h leg.holder)
   pub one_each : OnePerSuite (keys_for h leg.holder)
   pub counted : IsCounted h leg.holder leg.counts
+  pub reported : leg.report ≡ last_report h leg.holder
 
 -- no two of these legs are the same, or stand on one side of one section
 pub record AreApart {O : Type 0} (those : List (Leg O)) : Type 0 where

@@ -32,6 +32,7 @@ leg_report_under leg (Some (s, learner)) = Some (record {
   rtp_sent = leg.counts.rtp_sent;
   rtcp_accepted = leg.counts.rtcp_accepted;
   rtcp_sent = leg.counts.rtcp_sent;
+  report = leg.report;
 })
 
 abbrev pub leg_report : {O : Type 0} → Leg O → Option LegReport

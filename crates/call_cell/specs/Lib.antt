@@ -2,6 +2,7 @@ pub mod Cells
 pub mod Protection
 pub mod Lessons
 pub mod Deeds
+pub mod Blocks
 pub mod Demands
 pub mod Counts
 pub mod Good

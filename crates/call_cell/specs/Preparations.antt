@@ -54,6 +54,7 @@ pub record IsFreshLeg {O : Type 0} (leg : Leg O) : Type 0 where
   pub receiving : ReceivingFor None leg.receiving (λ half. None) []
   pub keyless : (suite : Suite) → contexts_of suite leg.sending ≡ None
   pub uncounted : leg.counts ≡ no_counts
+  pub unreported : leg.report ≡ None
 
 -- the new legs, in lease order
 abbrev pub added : {O : Type 0} → prepared.Prepare O → List Holder

@@ -9,7 +9,6 @@ ghost use Rattle.call_cell.specs.Expiries.{is_ago};
 
 use crate::dropped_legs::part;
 use crate::gone::Gone;
-use crate::heads::read_head;
 use crate::in_contexts::InContexts;
 use crate::leg::{Leg, place_of, place_of_opposite};
 use crate::leg_reports::tell_legs;
@@ -104,16 +103,15 @@ fn relay_legs<O: OutEnd>(legs: &mut [Leg<O>], packet: &Incoming, buf: &mut Packe
     let Some(at) = place_of(legs, &packet.holder) else {
         return Outcome::Refused(Refused::Stale);
     };
-    let head = read_head(packet.half, &buf[..packet.len]);
-    let len = match legs[at].accept(packet.half, head, packet.source, buf, packet.len) {
-        Ok(len) => len,
+    let plain = match legs[at].accept(packet.half, packet.source, buf, packet.len) {
+        Ok(plain) => plain,
         Err(cause) => return Outcome::Refused(cause),
     };
     let holder = legs[at].holder;
     let Some(to) = place_of_opposite(legs, &holder) else {
         return Outcome::Lost(Lost::Hold);
     };
-    legs[to].forward(packet.half, head, buf, len)
+    legs[to].forward(plain.head, buf, plain.len)
 }
 
 /// Whether that moment is at least so long ago.

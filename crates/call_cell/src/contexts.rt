@@ -5,27 +5,16 @@ ghost use Rattle.rtp_packet.specs.declared.head.Half.TheVariants.{Rtp, Rtcp};
 ghost use Rattle.srtp_sources.specs.Notes.{Note};
 ghost use Rattle.port_pool.specs.Signals.{NewKey};
 ghost use Rattle.call_cell.specs.Protection.{opened_under, wrapped_under};
-ghost use Rattle.call_cell.specs.Contexts.{no_packet};
-ghost use Rattle.call_cell.specs.Heads.{head_of, half_of, IsHead};
+ghost use Rattle.call_cell.specs.Heads.{half_of, IsHead};
 
 use crate::heads::Head;
 use crate::outcome::{Lost, PacketBuffer, Refused};
 use relay_outside::KeyAndSalt;
-use rtp_packet::{Half, RtpHead};
+use rtp_packet::RtpHead;
 use sdes_lines::Suite;
 use srtcp_context::{InRtcp, OutRtcp};
 use srtp_context::{InRtp, OutRtp};
 use srtp_keys::DrawnKey;
-
-/// Why what is no packet of a half is not protected: it has no index, and no source.
-fn no_packet(half: Half) -> Lost
-    ensures { result ≡ no_packet half }
-{
-    match half {
-        Half::Rtp => Lost::OutTooOld,
-        Half::Rtcp => Lost::OutSources,
-    }
-}
 
 /// The state of what a leg sends under one key: of its RTP and of its RTCP packets.
 #[derive(Drop)]
@@ -163,24 +152,20 @@ impl Outbound {
         Ok(size)
     }
 
-    /// Protects in place the packet of a half in the buffer's first `len` bytes, which has this head, and returns the length
-    /// of the protected packet. After a refusal nothing has changed.
+    /// Protects in place the packet with this head in the buffer's first `len` bytes, and returns the length of the protected
+    /// packet. After a refusal nothing has changed.
     pub(crate) fn protect(
         &mut self,
-        half: Half,
-        head: Option<Head>,
+        head: Head,
         buf: &mut PacketBuffer,
         len: usize,
     ) -> Result<usize, Lost>
         requires held { len ≤ 2000 }
-        requires head { head ≡ head_of half (take len buf.old) }
+        requires head { IsHead head (take len buf.old) }
         ensures fits { IfOk result (λ size. size ≤ 2064) }
         ensures number { self.new.number ≡ self.old.number }
-        ensures wraps { (key : NewKey) (notes : List Note) → OutboundFor key self.old notes → OutboundWrapsTo (wrapped_under key notes half (take len buf.old)) key notes self.old self.new buf.new result }
+        ensures wraps { (key : NewKey) (notes : List Note) → OutboundFor key self.old notes → OutboundWrapsTo (wrapped_under key notes (half_of head) (take len buf.old)) key notes self.old self.new buf.new result }
     {
-        let Some(head) = head else {
-            return Err(no_packet(half));
-        };
         match head {
             Head::Rtp(found) => self.protect_rtp(buf, len, found),
             Head::Rtcp(ssrc) => self.protect_rtcp(buf, len, ssrc),

@@ -3,16 +3,18 @@ ghost use Rattle.relay_outside.specs.declared.address.Addr.{Addr};
 ghost use Rattle.rtp_packet.specs.declared.head.Half.{Half};
 ghost use Rattle.srtp_sources.specs.Notes.{Note};
 ghost use Rattle.port_pool.specs.Signals.{NewKey, same_leg, side_eq};
+ghost use Rattle.histories.specs.Words.{or_else};
+ghost use Rattle.call_cell.specs.Blocks.{block_in};
 ghost use Rattle.call_cell.specs.Cells.{is_opposite};
-ghost use Rattle.call_cell.specs.Deeds.{judged_leg};
-ghost use Rattle.call_cell.specs.Heads.{head_of};
+ghost use Rattle.call_cell.specs.Deeds.{judged_leg, kind_on, way_on};
+ghost use Rattle.call_cell.specs.Heads.{half_of, IsHead};
 ghost use Rattle.call_cell.specs.Parts.{learner_in};
 ghost use Rattle.call_cell.specs.LegHistories.{port_by, leased_port, outcome_of, in_force_with};
 ghost use Rattle.call_cell.specs.CellEnds.{parts_of};
 
 use crate::contexts::Outbound;
 use crate::counts::Counts;
-use crate::heads::Head;
+use crate::heads::{Head, PlainPacket, kind_on, read_head, way_on};
 use crate::in_contexts::InContexts;
 use crate::outcome::{LocalPort, Lost, Outcome, PacketBuffer, Refused};
 use crate::receiver::Receiving;
@@ -20,6 +22,7 @@ use crate::sender::Sending;
 use endpoint_learn::Learner;
 use port_pool::{Holder, Lease, LegReport, LegSignal, Side};
 use relay_outside::{Addr, OutEnd};
+use rtcp_reports::{Block, last_block};
 use rtp_packet::Half;
 use sdes_lines::Suite;
 
@@ -38,6 +41,8 @@ pub(crate) struct Leg<O> {
     sending: Sending<O>,
     /// How many packets it accepted and sent.
     counts: Counts,
+    /// The last report block from its side, where one came.
+    report: Option<Block>,
 }
 
 /// Whether these are the same leg, in the same lease of its pair.
@@ -107,6 +112,16 @@ fn outcome_of(from: LocalPort, to: Addr, sent: Result<usize, Lost>) -> Outcome
     }
 }
 
+/// The last report block from a leg's side, after a plain packet of a kind; that of before where the packet has none.
+fn later_block(kind: Half, packet: &[u8], earlier: Option<Block>) -> Option<Block>
+    ensures { result ≡ or_else (block_in kind packet.now) earlier }
+{
+    match kind {
+        Half::Rtp => earlier,
+        Half::Rtcp => last_block(packet).or(earlier),
+    }
+}
+
 impl<O> Leg<O> {
     ghost use Rattle.call_cell.specs.Preparations.{IsFreshLeg};
     ghost use Rattle.call_cell.specs.LegReports.{leg_report};
@@ -126,6 +141,7 @@ impl<O> Leg<O> {
             receiving: Receiving::new(),
             sending: Sending::new(rtp, rtcp),
             counts: Counts::new(),
+            report: None,
         }
     }
 
@@ -140,6 +156,7 @@ impl<O> Leg<O> {
             receiving: _,
             sending,
             counts: _,
+            report: _,
         } = self;
         let (rtp, rtcp) = sending.into_ends();
         (lease, rtp, rtcp)
@@ -168,6 +185,7 @@ impl<O> Leg<O> {
             rtp_sent: self.counts.rtp_sent,
             rtcp_accepted: self.counts.rtcp_accepted,
             rtcp_sent: self.counts.rtcp_sent,
+            report: self.report,
         })
     }
 }
@@ -197,60 +215,59 @@ impl<O> Leg<O> {
 
 impl<O: OutEnd> Leg<O> {
     ghost use Rattle.call_cell.specs.Parts.{ReceivingFor, SendingFor, HasNamed, SameNumbers};
-    ghost use Rattle.call_cell.specs.LegHistories.{outbound_of, LegAccepts, LegForwardsBy};
+    ghost use Rattle.call_cell.specs.LegHistories.{outbound_of, length_in, LegAccepts, LegForwardsBy};
 
-    /// Judges the packet in the buffer's first `len` bytes, which the leg received and which has this head, opens it in place,
-    /// learns its source and counts it. Returns the plain packet's length. After a refusal nothing has changed.
+    /// Judges the packet in the buffer's first `len` bytes, which the leg's port for a half received, opens it in place, learns
+    /// its source for that half, counts it as what it is and keeps its last report block. After a refusal nothing has changed.
     pub(crate) fn accept(
         &mut self,
         half: Half,
-        head: Option<Head>,
         source: Addr,
         buf: &mut PacketBuffer,
         len: usize,
-    ) -> Result<usize, Refused>
+    ) -> Result<PlainPacket, Refused>
         requires held { len ≤ 2000 }
-        requires head { head ≡ head_of half (take len buf.old) }
-        ensures fits { IfOk result (λ size. size ≤ 2000) }
-        ensures head { IfOk result (λ size. head ≡ head_of half (take size buf.new)) }
+        ensures fits { IfOk result (λ plain. plain.len ≤ 2000) }
+        ensures head { IfOk result (λ plain. IsHead plain.head (take plain.len buf.new)) }
+        ensures kind { IfOk result (λ plain. half_of plain.head ≡ kind_on self.old.signal half (take len buf.old)) }
         ensures accepts { (known : Half → Option Addr) (notes : List Note) → ReceivingFor self.old.signal self.old.receiving known notes →
-            LegAccepts (judged_leg self.old.signal (known half) notes half source (take len buf.old)) half source known notes self.old self.new buf.new result }
+            LegAccepts (judged_leg self.old.signal (known half) notes (kind_on self.old.signal half (take len buf.old)) source (take len buf.old))
+            half (kind_on self.old.signal half (take len buf.old)) source known notes self.old self.new buf.new (length_in result) }
     {
         let Some(signal) = self.signal else {
             return Err(Refused::NotAnswered);
         };
-        let size = self
+        let kind = kind_on(&signal, half, &buf[..len]);
+        let Some(head) = read_head(kind, &buf[..len]) else {
+            return Err(Refused::Malformed);
+        };
+        let len = self
             .receiving
             .accept(&signal, half, head, source, buf, len)?;
-        self.counts.accept(half);
-        Ok(size)
+        self.counts.accept(kind);
+        self.report = later_block(kind, &buf[..len], self.report);
+        Ok(PlainPacket { len, head })
     }
 
     /// Sends the plain packet in the buffer's first `len` bytes, which has this head, to the leg's side, protected under the key
     /// in force, and counts it where it was sent.
-    pub(crate) fn forward(
-        &mut self,
-        half: Half,
-        head: Option<Head>,
-        buf: &mut PacketBuffer,
-        len: usize,
-    ) -> Outcome
+    pub(crate) fn forward(&mut self, head: Head, buf: &mut PacketBuffer, len: usize) -> Outcome
         requires held { len ≤ 2000 }
-        requires head { head ≡ head_of half (take len buf.old) }
+        requires head { IsHead head (take len buf.old) }
         ensures numbers { SameNumbers self.old.sending self.new.sending }
         ensures forwards { (keys : ℕ → Option NewKey) (notes : ℕ → List Note) → SendingFor self.old.holder keys notes self.old.sending →
             HasNamed (outbound_of self.old.signal) keys self.old.sending →
-            LegForwardsBy O.log O.faults (in_force_with self.old.signal (learner_in half self.old.receiving)) keys notes half (take len buf.old) self.old self.new buf.new result }
+            LegForwardsBy O.log O.faults (in_force_with self.old.signal (learner_in (way_on self.old.signal (half_of head)) self.old.receiving)) keys notes
+            (half_of head) (way_on self.old.signal (half_of head)) (take len buf.old) self.old self.new buf.new result }
     {
-        let Some((signal, learner)) = self.committed(half) else {
+        let way = way_on(&self.signal, head.half());
+        let Some((signal, learner)) = self.committed(way) else {
             return Outcome::Lost(Lost::Hold);
         };
         let to = learner.endpoint();
-        let from = leased_port(half, &self.lease);
-        let sent = self
-            .sending
-            .forward(&signal, half, head, from, to, buf, len);
-        self.counts.finish(half, &sent);
+        let from = leased_port(way, &self.lease);
+        let sent = self.sending.forward(&signal, way, head, from, to, buf, len);
+        self.counts.finish(way, &sent);
         outcome_of(from, to, sent)
     }
 }

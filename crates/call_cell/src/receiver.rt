@@ -5,7 +5,7 @@ ghost use Rattle.rtp_packet.specs.declared.head.Half.{Half};
 ghost use Rattle.sdes_lines.specs.declared.crypto_line.Suite.{Suite};
 ghost use Rattle.srtp_sources.specs.Notes.{Note};
 ghost use Rattle.call_cell.specs.Protection.{opened_by};
-ghost use Rattle.call_cell.specs.Heads.{head_of, half_of, IsHead};
+ghost use Rattle.call_cell.specs.Heads.{half_of, IsHead};
 ghost use Rattle.call_cell.specs.Deeds.{judged_leg};
 ghost use Rattle.call_cell.specs.Parts.{InboundIn, OpensIn, boxed_in, inbound_of, learner_of, is_wrong_for};
 ghost use Rattle.call_cell.specs.Parts as parts;
@@ -183,27 +183,25 @@ impl Receiving {
         recommit(&mut self.inbound, earlier, signal, contexts);
     }
 
-    /// Judges the packet in the buffer's first `len` bytes, which has this head, for a leg with that in force, opens it in place
-    /// and learns its source, and returns the plain packet's length. After a refusal nothing has changed.
+    /// Judges the packet in the buffer's first `len` bytes, which has this head, for a leg with that in force, opens it in place,
+    /// learns its source for the half that received it, and returns the plain packet's length. After a refusal nothing has
+    /// changed.
     pub(crate) fn accept(
         &mut self,
         signal: &LegSignal,
         half: Half,
-        head: Option<Head>,
+        head: Head,
         source: Addr,
         buf: &mut PacketBuffer,
         len: usize,
     ) -> Result<usize, Refused>
         requires held { len ≤ 2064 }
-        requires head { head ≡ head_of half (take len buf.old) }
+        requires head { IsHead head (take len buf.old) }
         ensures fits { IfOk result (λ size. size ≤ len) }
-        ensures head { IfOk result (λ size. head ≡ head_of half (take size buf.new)) }
+        ensures head { IfOk result (λ size. IsHead head (take size buf.new)) }
         ensures accepts { (known : Half → Option Addr) (notes : List Note) → ReceivingFor (Some signal.now) self.old known notes →
-            AcceptsTo (judged_leg (Some signal.now) (known half) notes half source (take len buf.old)) half source signal.now known notes self.old self.new buf.new result }
+            AcceptsTo (judged_leg (Some signal.now) (known half) notes (half_of head) source (take len buf.old)) half source signal.now known notes self.old self.new buf.new result }
     {
-        let Some(head) = head else {
-            return Err(Refused::Malformed);
-        };
         if is_wrong_source(self.learner(half), source) {
             return Err(Refused::WrongSource);
         }

@@ -4,7 +4,7 @@ ghost use Rattle.srtp_sources.specs.Notes.{Note};
 ghost use Rattle.port_pool.specs.declared.holder.Holder.{Holder};
 ghost use Rattle.port_pool.specs.Signals.{NewKey};
 ghost use Rattle.call_cell.specs.Protection.{wrapped_with};
-ghost use Rattle.call_cell.specs.Heads.{head_of};
+ghost use Rattle.call_cell.specs.Heads.{half_of, IsHead};
 ghost use Rattle.call_cell.specs.Parts.{OutboundIn, WrapsInTo, boxed_in, is_numbered, key_number_in, send_answer};
 
 use crate::contexts::Outbound;
@@ -43,25 +43,24 @@ fn is_numbered(place: &Option<Box<Option<Outbound>>>, number: u64) -> bool
 fn protect_under(
     place: &mut Option<Box<Option<Outbound>>>,
     number: u64,
-    half: Half,
-    head: Option<Head>,
+    head: Head,
     buf: &mut PacketBuffer,
     len: usize,
 ) -> Result<usize, Lost>
     requires held { len ≤ 2000 }
-    requires head { head ≡ head_of half (take len buf.old) }
+    requires head { IsHead head (take len buf.old) }
     ensures fits { IfOk result (λ size. size ≤ 2064) }
     ensures number { key_number_in (boxed_in place.new) ≡ key_number_in (boxed_in place.old) }
     ensures wraps { (leg : Holder) (suite : Suite) (keys : ℕ → Option NewKey) (notes : ℕ → List Note) → OutboundIn leg suite keys notes (boxed_in place.old) →
         is_numbered (boxed_in place.old) number ≡ true →
-        WrapsInTo (wrapped_with (keys number) (notes number) half (take len buf.old)) leg suite keys notes place.old place.new buf.new result }
+        WrapsInTo (wrapped_with (keys number) (notes number) (half_of head) (take len buf.old)) leg suite keys notes place.old place.new buf.new result }
 {
     let Some(place) = place else {
         return Err(Lost::KeySpent);
     };
     match (**place).as_mut() {
         None => Err(Lost::KeySpent),
-        Some(contexts) => contexts.protect(half, head, buf, len),
+        Some(contexts) => contexts.protect(head, buf, len),
     }
 }
 
@@ -127,27 +126,26 @@ impl<O: OutEnd> Sending<O> {
     fn protect(
         &mut self,
         number: Option<u64>,
-        half: Half,
-        head: Option<Head>,
+        head: Head,
         buf: &mut PacketBuffer,
         len: usize,
     ) -> Result<usize, Lost>
         requires held { len ≤ 2000 }
-        requires head { head ≡ head_of half (take len buf.old) }
+        requires head { IsHead head (take len buf.old) }
         ensures fits { IfOk result (λ size. size ≤ 2064) }
         ensures ends { SameEnds self.old self.new }
         ensures numbers { SameNumbers self.old self.new }
         ensures protects { (leg : Holder) (keys : ℕ → Option NewKey) (notes : ℕ → List Note) → SendingFor leg keys notes self.old → HasNamed number keys self.old →
-            ProtectsTo (wrapped_by keys notes number half (take len buf.old)) leg keys notes self.old self.new buf.new result }
+            ProtectsTo (wrapped_by keys notes number (half_of head) (take len buf.old)) leg keys notes self.old self.new buf.new result }
     {
         let Some(number) = number else {
             return Ok(len);
         };
         if is_numbered(&self.tag80, number) {
-            return protect_under(&mut self.tag80, number, half, head, buf, len);
+            return protect_under(&mut self.tag80, number, head, buf, len);
         }
         if is_numbered(&self.tag32, number) {
-            return protect_under(&mut self.tag32, number, half, head, buf, len);
+            return protect_under(&mut self.tag32, number, head, buf, len);
         }
         Err(Lost::KeySpent)
     }
@@ -163,28 +161,28 @@ impl<O: OutEnd> Sending<O> {
         }
     }
 
-    /// Sends what stands in the buffer's first `len` bytes to a leg with that in force, by the end of a half, whose local port is
-    /// this, and returns how many bytes were sent.
+    /// Sends the packet in the buffer's first `len` bytes, which has this head, to a leg with that in force, by the end of a
+    /// half, whose local port is this, and returns how many bytes were sent.
     pub(crate) fn forward(
         &mut self,
         signal: &LegSignal,
         half: Half,
-        head: Option<Head>,
+        head: Head,
         from: LocalPort,
         to: Addr,
         buf: &mut PacketBuffer,
         len: usize,
     ) -> Result<usize, Lost>
         requires held { len ≤ 2000 }
-        requires head { head ≡ head_of half (take len buf.old) }
+        requires head { IsHead head (take len buf.old) }
         ensures numbers { SameNumbers self.old self.new }
         ensures forwards { (leg : Holder) (keys : ℕ → Option NewKey) (notes : ℕ → List Note) → SendingFor leg keys notes self.old → HasNamed signal.now.outbound keys self.old →
-            ForwardsTo O.log O.faults (wrapped_for keys notes signal.now half (take len buf.old)) leg keys notes half from to self.old self.new buf.new result }
+            ForwardsTo O.log O.faults (wrapped_for keys notes signal.now (half_of head) (take len buf.old)) leg keys notes half from to self.old self.new buf.new result }
     {
         if signal.hold {
             return Err(Lost::Hold);
         }
-        let size = self.protect(signal.outbound, half, head, buf, len)?;
+        let size = self.protect(signal.outbound, head, buf, len)?;
         send_answer(from, size, self.send(half, to, &buf[..size]))
     }
 }

@@ -28,7 +28,7 @@ nothing_left = record { rtp = Some []; rtcp = Some []; legs = [] }
 
 -- A step as the table records it: the moment that it was handed, its moment, the number of the board entry that it belongs to, of a
 -- step of the board the pairs of the legs that it closes, in order, whose order its state does not tell, its event, and what leaves its
--- place. Of a relay the outcome is recorded: what it noted, protected and sent follows from the history of its cell.
+-- place. Of a relay the outcome is recorded: what its packet was, and what it noted, protected and sent, follows from the history of its cell.
 pub record Made : Type 0 where
   pub handed : ℕ
   pub moment : ℕ
@@ -37,7 +37,7 @@ pub record Made : Type 0 where
   pub event : Event
   pub left : Left
 
--- a relay by its packet and its outcome
+-- a relay by its packet and its outcome; nothing else of what it did is recorded
 abbrev pub logged_deed : Receipt → Outcome → Deed
 logged_deed p outcome = record { outcome = outcome; kind = p.half; noted = None; shield = None; sending = None }
 

@@ -1,8 +1,10 @@
 -- Worked rows of timeouts and of reports.
-use Rattle.std.proofs.Common.{◌≡◌, ℕ, Bool, List, [], ◌∷◌, map, false, true, refl}
+use Rattle.std.proofs.Common.{◌≡◌, ℕ, Bool, List, [], ◌∷◌, map, false, true, None, refl}
 use Rattle.relay_outside.specs.declared.address.Addr.{Addr}
 use Rattle.rtp_packet.specs.declared.head.Half.TheVariants.{Rtp}
 use Rattle.rtp_packet.specs.Head.{rtp_head, rtcp_ssrc}
+use Rattle.rtcp_reports.specs.Compound.{compound_parts}
+use Rattle.rtcp_reports.specs.ReportBlocks.{report_blocks, last_report_block}
 use Rattle.port_pool.specs.Ports.{range_pairs, pair_port}
 use Rattle.port_pool.specs.declared.holder.Holder.{Holder}
 use Rattle.port_pool.specs.declared.holder.Side.{Side}
@@ -104,6 +106,7 @@ report leg at rtp_in rtp_out rtcp_in rtcp_out = record {
   rtp_sent = rtp_out;
   rtcp_accepted = rtcp_in;
   rtcp_sent = rtcp_out;
+  report = None;
 }
 
 unanswered_has_none : reports config (steps [] (now prepared ∷ [])) ≡ []
@@ -116,7 +119,7 @@ unused_report = refl
 
 -- side A sends two RTP packets, one of which fails, and one RTCP packet; side B one RTP packet and a malformed one
 used_report : reports config (steps (answered side_a side_b) (packet (from_a first_place 1) ∷ fails (from_a first_place 2) ∷ packet (control_a second_place) ∷ packet (from_b at_b 1) ∷ packet (received leg_b Rtp at_b []) ∷ [])) ≡ report leg_a first_place 2 1 1 0 ∷ report leg_b at_b 1 1 0 1 ∷ []
-unfolding reports deed rtp_head rtcp_ssrc
+unfolding reports deed rtp_head rtcp_ssrc last_report_block report_blocks compound_parts
 used_report = refl
 
 -- what is held back is accepted and not sent

@@ -54,6 +54,9 @@ plain = record {
   transport = None;
   source = None;
   family = None;
+  mux_offer = false;
+  mux_demux = false;
+  mux_accept = false;
 }
 
 abbrev pub towards_srtp : Options
