@@ -26,7 +26,7 @@ use Rattle.call_board.specs.Calls.{live, find_call, new_call, rounds, rounds_of_
 use Rattle.call_board.specs.Pairs.{free_in, fronts, is_short, next_lease, leased_new_legs, drawn_keys_from, next_generation, drawn}
 use Rattle.call_board.specs.Replies.{Described, Reported, Listed, Done, Fault, reply_datagram, reply_text}
 use Rattle.call_board.specs.Dialects.{is_json, written_in}
-use Rattle.call_board.specs.Reports.{report_tree, whole, moment_value, counts_tree, endpoint_value, leg_value, leg_report_at, tags_by, profile_text}
+use Rattle.call_board.specs.Reports.{report_tree, whole, moment_value, counts_tree, endpoint_value, report_entry, leg_value, leg_report_at, tags_by, profile_text}
 use Rattle.call_board.specs.Requests.{asked}
 use Rattle.call_board.specs.Answers.{Answering, Answered, failing, telling, ending_error, deleting, offer_ask, answer_ask, leased_pairs, undoing, offering, offer_leased, offer_planned, offer_unless, offer_to, answer_unless, answer_to, names_side, nothing_to_end, delete_of, reported_legs, query_of, answering_asked, spelled, answering_unless}
 use Rattle.call_board.specs.KeptReplies.{kept_reply}
@@ -46,7 +46,7 @@ leg_told report profile = Dict (
     entry (codes "endpoint") (endpoint_value report.endpoint) (
     entry (codes "index") (whole (report.section + 1)) (
     entry (codes "local port") (whole report.port) (
-    entry (codes "protocol") (Bytes (profile_text profile)) no_entries))))))
+    entry (codes "protocol") (Bytes (profile_text profile)) (report_entry report.report)))))))
 
 abbrev side_told : List LegReport → Side → (LegReport → Tree) → Tree
 side_told legs side value = Dict (entry (codes "medias") (Items (items_of (map value (filter_map (leg_report_at legs side) (numbers 0 8))))) no_entries)

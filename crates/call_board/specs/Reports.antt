@@ -7,6 +7,7 @@ use Rattle.sdp_text.specs.Hosts.{text_of}
 use Rattle.sdp_text.specs.declared.proto.Proto.{Proto}
 use Rattle.sdp_edit.specs.Texts.{proto_text}
 use Rattle.histories.specs.Words.{first, numbers}
+use Rattle.rtcp_reports.specs.declared.block.Block.{Block}
 use Rattle.port_pool.specs.declared.holder.Side.{Side}
 use Rattle.port_pool.specs.declared.holder.Side.TheVariants.{A, B}
 use Rattle.port_pool.specs.Signals.{side_eq}
@@ -40,6 +41,20 @@ abbrev pub profile_text : Option Proto → List ℕ
 profile_text None = []
 profile_text (Some proto) = proto_text proto []
 
+-- the last report block of a side: `lost` may be negative, the other numbers are not
+abbrev pub block_tree : Block → Tree
+block_tree block = Dict (
+    entry (codes "fraction lost") (whole block.fraction) (
+    entry (codes "highest") (whole block.highest) (
+    entry (codes "jitter") (whole block.jitter) (
+    entry (codes "lost") (Int block.lost) (
+    entry (codes "ssrc") (whole block.ssrc) no_entries)))))
+
+-- nothing is told of a block that is not there
+abbrev pub report_entry : Option Block → Entries
+report_entry None = no_entries
+report_entry (Some block) = entry (codes "report") (block_tree block) no_entries
+
 -- one leg; sections count from 1 here
 abbrev pub leg_value : List Round → LegReport → Tree
 leg_value rounds report = Dict (
@@ -48,7 +63,7 @@ leg_value rounds report = Dict (
     entry (codes "endpoint") (endpoint_value report.endpoint) (
     entry (codes "index") (whole (report.section + 1)) (
     entry (codes "local port") (whole report.port) (
-    entry (codes "protocol") (Bytes (profile_text (plan.protocol rounds report.section report.side))) no_entries))))))
+    entry (codes "protocol") (Bytes (profile_text (plan.protocol rounds report.section report.side))) (report_entry report.report)))))))
 
 -- the leg of a section and side
 abbrev pub leg_report_at : List LegReport → Side → ℕ → Option LegReport

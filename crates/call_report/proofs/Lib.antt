@@ -4,3 +4,4 @@ pub mod Sections
 pub mod Ordered
 pub mod Listed
 pub mod Shallow
+pub mod Blocks

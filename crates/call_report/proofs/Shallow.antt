@@ -5,14 +5,20 @@ use Rattle.histories.specs.Words.{numbers}
 use Rattle.ng_bencode.specs.Tree.{Tree, Bytes, no_entries, entry, depth, items_of, items_depth, entries_depth}
 use Rattle.port_pool.specs.declared.holder.Side.{Side}
 use Rattle.port_pool.specs.declared.holder.Side.TheVariants.{A, B}
+use Rattle.rtcp_reports.specs.declared.block.Block.{Block}
 use Rattle.port_pool.specs.declared.reports.LegReport.{LegReport}
 use Rattle.offer_answer.specs.Rounds.{Round}
 use Rattle.offer_answer.specs.Plan as plan
-use Rattle.call_board.specs.Reports.{Report, leg_value, leg_report_at, side_value, stands_before, tags_by, report_tree, listing_tree}
+use Rattle.call_board.specs.Reports.{Report, report_entry, leg_value, leg_report_at, side_value, stands_before, tags_by, report_tree, listing_tree}
+
+block_shallow : (block : Option Block) → entries_depth (report_entry block) ≤ 1
+block_shallow None = omega arith
+block_shallow (Some block) = omega arith
 
 legs_shallow : (rounds : List Round) (legs : List LegReport) → items_depth (items_of (map (leg_value rounds) legs)) ≤ 2
 legs_shallow rounds [] = omega arith
-legs_shallow rounds (report ∷ legs) = let rest = legs_shallow rounds legs in omega (arith, rest)
+legs_shallow rounds (report ∷ legs) =
+    let rest = legs_shallow rounds legs in let block = block_shallow report.report in omega (arith, rest, block)
 
 side_shallow : (report : Report) (side : Side) → depth (side_value report side) ≤ 4
 side_shallow report side = let legs = legs_shallow report.rounds (filter_map (leg_report_at report.legs side) (numbers 0 8)) in omega (arith, legs)

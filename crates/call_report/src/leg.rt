@@ -1,17 +1,20 @@
 //! What is told of a leg.
-ghost use Rattle.std.specs.Prelude.{◌≡◌, ◌<◌, ◌^◌, List, IfOk};
-ghost use Rattle.ng_bencode.specs.Tree.{tree_of};
+ghost use Rattle.std.specs.Prelude.{◌≡◌, ◌<◌, ◌^◌, List, IfOk, OnOk};
+ghost use Rattle.ng_bencode.specs.Row.{list_in};
+ghost use Rattle.ng_bencode.specs.Tree.{tree_of, pairs_of};
 ghost use Rattle.port_pool.specs.Reports.{CountsFit};
 ghost use Rattle.offer_answer.specs.Rounds.{Round};
 ghost use Rattle.offer_answer.specs.Texts.{host_of_ip};
 ghost use Rattle.offer_answer.specs.Plan as plan;
-ghost use Rattle.call_board.specs.Reports.{counts_tree, endpoint_value, profile_text, leg_value};
+ghost use Rattle.call_board.specs.Reports.{counts_tree, endpoint_value, profile_text, block_tree, leg_value};
+ghost use Rattle.call_report.specs.Blocks.{with_report};
 
-use crate::values::whole;
+use crate::values::{signed, whole};
 use ng_bencode::{Pairs, Value};
 use ng_reply::{put_pair, put_text};
 use port_pool::LegReport;
 use relay_outside::{Addr, Ip, OutOfMemory};
+use rtcp_reports::Block;
 use sdp_text::{Host, Proto, host_text};
 use std::alloc::Global;
 
@@ -40,6 +43,36 @@ pub(crate) fn leg_value(
     )?;
     put_pair(alloc, &mut pairs, b"local port", whole(report.port as u64))?;
     put_text(alloc, &mut pairs, b"protocol", profile_text(profile))?;
+    put_report(alloc, &mut pairs, report.report)?;
+    Ok(Value::dict(pairs))
+}
+
+/// Puts the last report block of a side at the end of a dictionary, where there is one.
+fn put_report(alloc: Global, pairs: &mut Pairs, block: Option<Block>) -> Result<(), OutOfMemory>
+    ensures { OnOk result (pairs_of (list_in pairs.new) ≡ with_report (pairs_of (list_in pairs.old)) block) }
+{
+    let Some(block) = block else {
+        return Ok(());
+    };
+    let report = block_value(alloc, &block)?;
+    put_pair(alloc, pairs, b"report", report)
+}
+
+/// A report block: what a side tells of its reception (RFC 3550 section 6.4.1).
+fn block_value(alloc: Global, block: &Block) -> Result<Value, OutOfMemory>
+    ensures { IfOk result (λ value. tree_of value ≡ block_tree block.now) }
+{
+    let mut pairs = Pairs::new(alloc);
+    put_pair(
+        alloc,
+        &mut pairs,
+        b"fraction lost",
+        whole(block.fraction as u64),
+    )?;
+    put_pair(alloc, &mut pairs, b"highest", whole(block.highest as u64))?;
+    put_pair(alloc, &mut pairs, b"jitter", whole(block.jitter as u64))?;
+    put_pair(alloc, &mut pairs, b"lost", signed(block.lost))?;
+    put_pair(alloc, &mut pairs, b"ssrc", whole(block.ssrc as u64))?;
     Ok(Value::dict(pairs))
 }
 

@@ -29,8 +29,9 @@ use std::alloc::Global;
 /// milliseconds (2^63 - 1 where they are greater), `result`, and `tags`. For the tag of each side, in byte order, `tags` has a
 /// dictionary whose `medias` lists the side's legs in the order of their sections. A leg has `RTCP` and `RTP`, each with the
 /// numbers of packets that were `accepted` from it and `sent` by its ports; `endpoint`, the `address` and the `port` to which its
-/// RTP goes; `index`, the section's number from 1; `local port`, its RTP port at the proxy; and `protocol`, the profile in force
-/// on it (RFC 8866 section 5.14).
+/// RTP goes; `index`, the section's number from 1; `local port`, its RTP port at the proxy; `protocol`, the profile in force
+/// on it (RFC 8866 section 5.14); and `report`, where the side sent one, the last report block of RFC 3550 section 6.4.1 with
+/// `fraction lost`, `highest`, `jitter`, `lost` and `ssrc`.
 ///
 /// It takes two look-ups among the live calls, and then as many steps as the call has sections and legs.
 ///

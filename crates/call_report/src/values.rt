@@ -1,7 +1,7 @@
 //! Integers and lists.
 ghost use Rattle.std.specs.Prelude.{◌≡◌, ◌++◌, ◌∷◌, [], ◌<◌, ◌^◌, OnOk};
 ghost use Rattle.ng_bencode.specs.Row.{list_in};
-ghost use Rattle.ng_bencode.specs.Tree.{tree_of};
+ghost use Rattle.ng_bencode.specs.Tree.{Int, tree_of};
 ghost use Rattle.call_board.specs.Reports.{whole, moment_value};
 
 use ng_bencode::{Value, Values};
@@ -11,6 +11,13 @@ use relay_outside::OutOfMemory;
 pub(crate) fn whole(number: u64) -> Value
     requires { number < 2 ^ 63 }
     ensures { tree_of result ≡ whole number }
+{
+    Value::int(number as i64)
+}
+
+/// An integer that may be negative.
+pub(crate) fn signed(number: i32) -> Value
+    ensures { tree_of result ≡ Int number }
 {
     Value::int(number as i64)
 }

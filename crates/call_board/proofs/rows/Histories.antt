@@ -37,6 +37,9 @@ options = record {
   transport = None;
   source = None;
   family = None;
+  mux_offer = false;
+  mux_demux = false;
+  mux_accept = false;
 }
 
 abbrev pub ask_to : List ℕ → OfferAsk

@@ -7,11 +7,11 @@ use Rattle.sdes_lines.specs.declared.crypto_line.CryptoLine.{CryptoLine}
 use Rattle.sdes_lines.specs.CryptoLine.{IsUsable, line_text}
 use Rattle.sdp_edit.specs.ChosenLines.{IsFirstOf, IsAny, section_lines}
 use Rattle.sdp_text.specs.Lines.{lines_of}
-use Rattle.sdp_edit.specs.Attributes.{is_removed, is_feedback}
+use Rattle.sdp_edit.specs.Attributes.{is_removed, is_mux_attribute, is_feedback}
 use Rattle.sdp_edit.specs.Images.{image_of}
 use Rattle.sdp_edit.specs.Places.{line_place}
 use Rattle.sdp_edit.specs.Texts.{with_end, connection_text, media_text, origin_text}
-use Rattle.sdp_edit.specs.EditedText.{edited_from, edited_line, image_text, added_connection, added_keys, key_lines}
+use Rattle.sdp_edit.specs.EditedText.{edited_from, edited_line, image_text, added_connection, added_mux, added_keys, key_lines}
 use Rattle.cookie_cache.specs.Keepings as cache
 use Rattle.port_pool.specs.Ports.{range_pairs, pair_count}
 use Rattle.port_pool.specs.declared.holder.Side.TheVariants.{A, B}
@@ -29,7 +29,7 @@ use Rattle.call_board.proofs.rows.Histories.{config, from_port, given, options, 
 
 -- what is opened so that a turn computes
 unfoldable pub turns : Unit {0}
-unfolding asked sdp_error reply_text pair_count range_pairs cache.kept OfferRead offer_fault demand offer_text is_side digits is_removed is_feedback image_of line_place with_end connection_text media_text origin_text edited_from edited_line image_text added_connection added_keys key_lines
+unfolding asked sdp_error reply_text pair_count range_pairs cache.kept OfferRead offer_fault demand offer_text is_side digits is_removed is_mux_attribute is_feedback image_of line_place with_end connection_text media_text origin_text edited_from edited_line image_text added_connection added_mux added_keys key_lines
 turns = tt
 
 abbrev pub at : ℕ → Control → BoardEntry
