@@ -53,6 +53,9 @@ const OPTIONS: Options = Options {
     transport: None,
     source: None,
     family: None,
+    mux_offer: false,
+    mux_demux: false,
+    mux_accept: false,
 };
 
 fn text(rt: &impl Abort, alloc: Global, bytes: &[u8]) -> Text

@@ -140,6 +140,7 @@ fn a_leg_is_not_told_of_before_its_answer(rt: HostRuntime) {
         rtp_sent: 2,
         rtcp_accepted: 3,
         rtcp_sent: 4,
+        report: None,
     });
     cell.read_legs(&mut log);
     assert!(rt; log.len() == 0, "what was log before is gone too");

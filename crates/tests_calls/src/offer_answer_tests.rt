@@ -5,7 +5,7 @@ ghost use Rattle.offer_answer.specs.Widths.{WritesFrom};
 use ng_bencode::Text;
 use ng_command::{AnswerIn, OfferIn, Options};
 use offer_answer::*;
-use port_pool::Side;
+use port_pool::{SectionSignal, Side, Signal};
 use relay_outside::{Config, Flags, Ip};
 use sdes_lines::{CryptoLine, Suite};
 use sdp_text::{Bytes, Proto, Sdp, read};
@@ -106,6 +106,9 @@ fn asked(rt: &impl Abort, alloc: Global, transport: Option<Proto>) -> OfferIn {
             transport,
             source: None,
             family: None,
+            mux_offer: false,
+            mux_demux: false,
+            mux_accept: false,
         },
     }
 }
@@ -280,6 +283,41 @@ fn is_answered(
 }
 
 const PORTS: [u16; 2] = [30_000, 30_002];
+
+/// Alice's offer with RTP and RTCP on one port.
+const ALICE_MUXED: &[u8] =
+    b"v=0\r\no=alice 1 1 IN IP4 192.0.2.10\r\ns=-\r\nc=IN IP4 192.0.2.10\r\nt=0 0\r\nm=audio 6000 RTP/AVP 0 8\r\na=rtpmap:0 PCMU/8000\r\na=rtcp-mux\r\na=sendrecv\r\n";
+
+/// What alice gets of bob's answer, who has two ports, where the proxy has one for her.
+const BOB_MUXED: &[u8] =
+    b"v=0\r\no=bob 2 2 IN IP4 203.0.113.1\r\ns=-\r\nc=IN IP4 203.0.113.1\r\nt=0 0\r\nm=audio 30002 RTP/AVP 0\r\nc=IN IP4 203.0.113.1\r\na=rtcp-mux\r\n";
+
+/// Whether the signal commits one section with the offerer's leg muxed and the other one not.
+fn muxes_the_offerer_alone(signal: &Signal) -> bool {
+    signal.len() == 1 && matches!(signal.section(0), SectionSignal::Commit(a, b) if a.mux && !b.mux)
+}
+
+#[test]
+fn one_side_has_one_port_and_the_other_two(rt: HostRuntime) {
+    let alloc = rt.alloc();
+    let mut dialog = alices_dialog(&rt, alloc);
+    let mut asked = asked(&rt, alloc, None);
+    asked.options.mux_demux = true;
+    let offered = read_sdp(&rt, alloc, ALICE_MUXED);
+    let Ok(mut plan) = offer(alloc, &CONFIG, &dialog, &asked, &offered) else {
+        panic!(rt; "the offer is planned");
+    };
+    let to_bob = written(&rt, alloc, &mut plan, &offered, &PORTS, &[]);
+    assert!(rt; to_bob.as_slice() == ALICE_OFFERED);
+    dialog.apply(plan);
+    let replied = replied(&rt, alloc);
+    let answered = read_sdp(&rt, alloc, BOB);
+    let Ok(plan) = answer(alloc, &CONFIG, &dialog, &replied, &answered) else {
+        panic!(rt; "the answer is planned");
+    };
+    assert!(rt; muxes_the_offerer_alone(plan.signal()));
+    assert!(rt; is_answered(&rt, alloc, &mut dialog, BOB, BOB_MUXED));
+}
 
 #[test]
 fn a_call_is_offered_and_answered(rt: HostRuntime) {

@@ -265,6 +265,26 @@ const FAULTY: &[(&[u8], CommandFault)] = &[
         CommandFault::Unsupported(KeyName::Ice),
     ),
     (
+        b"d7:command5:offer7:call-id2:c18:from-tag1:a3:sdp3:v=08:rtcp-muxi1ee",
+        CommandFault::Key(KeyName::RtcpMux),
+    ),
+    (
+        b"d7:command5:offer7:call-id2:c18:from-tag1:a3:sdp3:v=08:rtcp muxd5:offer0:ee",
+        CommandFault::Key(KeyName::RtcpMux),
+    ),
+    (
+        b"d7:command5:offer7:call-id2:c18:from-tag1:a3:sdp3:v=08:rtcp-muxi1e8:rtcp muxl5:offeree",
+        CommandFault::Key(KeyName::RtcpMux),
+    ),
+    (
+        b"d7:command5:offer7:call-id2:c18:from-tag1:a3:sdp3:v=014:address family1:x8:rtcp-muxi1ee",
+        CommandFault::Key(KeyName::AddressFamily),
+    ),
+    (
+        b"d7:command5:offer7:call-id2:c18:from-tag1:a3:sdp3:v=08:rtcp-muxi1e3:ICE5:forcee",
+        CommandFault::Key(KeyName::RtcpMux),
+    ),
+    (
         b"d7:command5:offer7:call-id2:c18:from-tag1:a3:sdp3:v=03:ICE5:forcee",
         CommandFault::Unsupported(KeyName::Ice),
     ),
@@ -342,6 +362,10 @@ const UNUSED: &[&[u8]] = &[
     b"d7:call-id2:c17:command5:query14:address family1:xe",
     b"d7:command4:list14:address family1:xe",
     b"d7:command4:ping14:address family1:xe",
+    b"d7:command6:answer7:call-id2:c18:from-tag1:a6:to-tag1:b3:sdp3:v=08:rtcp-muxi1ee",
+    b"d7:call-id2:c17:command6:delete8:rtcp-muxi1ee",
+    b"d7:command5:offer7:call-id2:c18:from-tag1:a3:sdp3:v=08:rtcp-muxlee",
+    b"d7:command5:offer7:call-id2:c18:from-tag1:a3:sdp3:v=08:rtcp-muxli1e6:reject7:requireee",
     b"d7:command5:offer7:call-id2:c18:from-tag1:a3:sdp3:v=013:received froml3:IP67:1.2.3.4ee",
     b"d7:command5:offer7:call-id255:xxxxxxxxxxxxxxxxxxxxxxxxxxxxxxxxxxxxxxxxxxxxxxxxxxxxxxxxxxxxxxxxxxxxxxxxxxxxxxxxxxxxxxxxxxxxxxxxxxxxxxxxxxxxxxxxxxxxxxxxxxxxxxxxxxxxxxxxxxxxxxxxxxxxxxxxxxxxxxxxxxxxxxxxxxxxxxxxxxxxxxxxxxxxxxxxxxxxxxxxxxxxxxxxxxxxxxxxxxxxxxxxxxxxxxxxxxxxxxxxxxxxxxxxxxxxxxx8:from-tag1:a3:sdp3:v=0e",
 ];
@@ -374,6 +398,9 @@ const OFFERED: Options = Options {
     transport: Some(Proto::Savp),
     source: Some(Ip::V4([192, 0, 2, 10])),
     family: None,
+    mux_offer: false,
+    mux_demux: false,
+    mux_accept: false,
 };
 
 fn has_offers_texts(offer: &OfferIn) -> bool {
@@ -403,6 +430,9 @@ const ANSWERED: Options = Options {
     transport: None,
     source: None,
     family: None,
+    mux_offer: false,
+    mux_demux: false,
+    mux_accept: false,
 };
 
 fn has_answers_texts(answer: &AnswerIn) -> bool {
@@ -479,6 +509,70 @@ fn an_answer_asks_for_no_family(rt: HostRuntime) {
         panic!(rt; "no answer");
     };
     assert!(rt; answer.options.family.is_none());
+}
+
+/// Bodies of offers, and whether each gives `offer`, `demux` and `accept` under `rtcp-mux`.
+const MUXES: &[(&[u8], [bool; 3])] = &[
+    (
+        b"d7:command5:offer7:call-id2:c18:from-tag1:a3:sdp3:v=0e",
+        [false, false, false],
+    ),
+    (
+        b"d7:command5:offer7:call-id2:c18:from-tag1:a3:sdp3:v=08:rtcp-muxl5:offeree",
+        [true, false, false],
+    ),
+    (
+        b"d7:command5:offer7:call-id2:c18:from-tag1:a3:sdp3:v=08:rtcp-mux5:demuxe",
+        [false, true, false],
+    ),
+    (
+        b"d7:command5:offer7:call-id2:c18:from-tag1:a3:sdp3:v=08:rtcp muxli5e6:accept6:rejectee",
+        [false, false, true],
+    ),
+    (
+        b"d7:command5:offer7:call-id2:c18:from-tag1:a3:sdp3:v=08:rtcp-muxl5:Offer7:require6:acceptl5:demux6:demux e5:offeree",
+        [true, false, true],
+    ),
+    (
+        b"d7:command5:offer7:call-id2:c18:from-tag1:a3:sdp3:v=08:rtcp-muxl6:accept5:demux5:offere8:rtcp muxlee",
+        [true, true, true],
+    ),
+];
+
+/// What a body asks for under `rtcp-mux`, where it is an offer.
+fn asked_mux(alloc: Global, body: &[u8]) -> Option<[bool; 3]> {
+    match read(alloc, body) {
+        Ok(Command::Offer(offer)) => {
+            let options = offer.options;
+            Some([options.mux_offer, options.mux_demux, options.mux_accept])
+        }
+        _ => None,
+    }
+}
+
+fn other_mux(alloc: Global) -> Option<usize> {
+    for (number, (body, mux)) in MUXES.iter().enumerate() {
+        if asked_mux(alloc, body) != Some(*mux) {
+            return Some(number);
+        }
+    }
+    None
+}
+
+#[test]
+fn an_offer_says_what_it_asks_of_rtcp_mux(rt: HostRuntime) {
+    none_failed(&rt, "MUXES", other_mux(rt.alloc()));
+}
+
+#[test]
+fn an_answer_asks_nothing_of_rtcp_mux(rt: HostRuntime) {
+    let body =
+        b"d7:command6:answer7:call-id2:c18:from-tag1:a6:to-tag1:b3:sdp3:v=08:rtcp-muxl5:offer5:demux6:acceptee";
+    let Ok(Command::Answer(answer)) = read(rt.alloc(), body) else {
+        panic!(rt; "no answer");
+    };
+    let options = answer.options;
+    assert!(rt; !options.mux_offer && !options.mux_demux && !options.mux_accept);
 }
 
 /// Bodies of answers whose addresses are signalled, and the address of each.

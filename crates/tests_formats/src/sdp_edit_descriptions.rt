@@ -20,6 +20,7 @@ const PLAIN_AUDIO_SECTIONS: &[SectionCase] = &[SectionCase {
     port: 30000,
     proto: Proto::Avp,
     address: PROXY,
+    mux: false,
     keys: Keys::None,
 }];
 
@@ -33,6 +34,7 @@ const PLAIN_AUDIO_REPLACED_SECTIONS: &[SectionCase] = &[SectionCase {
     port: 30000,
     proto: Proto::Avp,
     address: PROXY,
+    mux: false,
     keys: Keys::None,
 }];
 
@@ -46,6 +48,7 @@ const PLAIN_AUDIO_TO_SRTP_SECTIONS: &[SectionCase] = &[SectionCase {
     port: 30000,
     proto: Proto::Savp,
     address: PROXY,
+    mux: false,
     keys: Keys::Both,
 }];
 
@@ -59,6 +62,7 @@ const ANSWER_SECTIONS: &[SectionCase] = &[SectionCase {
     port: 30002,
     proto: Proto::Avp,
     address: PROXY,
+    mux: false,
     keys: Keys::None,
 }];
 
@@ -72,6 +76,7 @@ const SRTP_ANSWER_TO_PLAIN_SECTIONS: &[SectionCase] = &[SectionCase {
     port: 30002,
     proto: Proto::Avp,
     address: PROXY,
+    mux: false,
     keys: Keys::None,
 }];
 
@@ -86,12 +91,14 @@ const AUDIO_VIDEO_FEEDBACK_KEPT_SECTIONS: &[SectionCase] = &[
         port: 30000,
         proto: Proto::Avpf,
         address: PROXY,
+        mux: false,
         keys: Keys::None,
     },
     SectionCase {
         port: 30004,
         proto: Proto::Avpf,
         address: PROXY,
+        mux: false,
         keys: Keys::None,
     },
 ];
@@ -107,12 +114,14 @@ const AUDIO_VIDEO_FEEDBACK_REMOVED_SECTIONS: &[SectionCase] = &[
         port: 30000,
         proto: Proto::Avp,
         address: PROXY,
+        mux: false,
         keys: Keys::None,
     },
     SectionCase {
         port: 30004,
         proto: Proto::Savp,
         address: PROXY,
+        mux: false,
         keys: Keys::One,
     },
 ];
@@ -128,12 +137,14 @@ const AUDIO_VIDEO_ONE_PROFILE_EACH_SECTIONS: &[SectionCase] = &[
         port: 30000,
         proto: Proto::Savpf,
         address: PROXY,
+        mux: false,
         keys: Keys::Both,
     },
     SectionCase {
         port: 30004,
         proto: Proto::Avp,
         address: PROXY,
+        mux: false,
         keys: Keys::None,
     },
 ];
@@ -148,6 +159,7 @@ const ICE_AND_KEYS_REMOVED_SECTIONS: &[SectionCase] = &[SectionCase {
     port: 30000,
     proto: Proto::Avp,
     address: PROXY,
+    mux: false,
     keys: Keys::None,
 }];
 
@@ -161,6 +173,7 @@ const ICE_AND_KEYS_TO_SAVPF_SECTIONS: &[SectionCase] = &[SectionCase {
     port: 30000,
     proto: Proto::Savpf,
     address: PROXY,
+    mux: false,
     keys: Keys::Both,
 }];
 
@@ -175,12 +188,14 @@ const MEDIA_LEVEL_CONNECTIONS_SECTIONS: &[SectionCase] = &[
         port: 30000,
         proto: Proto::Avp,
         address: PROXY,
+        mux: false,
         keys: Keys::None,
     },
     SectionCase {
         port: 30004,
         proto: Proto::Avp,
         address: PROXY,
+        mux: false,
         keys: Keys::None,
     },
 ];
@@ -196,12 +211,14 @@ const SECOND_CONNECTION_OF_A_SECTION_SECTIONS: &[SectionCase] = &[
         port: 30000,
         proto: Proto::Avp,
         address: PROXY,
+        mux: false,
         keys: Keys::None,
     },
     SectionCase {
         port: 30004,
         proto: Proto::Avp,
         address: PROXY,
+        mux: false,
         keys: Keys::None,
     },
 ];
@@ -217,12 +234,14 @@ const SESSION_AND_MEDIA_CONNECTION_SECTIONS: &[SectionCase] = &[
         port: 30000,
         proto: Proto::Avp,
         address: PROXY,
+        mux: false,
         keys: Keys::None,
     },
     SectionCase {
         port: 30004,
         proto: Proto::Avp,
         address: PROXY,
+        mux: false,
         keys: Keys::None,
     },
 ];
@@ -237,6 +256,7 @@ const TWO_SESSION_CONNECTIONS_SECTIONS: &[SectionCase] = &[SectionCase {
     port: 30000,
     proto: Proto::Avp,
     address: PROXY,
+    mux: false,
     keys: Keys::None,
 }];
 
@@ -250,6 +270,7 @@ const TWO_SESSION_CONNECTIONS_KEPT_SECTIONS: &[SectionCase] = &[SectionCase {
     port: 30000,
     proto: Proto::Avp,
     address: PROXY,
+    mux: false,
     keys: Keys::None,
 }];
 
@@ -263,6 +284,7 @@ const RTCP_PORT_AND_ADDRESS_SECTIONS: &[SectionCase] = &[SectionCase {
     port: 30000,
     proto: Proto::Avp,
     address: PROXY,
+    mux: false,
     keys: Keys::None,
 }];
 
@@ -276,6 +298,7 @@ const RTCP_PORT_ALONE_SECTIONS: &[SectionCase] = &[SectionCase {
     port: 30000,
     proto: Proto::Avp,
     address: PROXY,
+    mux: false,
     keys: Keys::None,
 }];
 
@@ -289,6 +312,7 @@ const RTCP_WITHOUT_A_PORT_SECTIONS: &[SectionCase] = &[SectionCase {
     port: 30000,
     proto: Proto::Avp,
     address: PROXY,
+    mux: false,
     keys: Keys::None,
 }];
 
@@ -302,6 +326,7 @@ const LF_ENDS_SECTIONS: &[SectionCase] = &[SectionCase {
     port: 30000,
     proto: Proto::Avp,
     address: PROXY,
+    mux: false,
     keys: Keys::None,
 }];
 
@@ -315,6 +340,7 @@ const NO_FINAL_END_SECTIONS: &[SectionCase] = &[SectionCase {
     port: 30000,
     proto: Proto::Avp,
     address: PROXY,
+    mux: false,
     keys: Keys::None,
 }];
 
@@ -328,6 +354,7 @@ const MIXED_ENDS_AND_EMPTY_LINES_AT_THE_END_SECTIONS: &[SectionCase] = &[Section
     port: 30000,
     proto: Proto::Avp,
     address: PROXY,
+    mux: false,
     keys: Keys::None,
 }];
 
@@ -341,6 +368,7 @@ const TITLE_OF_A_SECTION_SECTIONS: &[SectionCase] = &[SectionCase {
     port: 30000,
     proto: Proto::Avp,
     address: PROXY,
+    mux: false,
     keys: Keys::None,
 }];
 
@@ -354,6 +382,7 @@ const TWO_TITLES_AND_A_LATER_ONE_SECTIONS: &[SectionCase] = &[SectionCase {
     port: 30000,
     proto: Proto::Avp,
     address: PROXY,
+    mux: false,
     keys: Keys::None,
 }];
 
@@ -367,6 +396,7 @@ const TITLE_AND_CONNECTION_SECTIONS: &[SectionCase] = &[SectionCase {
     port: 30000,
     proto: Proto::Avp,
     address: PROXY,
+    mux: false,
     keys: Keys::None,
 }];
 
@@ -380,6 +410,7 @@ const TITLE_OF_THE_SESSION_SECTIONS: &[SectionCase] = &[SectionCase {
     port: 30000,
     proto: Proto::Avp,
     address: PROXY,
+    mux: false,
     keys: Keys::None,
 }];
 
@@ -393,6 +424,7 @@ const TITLE_AT_THE_END_SECTIONS: &[SectionCase] = &[SectionCase {
     port: 30000,
     proto: Proto::Savp,
     address: PROXY,
+    mux: false,
     keys: Keys::One,
 }];
 
@@ -406,6 +438,7 @@ const NUMBER_OF_PORTS_SECTIONS: &[SectionCase] = &[SectionCase {
     port: 30000,
     proto: Proto::Avp,
     address: PROXY,
+    mux: false,
     keys: Keys::None,
 }];
 
@@ -420,12 +453,14 @@ const FAX_BESIDE_AUDIO_SECTIONS: &[SectionCase] = &[
         port: 30000,
         proto: Proto::Avp,
         address: PROXY,
+        mux: false,
         keys: Keys::None,
     },
     SectionCase {
         port: 0,
         proto: Proto::Other,
         address: PROXY,
+        mux: false,
         keys: Keys::None,
     },
 ];
@@ -441,12 +476,14 @@ const FAX_BEFORE_AUDIO_SECTIONS: &[SectionCase] = &[
         port: 0,
         proto: Proto::Other,
         address: PROXY,
+        mux: false,
         keys: Keys::None,
     },
     SectionCase {
         port: 30000,
         proto: Proto::Avp,
         address: PROXY,
+        mux: false,
         keys: Keys::None,
     },
 ];
@@ -462,12 +499,14 @@ const REJECTED_VIDEO_SECTIONS: &[SectionCase] = &[
         port: 30000,
         proto: Proto::Avp,
         address: PROXY,
+        mux: false,
         keys: Keys::None,
     },
     SectionCase {
         port: 0,
         proto: Proto::Avp,
         address: PROXY,
+        mux: false,
         keys: Keys::None,
     },
 ];
@@ -482,6 +521,7 @@ const IPV6_DESCRIPTION_SECTIONS: &[SectionCase] = &[SectionCase {
     port: 30000,
     proto: Proto::Avp,
     address: PROXY,
+    mux: false,
     keys: Keys::None,
 }];
 
@@ -495,6 +535,7 @@ const IPV6_PROXY_SECTIONS: &[SectionCase] = &[SectionCase {
     port: 30000,
     proto: Proto::Avp,
     address: PROXY_IPV6,
+    mux: false,
     keys: Keys::None,
 }];
 
@@ -509,12 +550,14 @@ const A_FAMILY_FOR_EACH_SECTION_SECTIONS: &[SectionCase] = &[
         port: 30000,
         proto: Proto::Avp,
         address: PROXY,
+        mux: false,
         keys: Keys::None,
     },
     SectionCase {
         port: 30004,
         proto: Proto::Avp,
         address: PROXY_IPV6,
+        mux: false,
         keys: Keys::None,
     },
 ];
@@ -529,6 +572,7 @@ const HOLD_SECTIONS: &[SectionCase] = &[SectionCase {
     port: 30000,
     proto: Proto::Avp,
     address: PROXY,
+    mux: false,
     keys: Keys::None,
 }];
 
@@ -542,6 +586,7 @@ const LOOK_ALIKES_STAY_SECTIONS: &[SectionCase] = &[SectionCase {
     port: 30000,
     proto: Proto::Avp,
     address: PROXY,
+    mux: false,
     keys: Keys::None,
 }];
 
@@ -555,8 +600,39 @@ const ATTRIBUTES_WITHOUT_VALUES_SECTIONS: &[SectionCase] = &[SectionCase {
     port: 30000,
     proto: Proto::Avp,
     address: PROXY,
+    mux: false,
     keys: Keys::None,
 }];
+
+const SHARED_PORTS: &[u8] =
+    b"v=0\r\nc=IN IP4 198.51.100.1\r\na=rtcp-mux\r\nm=audio 6000 RTP/AVP 0\r\na=rtcp-mux\r\na=mid:0\r\na=rtcp-mux:x\r\nm=audio 6002 RTP/AVP 0\r\na=rtcp-mux\r\na=rtcp-mux-only\r\nm=audio 6004 RTP/AVP 0";
+
+const SHARED_PORTS_EDITED: &[u8] =
+    b"v=0\r\nc=IN IP4 198.51.100.1\r\na=rtcp-mux\r\nm=audio 30000 RTP/SAVP 0\r\nc=IN IP4 203.0.113.1\r\na=mid:0\r\na=rtcp-mux\r\na=crypto:1 AES_CM_128_HMAC_SHA1_80 inline:AQEBAQEBAQEBAQEBAQEBAQEBAQEBAQEBAQEBAQEB\r\nm=audio 30002 RTP/AVP 0\r\nc=IN IP4 203.0.113.1\r\na=rtcp-mux-only\r\nm=audio 30004 RTP/AVP 0\r\nc=IN IP4 203.0.113.1\r\na=rtcp-mux\r\n";
+
+const SHARED_PORTS_SECTIONS: &[SectionCase] = &[
+    SectionCase {
+        port: 30000,
+        proto: Proto::Savp,
+        address: PROXY,
+        mux: true,
+        keys: Keys::One,
+    },
+    SectionCase {
+        port: 30002,
+        proto: Proto::Avp,
+        address: PROXY,
+        mux: false,
+        keys: Keys::None,
+    },
+    SectionCase {
+        port: 30004,
+        proto: Proto::Avp,
+        address: PROXY,
+        mux: true,
+        keys: Keys::None,
+    },
+];
 
 const FEEDBACK_UNDER_ANOTHER_PROTOCOL: &[u8] =
     b"v=0\r\no=- 20518 0 IN IP4 198.51.100.1\r\ns=call\r\nc=IN IP4 198.51.100.1\r\nt=0 0\r\nm=audio 0 TCP/RTP/AVP 0\r\na=rtcp-fb:* nack\r\nm=video 6002 RTP/AVP 34\r\n";
@@ -569,12 +645,14 @@ const FEEDBACK_UNDER_ANOTHER_PROTOCOL_SECTIONS: &[SectionCase] = &[
         port: 0,
         proto: Proto::Other,
         address: PROXY,
+        mux: false,
         keys: Keys::None,
     },
     SectionCase {
         port: 30004,
         proto: Proto::Avp,
         address: PROXY,
+        mux: false,
         keys: Keys::None,
     },
 ];
@@ -589,6 +667,7 @@ const FEEDBACK_BEFORE_THE_FIRST_SECTION_SECTIONS: &[SectionCase] = &[SectionCase
     port: 30000,
     proto: Proto::Avp,
     address: PROXY,
+    mux: false,
     keys: Keys::None,
 }];
 
@@ -602,6 +681,7 @@ const A_SECOND_ORIGIN_STAYS_SECTIONS: &[SectionCase] = &[SectionCase {
     port: 30000,
     proto: Proto::Avp,
     address: PROXY,
+    mux: false,
     keys: Keys::None,
 }];
 
@@ -616,12 +696,14 @@ const FORMATS_STAY_AS_THEY_ARE_SECTIONS: &[SectionCase] = &[
         port: 30000,
         proto: Proto::Avp,
         address: PROXY,
+        mux: false,
         keys: Keys::None,
     },
     SectionCase {
         port: 30004,
         proto: Proto::Savpf,
         address: PROXY,
+        mux: false,
         keys: Keys::Both,
     },
 ];
@@ -645,18 +727,21 @@ const KEYS_AT_THE_END_OF_EACH_SECTION_SECTIONS: &[SectionCase] = &[
         port: 30000,
         proto: Proto::Savp,
         address: PROXY,
+        mux: false,
         keys: Keys::One,
     },
     SectionCase {
         port: 30004,
         proto: Proto::Savp,
         address: PROXY,
+        mux: false,
         keys: Keys::Both,
     },
     SectionCase {
         port: 30008,
         proto: Proto::Savpf,
         address: PROXY,
+        mux: false,
         keys: Keys::One,
     },
 ];
@@ -672,48 +757,56 @@ const EIGHT_SECTIONS_SECTIONS: &[SectionCase] = &[
         port: 30000,
         proto: Proto::Avp,
         address: PROXY,
+        mux: false,
         keys: Keys::None,
     },
     SectionCase {
         port: 30004,
         proto: Proto::Avp,
         address: PROXY,
+        mux: false,
         keys: Keys::None,
     },
     SectionCase {
         port: 30008,
         proto: Proto::Avp,
         address: PROXY,
+        mux: false,
         keys: Keys::None,
     },
     SectionCase {
         port: 30012,
         proto: Proto::Avp,
         address: PROXY,
+        mux: false,
         keys: Keys::None,
     },
     SectionCase {
         port: 30016,
         proto: Proto::Avp,
         address: PROXY,
+        mux: false,
         keys: Keys::None,
     },
     SectionCase {
         port: 30020,
         proto: Proto::Avp,
         address: PROXY,
+        mux: false,
         keys: Keys::None,
     },
     SectionCase {
         port: 30024,
         proto: Proto::Avp,
         address: PROXY,
+        mux: false,
         keys: Keys::None,
     },
     SectionCase {
         port: 30028,
         proto: Proto::Avp,
         address: PROXY,
+        mux: false,
         keys: Keys::None,
     },
 ];
@@ -728,6 +821,7 @@ const A_LINE_OF_A_THOUSAND_BYTES_SECTIONS: &[SectionCase] = &[SectionCase {
     port: 30000,
     proto: Proto::Avp,
     address: PROXY,
+    mux: false,
     keys: Keys::None,
 }];
 
@@ -741,6 +835,7 @@ const A_HUNDRED_LINES_IN_A_SECTION_SECTIONS: &[SectionCase] = &[SectionCase {
     port: 30000,
     proto: Proto::Avp,
     address: PROXY,
+    mux: false,
     keys: Keys::None,
 }];
 
@@ -1041,6 +1136,14 @@ pub(crate) const FAMILIES_AND_NAMES: &[Case] = &[
         replace_session: false,
         sections: ATTRIBUTES_WITHOUT_VALUES_SECTIONS,
         edited: ATTRIBUTES_WITHOUT_VALUES_EDITED,
+    },
+    Case {
+        text: SHARED_PORTS,
+        address: PROXY,
+        replace_origin: false,
+        replace_session: false,
+        sections: SHARED_PORTS_SECTIONS,
+        edited: SHARED_PORTS_EDITED,
     },
 ];
 

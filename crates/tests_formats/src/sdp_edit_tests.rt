@@ -23,6 +23,7 @@ pub(crate) struct SectionCase {
     pub(crate) port: u16,
     pub(crate) proto: Proto,
     pub(crate) address: Host,
+    pub(crate) mux: bool,
     pub(crate) keys: Keys,
 }
 
@@ -59,6 +60,7 @@ fn section_edit(case: &SectionCase) -> SectionEdit
         port: case.port,
         proto: case.proto,
         address: case.address,
+        mux: case.mux,
         crypto,
     }
 }

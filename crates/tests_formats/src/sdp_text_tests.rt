@@ -161,6 +161,7 @@ const SECTIONS: &[(&[u8], usize, Section)] = &[
             rtcp_port: 6001,
             rtcp_address: OFFER_ADDRESS,
             hold: false,
+            mux: false,
         },
     ),
     (
@@ -174,6 +175,7 @@ const SECTIONS: &[(&[u8], usize, Section)] = &[
             rtcp_port: 6001,
             rtcp_address: OFFER_ADDRESS,
             hold: false,
+            mux: false,
         },
     ),
     (
@@ -187,6 +189,7 @@ const SECTIONS: &[(&[u8], usize, Section)] = &[
             rtcp_port: 6001,
             rtcp_address: OFFER_ADDRESS,
             hold: false,
+            mux: false,
         },
     ),
     (
@@ -200,6 +203,7 @@ const SECTIONS: &[(&[u8], usize, Section)] = &[
             rtcp_port: 6001,
             rtcp_address: OWN_ADDRESS,
             hold: false,
+            mux: false,
         },
     ),
     (
@@ -213,6 +217,7 @@ const SECTIONS: &[(&[u8], usize, Section)] = &[
             rtcp_port: 9,
             rtcp_address: OFFER_ADDRESS,
             hold: false,
+            mux: false,
         },
     ),
     (
@@ -226,6 +231,7 @@ const SECTIONS: &[(&[u8], usize, Section)] = &[
             rtcp_port: 7,
             rtcp_address: Some(Host::V4([0; 4])),
             hold: true,
+            mux: false,
         },
     ),
     (
@@ -239,6 +245,7 @@ const SECTIONS: &[(&[u8], usize, Section)] = &[
             rtcp_port: 7,
             rtcp_address: Some(Host::V6([0; 16])),
             hold: true,
+            mux: false,
         },
     ),
     (
@@ -252,6 +259,7 @@ const SECTIONS: &[(&[u8], usize, Section)] = &[
             rtcp_port: 9,
             rtcp_address: OWN_ADDRESS,
             hold: false,
+            mux: false,
         },
     ),
     (
@@ -265,6 +273,7 @@ const SECTIONS: &[(&[u8], usize, Section)] = &[
             rtcp_port: 9,
             rtcp_address: OFFER_ADDRESS,
             hold: false,
+            mux: false,
         },
     ),
     (
@@ -278,6 +287,7 @@ const SECTIONS: &[(&[u8], usize, Section)] = &[
             rtcp_port: 4001,
             rtcp_address: None,
             hold: false,
+            mux: false,
         },
     ),
     (
@@ -291,6 +301,35 @@ const SECTIONS: &[(&[u8], usize, Section)] = &[
             rtcp_port: 1,
             rtcp_address: None,
             hold: false,
+            mux: false,
+        },
+    ),
+    (
+        b"v=0\na=rtcp-mux\nm=a 0 RTP/AVP 0\na=rtcp-mux:x\na=rtcp-mux-only\nm=a 0 RTP/AVP 0\na=rtcp-mux\n",
+        0,
+        Section {
+            line: 3,
+            port: 0,
+            proto: Proto::Avp,
+            address: None,
+            rtcp_port: 1,
+            rtcp_address: None,
+            hold: false,
+            mux: false,
+        },
+    ),
+    (
+        b"v=0\nm=a 0 RTP/AVP 0\ni=a\na=rtcp-mux\na=mid:0\nm=a 0 RTP/AVP 0\n",
+        0,
+        Section {
+            line: 2,
+            port: 0,
+            proto: Proto::Avp,
+            address: None,
+            rtcp_port: 1,
+            rtcp_address: None,
+            hold: false,
+            mux: true,
         },
     ),
 ];

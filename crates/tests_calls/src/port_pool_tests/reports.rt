@@ -14,6 +14,7 @@ fn report(side: Side, port: u16) -> LegReport {
         rtp_sent: 2,
         rtcp_accepted: 3,
         rtcp_sent: 4,
+        report: None,
     }
 }
 
