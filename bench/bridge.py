@@ -1,12 +1,10 @@
-"""Bridges a plain telephone and an SRTP one over the built program, by an SRTP of its own (Python's cryptography).
+"""Bridges a plain telephone and an SRTP one over the built program, by an SRTP of its own (srtp.py).
 
 Usage: bench/bridge.py [PACKETS [PLAIN SECURE]]. PLAIN and SECURE are the families of the two telephones, IP4 or IP6. It starts the program on the loopback, offers and answers a call with RTP/AVP on one side and
 RTP/SAVP on the other, sends PACKETS packets each way, one at a time, and compares each; then a packet with a wrong tag and a
-replay, which must not come through.
+replay, which must not come through. Variable: RTPENGINE, the program.
 """
 import base64
-import hashlib
-import hmac
 import os
 import re
 import socket
@@ -15,49 +13,12 @@ import subprocess
 import sys
 import time
 
-from cryptography.hazmat.primitives.ciphers import Cipher, algorithms, modes
+from srtp import Srtp
 
 TOP = os.path.dirname(os.path.dirname(os.path.abspath(__file__)))
 PACKETS = int(sys.argv[1]) if len(sys.argv) > 1 else 100
 FAMILIES = {"IP4": (socket.AF_INET, "127.0.0.1"), "IP6": (socket.AF_INET6, "::1")}
 PLAIN, SECURE = (sys.argv[2:4] + ["IP4", "IP4"])[:2]
-
-
-def keystream(key, counter, length):
-    """AES-128 in counter mode (RFC 3711 section 4.1.1)."""
-    encryptor = Cipher(algorithms.AES(key), modes.CTR(counter.to_bytes(16, "big"))).encryptor()
-    return encryptor.update(bytes(length))
-
-
-def derive(key, salt, label, length):
-    """A session key at rate 0 (RFC 3711 section 4.3)."""
-    return keystream(key, (int.from_bytes(salt, "big") ^ (label << 48)) << 16, length)
-
-
-class Srtp:
-    """AES_CM_128_HMAC_SHA1_80 with roll-over counter 0."""
-
-    def __init__(self, master):
-        key, salt = master[:16], master[16:30]
-        self.cipher, self.mac, self.salt = (derive(key, salt, label, n) for label, n in ((0, 16), (1, 20), (2, 14)))
-
-    def crypt(self, packet):
-        index = struct.unpack(">H", packet[2:4])[0]
-        ssrc = struct.unpack(">I", packet[8:12])[0]
-        counter = (int.from_bytes(self.salt, "big") << 16) ^ (ssrc << 64) ^ (index << 16)
-        stream = keystream(self.cipher, counter, len(packet) - 12)
-        return packet[:12] + bytes(a ^ b for a, b in zip(packet[12:], stream))
-
-    def tag(self, packet):
-        return hmac.new(self.mac, packet + bytes(4), hashlib.sha1).digest()[:10]
-
-    def protect(self, packet):
-        sealed = self.crypt(packet)
-        return sealed + self.tag(sealed)
-
-    def unprotect(self, datagram):
-        assert self.tag(datagram[:-10]) == datagram[-10:], "tag"
-        return self.crypt(datagram[:-10])
 
 
 def bound(family, port):
@@ -93,7 +54,7 @@ def comes_through(datagram):
         return None
 
 
-server = subprocess.Popen([f"{TOP}/crates/rtpengine/out/rtpengine", "serve", "--interface=127.0.0.1", "--interface6=::1",
+server = subprocess.Popen([os.environ.get("RTPENGINE") or f"{TOP}/crates/rtpengine/out/rtpengine", "serve", "--interface=127.0.0.1", "--interface6=::1",
                            "--listen-ng=127.0.0.1:22347", "--port-min=31000", "--port-max=31099"],
                           stdout=subprocess.DEVNULL)
 try:

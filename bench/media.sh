@@ -1,5 +1,6 @@
 #!/usr/bin/env bash
-# Loads this program and a peer (Sipwise's rtpengine, in user space) with the same media on 127.0.0.1, in turn, and prints their ratios.
+# Loads this program and a peer (Sipwise's rtpengine, in user space), or an earlier program of ours, with the same media on 127.0.0.1, in turn, and
+# prints their ratios.
 # shellcheck disable=SC2119,SC2120 # the modes take numbers where they are called by name
 set -eu
 usage() {
@@ -26,7 +27,8 @@ figures in bench/results and puts them into docs/PERFORMANCE.md. Variables, with
 
   RTPENGINE   our program (crates/rtpengine/out/rtpengine of this clone)
   PEER        the peer (/usr/bin/rtpengine, of Debian's rtpengine-daemon); where it isn't there, ours is measured alone
-  PROGRAMS    which are measured, in this order (ours peer); relay is the bare relay, for plain calls
+  BEFORE      an earlier program of ours, measured where PROGRAMS names it; the cases of such a run end in "since"
+  PROGRAMS    which are measured, in this order (ours peer); before is BEFORE, relay the bare relay, for plain calls
   KINDS       of calls (plain secure)
   ROUNDS      how often each program is measured (3)
   THREADS     --num-threads of both programs (4)
@@ -39,7 +41,7 @@ END
 }
 
 top=$(cd "$(dirname "$0")/.." && pwd)
-ours=${RTPENGINE:-$top/crates/rtpengine/out/rtpengine} peer=${PEER:-/usr/bin/rtpengine}
+ours=${RTPENGINE:-$top/crates/rtpengine/out/rtpengine} peer=${PEER:-/usr/bin/rtpengine} before=${BEFORE:-}
 programs=${PROGRAMS:-ours peer} kinds=${KINDS:-plain secure} rounds=${ROUNDS:-3} threads=${THREADS:-4} priority=${PRIORITY:-0}
 senders=${SENDERS:-$(($(nproc) < 4 ? 1 : 2))}
 control=22260 first=10000 last=19999 # below the ports that the system gives to clients
@@ -71,6 +73,7 @@ start() {
     local program=$1 words=("--interface=127.0.0.1" "--listen-ng=127.0.0.1:$control" "--port-min=$first" "--port-max=$last" "--num-threads=$2")
     case $program in
     ours) set -- "$ours" serve ${six:+--interface6=$six} "${words[@]}" ;;
+    before) set -- "$before" serve ${six:+--interface6=$six} "${words[@]}" ;;
     peer) set -- "$peer" --config-file=none --table=-1 --foreground --log-stderr --log-level=4 --delete-delay=0 "${words[@]}" ${six:+--interface=$six} ;;
     relay) set -- "$room/relay" "$first" "$3" ;;
     esac
@@ -109,10 +112,11 @@ measure() {
 # in_turn CASE CALLS MODE WORD...: the same load on each program, in turn.
 in_turn() {
     local case=$1 calls=$2 program
+    [[ $programs != *before* ]] || case+=" since"
     shift 2
     for _ in $(seq "$rounds"); do
         for program in $programs; do
-            if [ "$program" = relay ] && [[ $case != *plain ]]; then continue; fi
+            if [ "$program" = relay ] && [[ $case != *plain* ]]; then continue; fi
             measure "$case" "$program" "$threads" "$calls" "$@"
         done
     done
@@ -237,20 +241,22 @@ table() {
         x = median(name, program, figure)
         return sprintf(x >= 1000 ? "%.0f" : x >= 10 ? "%.1f" : "%.3f", x)
     }
-    function row(name, figure, text,    a, b) {
-        a = median(name, "ours", figure); b = median(name, "peer", figure)
+    function row(name, figure, text,    a, b, c) {
+        a = median(name, "ours", figure); b = median(name, "peer", figure); c = median(name, "before", figure)
         printf "%-18s %-30s %10s %10s %10s", name, text, shown(name, "ours", figure), shown(name, "peer", figure), (a > 0 && b > 0) ? sprintf("%.2f", a / b) : "-"
+        if (before) printf " %10s %11s", shown(name, "before", figure), (c > 0 && a > 0) ? sprintf("%.2f", a / c) : "-"
         printf relay ? " %10s\n" : "\n", shown(name, "relay", figure)
     }
     {
         if (!($1 in seen)) { seen[$1] = 1; if ($1 ~ /^lanes/) lanes[++lane_count] = $1; else names[++count] = $1 }
         rounds[$1, $2]++
         if ($1 !~ /^lanes/ && $2 == "relay") relay = 1
+        if ($2 == "before") before = 1
         words = split($3, word, " ")
         for (i = 1; i <= words; i++) { split(word[i], pair, "="); value[$1, $2, pair[1], rounds[$1, $2]] = pair[2] }
     }
     END {
-        if (count) printf relay ? "\n%-18s %-30s %10s %10s %10s %10s\n" : "\n%-18s %-30s %10s %10s %10s\n", "", "", "ours", "peer", "ours/peer", "relay"
+        if (count) printf "\n%-18s %-30s %10s %10s %10s%s%s\n", "", "", "ours", "peer", "ours/peer", before ? "     before ours/before" : "", relay ? "      relay" : ""
         for (k = 1; k <= count; k++) {
             name = names[k]
             if (name ~ /^setup/) { row(name, "setups", "set-ups a second"); row(name, "setup_p50", "set-up, p50, us"); row(name, "setup_p99", "set-up, p99, us") }
@@ -297,6 +303,10 @@ ulimit -n "$(ulimit -Hn)"
 if [[ $programs == *peer* ]] && [ ! -x "$peer" ]; then
     tell "there is no $peer (Debian: apt-get install rtpengine-daemon): ours is measured alone"
     programs=${programs/peer/}
+fi
+if [[ $programs == *before* ]] && [ ! -x "$before" ]; then
+    tell "there is no earlier program: name it by BEFORE"
+    exit 3
 fi
 if [[ $programs == *ours* || $mode == lanes || $mode == neighbours ]] && [ ! -x "$ours" ]; then
     tell "there is no $ours: run tools/build-program, or name the program by RTPENGINE"
