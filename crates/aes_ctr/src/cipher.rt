@@ -41,6 +41,14 @@ impl Cipher {
         }
     }
 
+    /// The key that the cipher is under.
+    pub fn key(&self) -> [u8; 16]
+        ensures key { result ≡ self.now }
+        ensures length { length self.now ≡ 16 }
+    {
+        self.key
+    }
+
     /// The columns of a round's key.
     fn round_key(&self, round: usize) -> [u32; 4]
         requires { round < 11 }

@@ -1,2 +1,3 @@
 pub mod Lessons
 pub mod Learners
+pub mod SavedLearners

@@ -1,8 +1,10 @@
-ghost use Rattle.std.specs.Prelude.{◌≡◌, List, [], ◌∷◌, Some};
+ghost use Rattle.std.specs.Prelude.{◌≡◌, List, [], ◌∷◌, Some, IfNone, IfSome};
 ghost use Rattle.endpoint_learn.specs.Lessons as lessons;
 ghost use Rattle.endpoint_learn.specs.Lessons.{LearnStep, Signalled, Heard, is_wrong_after, endpoint_after};
 ghost use Rattle.endpoint_learn.specs.Learners.{LearnerStandsFor, judge_of};
+ghost use Rattle.endpoint_learn.specs.declared.learner.Learner.{Learner};
 
+use crate::saved::{ADDR_SAVED, addr_bytes, addr_of, joined, part};
 use relay_outside::{Addr, Flags};
 
 /// Whether a source may send.
@@ -44,6 +46,11 @@ fn taught(flags: Flags, learned: Option<Addr>, source: Addr) -> Option<Addr>
 }
 
 impl Learner {
+    ghost use Rattle.endpoint_learn.specs.SavedLearners.{FitsLearner, saved_learner};
+
+    /// The bytes of a saved learner.
+    pub const SAVED: usize = 41;
+
     /// A learner that was signalled this address with these flags.
     pub fn new(signalled: Addr, flags: Flags) -> Learner
         ensures { LearnerStandsFor result (Signalled signalled flags ∷ []) }
@@ -94,6 +101,52 @@ impl Learner {
         match self.learned {
             Some(source) if !self.flags.asymmetric => source,
             _ => self.signalled,
+        }
+    }
+
+    /// The learner as bytes: the signalled address, the flags `strict source`, `media handover` and `asymmetric`, each as 0
+    /// or 1, and the learned source, or 19 zeros where none was learned. An address is the version of its protocol, 16
+    /// bytes, of which those of version 4 stand in front of 12 zeros, and the port, its higher byte first.
+    pub fn save(self) -> [u8; Learner::SAVED]
+        ensures { FitsLearner self × (result ≡ saved_learner self) }
+    {
+        let learned = match self.learned {
+            None => [0; ADDR_SAVED],
+            Some(source) => addr_bytes(source),
+        };
+        joined(addr_bytes(self.signalled), self.flags, learned)
+    }
+
+    /// The learner that is saved as these bytes, and None where none is.
+    pub fn load(bytes: &[u8; Learner::SAVED]) -> Option<Learner>
+        ensures some { IfSome result (λ learner. FitsLearner learner × (saved_learner learner ≡ bytes.now)) }
+        ensures none { IfNone result ((learner : Learner) → FitsLearner learner → saved_learner learner ≡ bytes.now → ⊥) }
+    {
+        let learner = Learner::read(bytes);
+        if learner.save() == *bytes {
+            Some(learner)
+        } else {
+            None
+        }
+    }
+
+    /// The learner that is saved as these bytes, where one is.
+    fn read(bytes: &[u8; Learner::SAVED]) -> Learner
+        ensures { (learner : Learner) → FitsLearner learner → saved_learner learner ≡ bytes.now → result ≡ learner }
+    {
+        let learned = if bytes[22] == 0 {
+            None
+        } else {
+            Some(addr_of(&part(bytes, 22)))
+        };
+        Learner {
+            signalled: addr_of(&part(bytes, 0)),
+            flags: Flags {
+                strict: bytes[19] == 1,
+                handover: bytes[20] == 1,
+                asymmetric: bytes[21] == 1,
+            },
+            learned,
         }
     }
 }

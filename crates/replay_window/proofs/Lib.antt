@@ -1,3 +1,4 @@
 pub mod Bits
 pub mod Nearest
 pub mod Noting
+pub mod SavedParts

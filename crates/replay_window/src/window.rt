@@ -1,7 +1,9 @@
 ghost use Rattle.std.specs.Prelude.{◌≡◌, ◌<◌, ◌^◌};
-ghost use Rattle.std.specs.Option.{ForSome};
+ghost use Rattle.std.specs.Prelude.{IfNone, IfSome};
+ghost use Rattle.std.specs.Option.{ForNone, ForSome};
 
 use crate::answers::{Fresh, Near};
+use crate::saved::{read, written};
 
 /// How many indices, counted from the greatest downwards, a window tells apart.
 const SIZE: u64 = 128;
@@ -23,6 +25,7 @@ pub struct Window {
     /// Bit `k` says whether the index that lies `k` below the greatest was noted.
     bits: u128,
     ghost in_range: { ForSome greatest (λ index. index < 2 ^ 48) },
+    ghost unused: { ForNone greatest (bits ≡ 0) },
 }
 
 impl Window {
@@ -30,6 +33,10 @@ impl Window {
     ghost use Rattle.replay_window.specs.declared.answers.Fresh.TheVariants.{Yes};
     ghost use Rattle.replay_window.specs.Indices.{near, fresh};
     ghost use Rattle.replay_window.specs.Windows.{WindowStandsFor, IsIndex};
+    ghost use Rattle.replay_window.specs.SavedWindows.{FitsWindow, saved_window};
+
+    /// The bytes of a saved window.
+    pub const SAVED: usize = 25;
 
     /// A window in which nothing was noted.
     pub fn new() -> Window
@@ -97,6 +104,36 @@ impl Window {
                 }
             }
         }
+    }
+
+    /// The window as bytes: whether there is a greatest index, as 0 or 1, the index in 8 bytes, which are 0 where there is
+    /// none, and the bits in 16, the highest byte first.
+    pub fn save(&self) -> [u8; Window::SAVED]
+        ensures { FitsWindow self.now × (result ≡ saved_window self.now) }
+    {
+        match self.greatest {
+            None => written(0, 0, self.bits),
+            Some(index) => written(1, index, self.bits),
+        }
+    }
+
+    /// The window that is saved as these bytes, and None where none is: the flag is neither 0 nor 1, the index is 2^48 or
+    /// more, or bytes aren't 0 where there is no greatest index.
+    pub fn load(bytes: &[u8; Window::SAVED]) -> Option<Window>
+        ensures some { IfSome result (λ window. FitsWindow window × (saved_window window ≡ bytes.now)) }
+        ensures none { IfNone result ((window : Window) → FitsWindow window → saved_window window ≡ bytes.now → ⊥) }
+    {
+        let (flag, index, bits) = read(bytes);
+        if flag == 0 && index == 0 && bits == 0 {
+            return Some(Window::new());
+        }
+        if flag == 1 && index < CYCLE * CYCLES {
+            return Some(Window {
+                greatest: Some(index),
+                bits,
+            });
+        }
+        None
     }
 }
 

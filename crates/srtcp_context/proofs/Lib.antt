@@ -3,3 +3,4 @@ pub mod Buffers
 pub mod Tallying
 pub mod Judging
 pub mod Sending
+pub mod SavedContexts

@@ -4,3 +4,5 @@ pub mod OutboundPackets
 pub mod Sessions
 pub mod Counts
 pub mod Contexts
+pub mod SavedCounts
+pub mod SavedRtcp

@@ -1,6 +1,6 @@
 ghost use Rattle.std.specs.Prelude.{◌≤◌};
 
-use srtp_sources::MOST_SOURCES;
+use srtp_sources::{MOST_SOURCES, load_words, part_at, put_part, save_words};
 
 /// How many packets each source has sent under one key. It can't be cloned.
 #[derive(Drop)]
@@ -30,6 +30,9 @@ impl Counts {
     ghost use Rattle.srtp_sources.specs.Notes.{Note, has_room};
     ghost use Rattle.srtcp_context.specs.OutboundPackets.{next_index};
     ghost use Rattle.srtcp_context.specs.Counts.{CountsFor, IsSenderPlaced, can_count};
+    ghost use Rattle.std.specs.Prelude.{IfNone};
+    ghost use Rattle.srtcp_context.specs.declared.counts.Counts.{Counts};
+    ghost use Rattle.srtcp_context.specs.SavedCounts.{FitsCounts, saved_counts};
 
     /// A table without a source.
     pub(crate) fn new() -> Counts
@@ -93,6 +96,32 @@ impl Counts {
             Some(place) => self.set(place, next + 1),
             None => self.enter(sender.ssrc, next + 1),
         }
+    }
+
+    /// The saved form, with all that the table keeps.
+    pub(crate) fn save(self) -> [u8; 257]
+        ensures fits { FitsCounts self }
+        ensures saved { result ≡ saved_counts self }
+    {
+        let mut bytes = [0; 257];
+        put_part(&mut bytes, 0, &[self.count as u8]);
+        put_part(&mut bytes, 1, &save_words(&self.ssrcs));
+        put_part(&mut bytes, 129, &save_words(&self.sent));
+        bytes
+    }
+
+    /// The table of a saved form; None where it is that of no table.
+    pub(crate) fn load(bytes: &[u8; 257]) -> Option<Counts>
+        ensures some { IfSome result (λ table. FitsCounts table × (saved_counts table ≡ bytes.now)) }
+        ensures none { IfNone result ((table : Counts) → FitsCounts table → saved_counts table ≡ bytes.now → ⊥) }
+    {
+        let count = usize::from(bytes[0]);
+        if count > MOST_SOURCES {
+            return None;
+        }
+        let ssrcs = load_words(&part_at(bytes, 1));
+        let sent = load_words(&part_at(bytes, 129));
+        Some(Counts { ssrcs, sent, count })
     }
 
     // Sets the count of the source at `place`.

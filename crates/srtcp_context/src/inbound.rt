@@ -7,7 +7,7 @@ use crate::session::{RtcpSession, read_word};
 use relay_outside::KeyAndSalt;
 use rtp_packet::rtcp;
 use srtp_keys::UnprotectFault;
-use srtp_sources::Sources;
+use srtp_sources::{Sources, part_at, put_part};
 
 /// The bytes of the shortest SRTCP packet: 8 that stay clear, 4 with the index, 10 of the tag.
 const SHORTEST: usize = 22;
@@ -24,6 +24,12 @@ pub struct InRtcp {
 
 impl InRtcp {
     ghost use Rattle.srtcp_context.specs.Contexts.{InRtcpFor, OpensRtcpTo};
+    ghost use Rattle.std.specs.Prelude.{IfSome, IfNone};
+    ghost use Rattle.srtcp_context.specs.declared.inbound.InRtcp.{InRtcp};
+    ghost use Rattle.srtcp_context.specs.SavedRtcp.{FitsInRtcp, saved_in_rtcp};
+
+    /// The bytes of the saved form.
+    pub const SAVED: usize = 979;
 
     /// The context of a master key of 16 bytes with a master salt of 14 after it, which has taken no packet.
     pub fn new(key: &KeyAndSalt) -> InRtcp
@@ -33,6 +39,29 @@ impl InRtcp {
             session: RtcpSession::new(key),
             sources: Sources::new(),
         }
+    }
+
+    /// The saved form: the keys of the session, and the indices of each source. It has no master key in it, and is as secret as
+    /// one.
+    pub fn save(self) -> [u8; InRtcp::SAVED]
+        ensures fits { FitsInRtcp self }
+        ensures saved { result ≡ saved_in_rtcp self }
+    {
+        let InRtcp { session, sources } = self;
+        let mut bytes = [0; InRtcp::SAVED];
+        put_part(&mut bytes, 0, &session.save());
+        put_part(&mut bytes, 50, &sources.save());
+        bytes
+    }
+
+    /// The context of a saved form; None where it is that of no context.
+    pub fn load(bytes: &[u8; InRtcp::SAVED]) -> Option<InRtcp>
+        ensures some { IfSome result (λ context. FitsInRtcp context × (saved_in_rtcp context ≡ bytes.now)) }
+        ensures none { IfNone result ((context : InRtcp) → FitsInRtcp context → saved_in_rtcp context ≡ bytes.now → ⊥) }
+    {
+        let session = RtcpSession::load(&part_at(bytes, 0));
+        let sources = Sources::load(&part_at(bytes, 50))?;
+        Some(InRtcp { session, sources })
     }
 
     /// Checks and opens in place the packet in the buffer's first `len` bytes, and returns the length of the plain packet.

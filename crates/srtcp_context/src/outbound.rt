@@ -7,6 +7,7 @@ use crate::counts::Counts;
 use crate::session::RtcpSession;
 use rtp_packet::rtcp;
 use srtp_keys::{ProtectFault, RtcpKey};
+use srtp_sources::{part_at, put_part};
 
 /// One more than the greatest index.
 const INDICES: u32 = 2_147_483_648;
@@ -20,6 +21,12 @@ pub struct OutRtcp {
 
 impl OutRtcp {
     ghost use Rattle.srtcp_context.specs.Contexts.{OutRtcpFor, WrapsRtcpTo};
+    ghost use Rattle.std.specs.Prelude.{IfSome, IfNone};
+    ghost use Rattle.srtcp_context.specs.declared.outbound.OutRtcp.{OutRtcp};
+    ghost use Rattle.srtcp_context.specs.SavedRtcp.{FitsOutRtcp, saved_out_rtcp};
+
+    /// The bytes of the saved form.
+    pub const SAVED: usize = 307;
 
     /// The context of a drawn key, which has protected no packet.
     pub fn new(key: RtcpKey) -> OutRtcp
@@ -29,6 +36,29 @@ impl OutRtcp {
             session: RtcpSession::new(&key.into_bytes()),
             counts: Counts::new(),
         }
+    }
+
+    /// The saved form, which spends the context: the keys of the session, and how many packets each source has sent. It has no
+    /// master key in it, and is as secret as one.
+    pub fn save(self) -> [u8; OutRtcp::SAVED]
+        ensures fits { FitsOutRtcp self }
+        ensures saved { result ≡ saved_out_rtcp self }
+    {
+        let OutRtcp { session, counts } = self;
+        let mut bytes = [0; OutRtcp::SAVED];
+        put_part(&mut bytes, 0, &session.save());
+        put_part(&mut bytes, 50, &counts.save());
+        bytes
+    }
+
+    /// The context of a saved form; None where it is that of no context.
+    pub fn load(bytes: &[u8; OutRtcp::SAVED]) -> Option<OutRtcp>
+        ensures some { IfSome result (λ context. FitsOutRtcp context × (saved_out_rtcp context ≡ bytes.now)) }
+        ensures none { IfNone result ((context : OutRtcp) → FitsOutRtcp context → saved_out_rtcp context ≡ bytes.now → ⊥) }
+    {
+        let session = RtcpSession::load(&part_at(bytes, 0));
+        let counts = Counts::load(&part_at(bytes, 50))?;
+        Some(OutRtcp { session, counts })
     }
 
     /// Protects in place the packet in the buffer's first `len` bytes, and returns the length of the protected packet and

@@ -8,7 +8,7 @@ use aes_ctr::Cipher;
 use relay_outside::KeyAndSalt;
 use rtp_packet::Half;
 use srtp_keys::{MacKey, Session, derive, same_tags};
-use srtp_sources::packet_counter;
+use srtp_sources::{load_keys, packet_counter, save_keys};
 
 /// The bytes that stay clear: the first word and the sender's SSRC.
 const CLEAR: usize = 8;
@@ -49,12 +49,34 @@ pub(crate) fn read_word(bytes: &[u8]) -> u32
 
 impl RtcpSession {
     ghost use Rattle.srtcp_context.specs.Sessions.{RtcpSessionFor};
+    ghost use Rattle.srtcp_context.specs.SavedRtcp.{FitsRtcpSession, saved_rtcp_session};
 
     /// The session of a master key of 16 bytes with a master salt of 14 after it.
     pub(crate) fn new(master: &KeyAndSalt) -> RtcpSession
         ensures { RtcpSessionFor master.now result }
     {
         let Session { cipher, auth, salt } = derive(master, Half::Rtcp);
+        RtcpSession {
+            cipher,
+            mac: MacKey::new(&auth),
+            salt,
+        }
+    }
+
+    /// The saved form.
+    pub(crate) fn save(&self) -> [u8; 50]
+        ensures fits { FitsRtcpSession self.now }
+        ensures saved { result ≡ saved_rtcp_session self.now }
+    {
+        save_keys(&self.cipher, &self.mac, &self.salt)
+    }
+
+    /// The session of a saved form.
+    pub(crate) fn load(bytes: &[u8; 50]) -> RtcpSession
+        ensures fits { FitsRtcpSession result }
+        ensures saved { saved_rtcp_session result ≡ bytes.now }
+    {
+        let Session { cipher, auth, salt } = load_keys(bytes);
         RtcpSession {
             cipher,
             mac: MacKey::new(&auth),

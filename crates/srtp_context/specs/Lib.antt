@@ -3,3 +3,4 @@ pub mod InboundPackets
 pub mod OutboundPackets
 pub mod Sessions
 pub mod Contexts
+pub mod SavedRtp

@@ -4,6 +4,7 @@ ghost use Rattle.sdes_lines.specs.declared.crypto_line.Suite.{Suite};
 ghost use Rattle.srtp_sources.specs.Notes.{Note};
 ghost use Rattle.srtp_context.specs.InboundPackets.{opening};
 
+use crate::saved::{load_rtp, save_rtp};
 use crate::session::{RtpSession, tag_size};
 use relay_outside::KeyAndSalt;
 use replay_window::Near;
@@ -21,6 +22,12 @@ pub struct InRtp {
 
 impl InRtp {
     ghost use Rattle.srtp_context.specs.Contexts.{InRtpFor, OpensRtpTo};
+    ghost use Rattle.std.specs.Prelude.{IfSome, IfNone};
+    ghost use Rattle.srtp_context.specs.declared.inbound.InRtp.{InRtp};
+    ghost use Rattle.srtp_context.specs.SavedRtp.{FitsInRtp, saved_in_rtp};
+
+    /// The bytes of the saved form.
+    pub const SAVED: usize = 980;
 
     /// The context of a master key of 16 bytes with a master salt of 14 after it, which has taken no packet.
     pub fn new(key: &KeyAndSalt, suite: Suite) -> InRtp
@@ -30,6 +37,25 @@ impl InRtp {
             session: RtpSession::new(key, suite),
             sources: Sources::new(),
         }
+    }
+
+    /// The saved form: the keys of the session, the suite, and the indices of each source. It has no master key in it, and is as
+    /// secret as one.
+    pub fn save(self) -> [u8; InRtp::SAVED]
+        ensures fits { FitsInRtp self }
+        ensures saved { result ≡ saved_in_rtp self }
+    {
+        let InRtp { session, sources } = self;
+        save_rtp(&session, sources)
+    }
+
+    /// The context of a saved form; None where it is that of no context.
+    pub fn load(bytes: &[u8; InRtp::SAVED]) -> Option<InRtp>
+        ensures some { IfSome result (λ context. FitsInRtp context × (saved_in_rtp context ≡ bytes.now)) }
+        ensures none { IfNone result ((context : InRtp) → FitsInRtp context → saved_in_rtp context ≡ bytes.now → ⊥) }
+    {
+        let (session, sources) = load_rtp(bytes)?;
+        Some(InRtp { session, sources })
     }
 
     /// Checks and opens in place the packet in the buffer's first `len` bytes, and returns the length of the plain packet.

@@ -4,6 +4,7 @@ ghost use Rattle.sdes_lines.specs.declared.crypto_line.Suite.{Suite};
 ghost use Rattle.srtp_sources.specs.Notes.{Note};
 ghost use Rattle.srtp_context.specs.OutboundPackets.{wrapping};
 
+use crate::saved::{load_rtp, save_rtp};
 use crate::session::RtpSession;
 use replay_window::{Fresh, Near};
 use rtp_packet::{RtpHead, rtp};
@@ -20,6 +21,12 @@ pub struct OutRtp {
 
 impl OutRtp {
     ghost use Rattle.srtp_context.specs.Contexts.{OutRtpFor, WrapsRtpTo};
+    ghost use Rattle.std.specs.Prelude.{IfSome, IfNone};
+    ghost use Rattle.srtp_context.specs.declared.outbound.OutRtp.{OutRtp};
+    ghost use Rattle.srtp_context.specs.SavedRtp.{FitsOutRtp, saved_out_rtp};
+
+    /// The bytes of the saved form.
+    pub const SAVED: usize = 980;
 
     /// The context of a drawn key, which has protected no packet.
     pub fn new(key: RtpKey, suite: Suite) -> OutRtp
@@ -29,6 +36,25 @@ impl OutRtp {
             session: RtpSession::new(&key.into_bytes(), suite),
             sources: Sources::new(),
         }
+    }
+
+    /// The saved form, which spends the context: the keys of the session, the suite, and the indices of each source. It has no
+    /// master key in it, and is as secret as one.
+    pub fn save(self) -> [u8; OutRtp::SAVED]
+        ensures fits { FitsOutRtp self }
+        ensures saved { result ≡ saved_out_rtp self }
+    {
+        let OutRtp { session, sources } = self;
+        save_rtp(&session, sources)
+    }
+
+    /// The context of a saved form; None where it is that of no context.
+    pub fn load(bytes: &[u8; OutRtp::SAVED]) -> Option<OutRtp>
+        ensures some { IfSome result (λ context. FitsOutRtp context × (saved_out_rtp context ≡ bytes.now)) }
+        ensures none { IfNone result ((context : OutRtp) → FitsOutRtp context → saved_out_rtp context ≡ bytes.now → ⊥) }
+    {
+        let (session, sources) = load_rtp(bytes)?;
+        Some(OutRtp { session, sources })
     }
 
     /// Protects in place the packet in the buffer's first `len` bytes, and returns the length of the protected packet and

@@ -10,7 +10,7 @@ use relay_outside::KeyAndSalt;
 use rtp_packet::{Half, RtpHead};
 use sdes_lines::Suite;
 use srtp_keys::{MacKey, Session, derive, same_tags};
-use srtp_sources::packet_counter;
+use srtp_sources::{load_keys, packet_counter, part_at, put_part, save_keys};
 
 /// How many bytes a suite's authentication tag has (RFC 3711 section 4.2, RFC 4568 section 6.2).
 pub(crate) fn tag_size(suite: Suite) -> usize
@@ -19,6 +19,20 @@ pub(crate) fn tag_size(suite: Suite) -> usize
     match suite {
         Suite::Tag80 => 10,
         Suite::Tag32 => 4,
+    }
+}
+
+ghost use Rattle.std.specs.Prelude.{IfSome, IfNone};
+
+// The suite whose authentication tag has this many bytes.
+fn suite_of(size: u8) -> Option<Suite>
+    ensures some { IfSome result (λ suite. tag_size suite ≡ size) }
+    ensures none { IfNone result ((suite : Suite) → tag_size suite ≡ size → ⊥) }
+{
+    match size {
+        10 => Some(Suite::Tag80),
+        4 => Some(Suite::Tag32),
+        _ => None,
     }
 }
 
@@ -37,6 +51,8 @@ pub(crate) struct RtpSession {
 
 impl RtpSession {
     ghost use Rattle.srtp_context.specs.Sessions.{SessionFor};
+    ghost use Rattle.srtp_context.specs.declared.session.RtpSession.{RtpSession};
+    ghost use Rattle.srtp_context.specs.SavedRtp.{FitsSession, saved_session};
 
     /// The session of a master key of 16 bytes with a master salt of 14 after it.
     pub(crate) fn new(master: &KeyAndSalt, suite: Suite) -> RtpSession
@@ -49,6 +65,36 @@ impl RtpSession {
             salt,
             suite,
         }
+    }
+
+    /// The saved form.
+    pub(crate) fn save(&self) -> [u8; 51]
+        ensures fits { FitsSession self.now }
+        ensures saved { result ≡ saved_session self.now }
+    {
+        let mut bytes = [0; 51];
+        put_part(
+            &mut bytes,
+            0,
+            &save_keys(&self.cipher, &self.mac, &self.salt),
+        );
+        put_part(&mut bytes, 50, &[tag_size(self.suite) as u8]);
+        bytes
+    }
+
+    /// The session of a saved form; None where it is that of no session.
+    pub(crate) fn load(bytes: &[u8; 51]) -> Option<RtpSession>
+        ensures some { IfSome result (λ session. FitsSession session × (saved_session session ≡ bytes.now)) }
+        ensures none { IfNone result ((session : RtpSession) → FitsSession session → saved_session session ≡ bytes.now → ⊥) }
+    {
+        let suite = suite_of(bytes[50])?;
+        let Session { cipher, auth, salt } = load_keys(&part_at(bytes, 0));
+        Some(RtpSession {
+            cipher,
+            mac: MacKey::new(&auth),
+            salt,
+            suite,
+        })
     }
 
     /// Enciphers or deciphers what stands after a packet's head.

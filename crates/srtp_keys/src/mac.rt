@@ -127,6 +127,14 @@ impl MacKey {
         }
     }
 
+    /// The bytes of the key.
+    pub fn key(&self) -> [u8; 20]
+        ensures key { result ≡ self.now }
+        ensures length { length self.now ≡ 20 }
+    {
+        self.key
+    }
+
     /// HMAC-SHA1 under this key of `text` followed by `tail`.
     pub fn tag(&self, text: &[u8], tail: &[u8]) -> [u8; 20]
         requires text_fits { length text.now < 2 ^ 32 }

@@ -1,5 +1,8 @@
 ghost use Rattle.std.specs.Prelude.{◌≤◌};
 
+use crate::parts::{part_at, put_part};
+use crate::windows::{load_windows, save_windows};
+use crate::words::{load_words, save_words};
 use replay_window::{Fresh, Near, Window};
 use srtp_keys::UnprotectFault;
 
@@ -38,6 +41,12 @@ impl Sources {
     ghost use Rattle.srtp_sources.specs.Notes.{Note, indices, has_room};
     ghost use Rattle.srtp_sources.specs.Tables.{SourcesFor, IsPlaced, can_note};
     ghost use Rattle.srtp_sources.specs.Judged.{judged_index};
+    ghost use Rattle.std.specs.Prelude.{IfNone};
+    ghost use Rattle.srtp_sources.specs.declared.sources.Sources.{Sources};
+    ghost use Rattle.srtp_sources.specs.SavedSources.{FitsSources, saved_sources};
+
+    /// The bytes of a table's saved form.
+    pub const SAVED: usize = 929;
 
     /// A table without a source.
     pub fn new() -> Sources
@@ -136,6 +145,36 @@ impl Sources {
         }
         self.note_for(source, index);
         Ok(())
+    }
+
+    /// The saved form, with all that the table keeps.
+    pub fn save(self) -> [u8; Sources::SAVED]
+        ensures fits { FitsSources self }
+        ensures saved { result ≡ saved_sources self }
+    {
+        let mut bytes = [0; Sources::SAVED];
+        put_part(&mut bytes, 0, &[self.count as u8]);
+        put_part(&mut bytes, 1, &save_words(&self.ssrcs));
+        put_part(&mut bytes, 129, &save_windows(&self.windows));
+        bytes
+    }
+
+    /// The table of a saved form; None where it is that of no table.
+    pub fn load(bytes: &[u8; Sources::SAVED]) -> Option<Sources>
+        ensures some { IfSome result (λ table. FitsSources table × (saved_sources table ≡ bytes.now)) }
+        ensures none { IfNone result ((table : Sources) → FitsSources table → saved_sources table ≡ bytes.now → ⊥) }
+    {
+        let count = usize::from(bytes[0]);
+        if count > MOST_SOURCES {
+            return None;
+        }
+        let ssrcs = load_words(&part_at(bytes, 1));
+        let windows = load_windows(&part_at(bytes, 129))?;
+        Some(Sources {
+            ssrcs,
+            windows,
+            count,
+        })
     }
 
     // Takes in a new source with its first index.
