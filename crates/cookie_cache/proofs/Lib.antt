@@ -8,3 +8,5 @@ pub mod Keys
 pub mod Kept
 pub mod Shown
 pub mod Keeping
+pub mod KeyForms
+pub mod Saving

@@ -3,3 +3,5 @@ pub mod Entries
 pub mod Oldest
 pub mod Caches
 pub mod Latest
+pub mod SavedReplies
+pub mod Saved

@@ -1,8 +1,11 @@
-ghost use Rattle.std.specs.Prelude.{◌≡◌, List, [], ◌∷◌, Some, None, IfOk, OnOk, MatchOption};
+ghost use Rattle.std.specs.Prelude.{◌≡◌, List, [], ◌∷◌, Some, None, IfOk, OnOk, MatchOption, IfSome, IfNone, length};
+ghost use Rattle.cookie_cache.specs.Entries.{all_shown};
 ghost use Rattle.cookie_cache.specs.Keepings.{Keeping, IsCookie};
+ghost use Rattle.cookie_cache.specs.SavedReplies.{HaveCacheKeys};
 
 use crate::kept_reply::KeptReply;
 use crate::key::{KeyBytes, LONGEST_KEY};
+use crate::saved::{CacheSaved, entries_of, replies_of};
 use indexmap::IndexMap;
 use ng_bencode::Text;
 use relay_outside::{Addr, OutOfMemory};
@@ -32,14 +35,17 @@ pub struct CookieCache {
     count: u64,
     /// When the last reply was kept, in milliseconds; at first 0.
     last_moment: u64,
+    ghost cache_keys: { HaveCacheKeys (all_shown entries.entries) },
+    ghost empty_key: { length next_key.items ≡ 0 },
 }
 
 impl CookieCache {
     ghost use Rattle.std.specs.Prelude.{drop, if◌then◌else◌};
     ghost use Rattle.cookie_cache.specs.Keepings.{kept, moment_used};
-    ghost use Rattle.cookie_cache.specs.Entries.{all_shown, cache_entries};
+    ghost use Rattle.cookie_cache.specs.Entries.{cache_entries};
     ghost use Rattle.cookie_cache.specs.Oldest.{without_gone};
     ghost use Rattle.cookie_cache.specs.Caches.{CacheStandsFor, HasSparePlace};
+    ghost use Rattle.cookie_cache.specs.Saved.{FitsCache, SavesCache, NoCacheSaves};
 
     /// An empty cache with capacity for the first few replies.
     pub fn new(alloc: Global) -> Result<CookieCache, OutOfMemory>
@@ -140,5 +146,46 @@ impl CookieCache {
         ensures { (keepings : List Keeping) → CacheStandsFor self.now keepings → all_shown result.now.entries ≡ cache_entries keepings }
     {
         &self.entries
+    }
+
+    /// What the cache keeps, without its spare room. `Err`: there was no memory for it.
+    pub fn into_saved(self) -> Result<CacheSaved, OutOfMemory>
+        ensures { IfOk result (λ saved. FitsCache self × SavesCache self saved) }
+    {
+        let CookieCache {
+            entries,
+            next_key,
+            count,
+            last_moment,
+        } = self;
+        let alloc = *next_key.allocator();
+        Ok(CacheSaved {
+            kept: replies_of(alloc, entries)?,
+            count,
+            last_moment,
+        })
+    }
+
+    /// The cache that was saved as this record, without spare room. `None`: no cache is saved so, since a cookie has no byte or
+    /// more than 255, or stands twice with the same source. `Err`: there was no memory for it.
+    pub fn from_saved(saved: CacheSaved) -> Result<Option<CookieCache>, OutOfMemory>
+        ensures loaded { IfOk result (λ r. IfSome r (λ cache. FitsCache cache × SavesCache cache saved)) }
+        ensures refused { IfOk result (λ r. IfNone r (NoCacheSaves saved)) }
+    {
+        let CacheSaved {
+            kept,
+            count,
+            last_moment,
+        } = saved;
+        let alloc = *kept.allocator();
+        let Some(entries) = entries_of(alloc, kept)? else {
+            return Ok(None);
+        };
+        Ok(Some(CookieCache {
+            entries,
+            next_key: Vec::new(alloc),
+            count,
+            last_moment,
+        }))
     }
 }

@@ -1,7 +1,9 @@
 //! The key of a kept reply, built in an array.
-ghost use Rattle.std.specs.Prelude.{◌≡◌, ◌+◌, ◌≤◌, ◌++◌, ℕ, List, [], length, take};
+ghost use Rattle.std.specs.Int.{w16, to_be_bytes};
+ghost use Rattle.std.specs.Prelude.{◌≡◌, ◌+◌, ◌≤◌, ◌++◌, ℕ, List, [], length, take, IsTrue};
 ghost use Rattle.cookie_cache.specs.Caches.{IsSource};
-ghost use Rattle.cookie_cache.specs.Entries.{cache_key};
+ghost use Rattle.cookie_cache.specs.Entries.{cache_key, host_bytes};
+ghost use Rattle.cookie_cache.specs.SavedReplies.{is_cache_key};
 
 use relay_outside::{Addr, Ip};
 use std::marker::Model;
@@ -14,6 +16,9 @@ const FAMILY_V4: u8 = 4;
 
 /// The same of version 6.
 const FAMILY_V6: u8 = 6;
+
+/// How many bytes the longest cookie has.
+const LONGEST_COOKIE: usize = 255;
 
 /// The bytes of a key: the family of the address that a command came from, the address, the port and the cookie.
 #[derive(Drop)]
@@ -71,4 +76,46 @@ impl KeyBytes {
     {
         &self.bytes[..self.len]
     }
+}
+
+/// Whether a reply to a command with this cookie from this source can be kept: the cookie has 1 to 255 bytes.
+pub(crate) fn is_cookie_of(source: Addr, cookie: &[u8]) -> bool
+    ensures key { result ≡ is_cache_key (cache_key source cookie.now) }
+    ensures short { IsTrue result → length cookie.now ≤ 255 }
+{
+    let _ = source;
+    !cookie.is_empty() && cookie.len() <= LONGEST_COOKIE
+}
+
+/// The source and the cookie of a key.
+pub(crate) fn parts_of(key: &[u8]) -> (Addr, &[u8])
+    requires { IsTrue (is_cache_key key.now) }
+    ensures { cache_key result.0 result.1.now ≡ key.now }
+{
+    let (ip, rest) = host_of(key);
+    let (port, cookie) = port_of(rest);
+    (Addr { ip, port }, cookie)
+}
+
+fn host_of(key: &[u8]) -> (Ip, &[u8])
+    requires { IsTrue (is_cache_key key.now) }
+    ensures bytes { host_bytes result.0 ++ result.1.now ≡ key.now }
+    ensures more { 2 ≤ length result.1.now }
+{
+    if key[0] == FAMILY_V4 {
+        let mut octets = [0; 4];
+        octets.copy_from_slice(&key[1..5]);
+        (Ip::V4(octets), &key[5..])
+    } else {
+        let mut octets = [0; 16];
+        octets.copy_from_slice(&key[1..17]);
+        (Ip::V6(octets), &key[17..])
+    }
+}
+
+fn port_of(bytes: &[u8]) -> (u16, &[u8])
+    requires { 2 ≤ length bytes.now }
+    ensures { to_be_bytes w16 result.0 ++ result.1.now ≡ bytes.now }
+{
+    (u16::from_be_bytes([bytes[0], bytes[1]]), &bytes[2..])
 }

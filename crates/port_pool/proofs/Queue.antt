@@ -7,11 +7,11 @@ use Rattle.histories.specs.Words.{has, numbers}
 use Rattle.port_pool.specs.Pools.{AreFree, AreFrom}
 
 -- the two facts of a pair that stands neither at the front nor in the rest
-first_differs : (b rest : Bool) → cond b true rest ≡ false → (b ≡ false) × (rest ≡ false)
+pub first_differs : (b rest : Bool) → cond b true rest ≡ false → (b ≡ false) × (rest ≡ false)
 first_differs true rest h = cc
 first_differs false rest h = (refl, h)
 
-turned : (p q : ℕ) → eqb p q ≡ false → eqb q p ≡ false
+pub turned : (p q : ℕ) → eqb p q ≡ false → eqb q p ≡ false
 turned p q h = ne_eqb q p (λ e. eqb-false p q h (sym e))
 
 not_among : (pairs : List ℕ) (p : ℕ) → has pairs p ≡ false → AllByRecursion (λ q. eqb p q ≡ false) pairs

@@ -7,3 +7,5 @@ pub mod Leases
 pub mod Takes
 pub mod PairBoxes
 pub mod LeaseLists
+pub mod SavedLeases
+pub mod SavedPools

@@ -15,6 +15,8 @@ mod holder;
 mod lease_list;
 mod pairs;
 mod reports;
+mod saved_lease;
+mod saved_pool;
 mod sections;
 mod signal;
 
@@ -24,5 +26,7 @@ pub use holder::{Holder, Side};
 pub use lease_list::Leases;
 pub use pairs::{Lease, Pool};
 pub use reports::{LegReport, LegReports, MOST_LEGS};
+pub use saved_lease::saved_leases_differ;
+pub use saved_pool::{PoolSaved, pool_moves};
 pub use sections::Signal;
 pub use signal::{LegSignal, SectionSignal};

@@ -3,6 +3,8 @@ ghost use Rattle.std.specs.VecDeque.{deque_capacity};
 ghost use Rattle.histories.specs.Words.{has, numbers};
 
 use crate::address::place_in_family;
+use crate::saved_lease::{family_of, read, version_of, written};
+use crate::saved_pool::{PoolSaved, queue_of};
 use relay_outside::{Family, OutOfMemory};
 use std::alloc::{AllocError, Global};
 use std::collections::VecDeque;
@@ -23,6 +25,43 @@ pub struct Lease {
 }
 
 impl Lease {
+    ghost use Rattle.std.specs.Prelude.{IfNone};
+    ghost use Rattle.port_pool.specs.declared.pairs.Lease.{Lease};
+    ghost use Rattle.port_pool.specs.SavedLeases.{FitsLease, saved_lease};
+
+    /// The bytes of a saved lease.
+    pub const SAVED: usize = 15;
+
+    /// The lease as bytes, which it is spent by: the pair's number in 4 bytes, the version of its family, 4 or 6, the even
+    /// port in 2 bytes and the generation in 8, the highest byte of each first.
+    pub fn save(self) -> [u8; Lease::SAVED]
+        ensures { FitsLease self × (result ≡ saved_lease self) }
+    {
+        written(
+            self.pair,
+            version_of(self.family),
+            self.rtp_port,
+            self.generation,
+        )
+    }
+
+    /// The lease that is saved as these bytes, and None where none is: the version is neither 4 nor 6.
+    pub fn load(bytes: &[u8; Lease::SAVED]) -> Option<Lease>
+        ensures some { IfSome result (λ lease. FitsLease lease × (saved_lease lease ≡ bytes.now)) }
+        ensures none { IfNone result ((lease : Lease) → FitsLease lease → saved_lease lease ≡ bytes.now → ⊥) }
+    {
+        let (number, version, port, generation) = read(bytes);
+        let Some(of) = family_of(version) else {
+            return None;
+        };
+        Some(Lease {
+            pair: number,
+            family: of,
+            rtp_port: port,
+            generation,
+        })
+    }
+
     /// The number of the leased pair, from 0.
     pub fn pair(&self) -> u32
         ensures { result ≡ self.now.pair }
@@ -98,6 +137,8 @@ impl Pool {
     ghost use Rattle.port_pool.specs.Ports.{place_in_family};
     ghost use Rattle.port_pool.specs.Pools.{IsFresh, generation, free_pairs, family_in, after_return};
     ghost use Rattle.port_pool.specs.Leases.{LeasesFront, TakesFront};
+    ghost use Rattle.std.specs.Prelude.{IfNone, IsOk};
+    ghost use Rattle.port_pool.specs.SavedPools.{FitsPool, SavesPool, NoPoolSaves};
 
     /// A pool of all pairs of the ports from `port_min` to `port_max`: each even port in the range whose next port is in
     /// it too, of version 4 and, where there are `both` families, of version 6. It takes the memory for all of them; no later call takes any.
@@ -181,5 +222,40 @@ impl Pool {
         } else {
             self.free6.push_back_reserved(lease.pair);
         }
+    }
+
+    /// The pool as a value with public fields. It takes no memory.
+    pub fn into_saved(self) -> Result<PoolSaved, OutOfMemory>
+        ensures saved { IfOk result (λ saved. FitsPool self × SavesPool self saved) }
+        ensures always { IsOk result }
+    {
+        Ok(PoolSaved {
+            first_port: self.first_port,
+            per_family: self.per_family,
+            free4: self.free4.into_vec(),
+            free6: self.free6.into_vec(),
+            generations: self.generations,
+        })
+    }
+
+    /// The pool that is saved so, with room for all its pairs, and None where none is.
+    pub fn from_saved(alloc: Global, saved: PoolSaved) -> Result<Option<Pool>, OutOfMemory>
+        ensures loaded { IfOk result (λ given. IfSome given (λ pool. FitsPool pool × SavesPool pool saved)) }
+        ensures refused { IfOk result (λ given. IfNone given (NoPoolSaves saved)) }
+    {
+        if !saved.is_pool(alloc)? {
+            return Ok(None);
+        }
+        let per_family = saved.per_family as usize;
+        let others = saved.generations.len() - per_family;
+        let free4 = queue_of(alloc, per_family, &saved.free4)?;
+        let free6 = queue_of(alloc, others, &saved.free6)?;
+        Ok(Some(Pool {
+            first_port: saved.first_port,
+            per_family: saved.per_family,
+            free4,
+            free6,
+            generations: saved.generations,
+        }))
     }
 }

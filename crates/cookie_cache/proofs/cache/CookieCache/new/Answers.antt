@@ -3,5 +3,4 @@ use Rattle.cookie_cache.proofs.Keeping.{stands_for_none}
 use Rattle.cookie_cache.proofs.cache.CookieCache.new.Goals as goal
 
 pub returns : goal.returns
-returns c =
-    stands_for_none (record { entries = c.in_ok-with_capacity.field-0; next_key = c.new.result; count = 0; last_moment = 0 }) c.in_ok-with_capacity.ensures.empty c.new.ensures.items refl refl
+returns c = stands_for_none _ c.in_ok-with_capacity.ensures.empty c.new.ensures.items refl refl
