@@ -26,3 +26,6 @@ pub mod HeardLines
 pub mod Alike
 pub mod AlikeNext
 pub mod AlikePlans
+pub mod SavedDialogs
+pub mod Shapes
+pub mod AnswerShapes

@@ -20,3 +20,6 @@ pub mod Answers
 pub mod Edits
 pub mod Widths
 pub mod Plans
+pub mod SavedDialogs
+pub mod Shapes
+pub mod AnswerShapes

@@ -14,6 +14,7 @@ ghost use Rattle.offer_answer.specs.LastOffers.{LastFor};
 ghost use Rattle.offer_answer.specs.Offers.{fault_code, plan_code};
 ghost use Rattle.offer_answer.specs.Plans.{AnswerAnswered};
 ghost use Rattle.offer_answer.specs.Widths.{WritesFrom};
+ghost use Rattle.offer_answer.specs.AnswerShapes.{AnswerShapes};
 ghost use Rattle.offer_answer.specs.Answers.{IsLast, ReadsAnswer, AsksAnswer};
 
 use crate::answer_text::answer_sections;
@@ -165,6 +166,7 @@ pub fn answer(
 ) -> Result<Plan, OaFault>
     ensures answered { (rounds : List Round) (ask : AnswerAsk) → DialogFor config.now dialog.now rounds → AsksAnswer input.now sdp.now rounds ask →
         AnswerAnswered config.now rounds ask sdp.now result }
+    ensures shapes { IfOk result (λ plan. AnswerShapes plan dialog.now plan.next) }
     ensures writes { IfOk result (λ plan. WritesFrom plan sdp.now) }
 {
     let last = answered_offer(dialog, input, sdp)?;

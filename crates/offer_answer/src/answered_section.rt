@@ -1,6 +1,6 @@
 //! A section of an answer, with what the dialog keeps of it.
 
-ghost use Rattle.std.specs.Prelude.{◌≡◌, ◌<◌, ◌&&◌, List, is_none};
+ghost use Rattle.std.specs.Prelude.{◌≡◌, ◌<◌, ◌&&◌, List, Option, is_none};
 ghost use Rattle.relay_outside.specs.declared.settings.Config.{Config};
 ghost use Rattle.port_pool.specs.Signals.{side_eq};
 ghost use Rattle.offer_answer.specs.Rounds.{Round, AnswerAsk};
@@ -10,6 +10,9 @@ ghost use Rattle.offer_answer.specs.Families.{misfits};
 ghost use Rattle.offer_answer.specs.Profiles.{is_srtp, is_srtp_leg};
 ghost use Rattle.offer_answer.specs.Keys.{chosen_in, last_lines};
 ghost use Rattle.offer_answer.specs.Dialogs.{DialogFor, leg_at};
+ghost use Rattle.sdes_lines.specs.declared.crypto_line.CryptoLine.{CryptoLine};
+ghost use Rattle.offer_answer.specs.declared.answered_section.AnsweredSection.{AnsweredSection};
+ghost use Rattle.offer_answer.specs.AnswerShapes.{TakesLine, AnsweredNow};
 ghost use Rattle.offer_answer.specs.Answers.{IsLast, ReadsAnswer, AnsweredAt, line_committed, key_for_line};
 
 use crate::dialog::Dialog;
@@ -54,8 +57,10 @@ fn is_srtp_leg(profile: Option<Proto>) -> bool
 
 /// The crypto line of a section of an answer that takes up one of the offered lines.
 fn taken_line(sdp: &Sdp, section: usize, offered: &[Option<CryptoLine>; 2]) -> Option<CryptoLine>
-    ensures { (rounds : List Round) (ask : AnswerAsk) → ReadsAnswer sdp.now rounds ask → offered.now ≡ last_lines rounds section →
+    ensures heard { (rounds : List Round) (ask : AnswerAsk) → ReadsAnswer sdp.now rounds ask → offered.now ≡ last_lines rounds section →
         result ≡ chosen_in ask.chosen section }
+    ensures taken { TakesLine sdp.now section offered.now result }
+    ensures only { (other : Option CryptoLine) → TakesLine sdp.now section offered.now other → other ≡ result }
 {
     if section < sdp.section_count() {
         choose_among(sdp, section, offered)
@@ -72,8 +77,10 @@ pub(crate) fn answered_section(
     section: usize,
 ) -> AnsweredSection
     requires { section < 8 }
-    ensures { (config : Config) (rounds : List Round) (offer : MadeOffer) (ask : AnswerAsk) → DialogFor config dialog.now rounds →
+    ensures answered { (config : Config) (rounds : List Round) (offer : MadeOffer) (ask : AnswerAsk) → DialogFor config dialog.now rounds →
         IsLast rounds offer last.now → ReadsAnswer sdp.now rounds ask → AnsweredAt config rounds offer ask section result }
+    ensures now { AnsweredNow dialog.now last.now sdp.now section result }
+    ensures only { (other : AnsweredSection) → AnsweredNow dialog.now last.now sdp.now section other → other ≡ result }
 {
     let made = made_section(last, section);
     let line = taken_line(sdp, section, &made.lines);

@@ -1,6 +1,6 @@
 //! The dialog of a call.
 
-ghost use Rattle.std.specs.Prelude.{◌≡◌, ◌<◌, ℕ, List, [], ◌∷◌, length, replicate, IfOk, MatchOption, None, Some, if◌then◌else◌, slice_index_or};
+ghost use Rattle.std.specs.Prelude.{◌≡◌, ◌<◌, ℕ, List, [], ◌∷◌, length, replicate, IfOk, MatchOption, None, Some, if◌then◌else◌, slice_get, slice_index_or};
 ghost use Rattle.relay_outside.specs.declared.settings.Config.{Config};
 ghost use Rattle.port_pool.specs.declared.holder.Holder.{Holder};
 ghost use Rattle.port_pool.specs.Signals.{NewKey};
@@ -11,6 +11,8 @@ ghost use Rattle.offer_answer.specs.Dialogs.{DialogFor, Awaits, no_state};
 ghost use Rattle.offer_answer.specs.PortsAndKeys.{AreDemandedLegs, FilledFor};
 ghost use Rattle.offer_answer.specs.Answers.{IsLast, AnsweredFor};
 ghost use Rattle.offer_answer.specs.Plans.{OfferFilled, AnswerNext};
+ghost use Rattle.offer_answer.specs.AnswerShapes.{ShapeAnswered, AnswerShapes};
+ghost use Rattle.offer_answer.specs.Shapes.{shape_of, shape_offered, FilledShapes};
 
 use crate::last_offer::{LastOffer, OfferedNext};
 use crate::leg::DialogSection;
@@ -29,21 +31,21 @@ use std::alloc::Global;
 #[derive(Drop)]
 pub struct Dialog {
     /// The tag of the side that makes the first offer.
-    first_tag: Text,
+    pub(crate) first_tag: Text,
     /// Whether that offer was accepted.
-    is_begun: bool,
+    pub(crate) is_begun: bool,
     /// The tag of the side that answers it.
-    answering_tag: Option<Text>,
+    pub(crate) answering_tag: Option<Text>,
     /// Whether an answer was committed.
-    has_answer: bool,
+    pub(crate) has_answer: bool,
     /// Whether an offer followed the first answer.
-    is_settled: bool,
+    pub(crate) is_settled: bool,
     /// How many sections the last committed offer has.
-    committed_count: usize,
+    pub(crate) committed_count: usize,
     /// The last offer.
-    last_offer: Option<LastOffer>,
+    pub(crate) last_offer: Option<LastOffer>,
     /// The sections.
-    sections: [DialogSection; MOST_SECTIONS],
+    pub(crate) sections: [DialogSection; MOST_SECTIONS],
 }
 
 impl Dialog {
@@ -135,9 +137,10 @@ impl Dialog {
 
     /// Takes an offer in. Before its first offer the dialog awaits one from the side with the first tag.
     pub(crate) fn apply_offer(&mut self, next: OfferedNext)
-        ensures { (config : Config) (rounds : List Round) (ask : OfferAsk) (ports : List ℕ) (keys : List NewKey) (legs : List Holder) →
+        ensures stands { (config : Config) (rounds : List Round) (ask : OfferAsk) (ports : List ℕ) (keys : List NewKey) (legs : List Holder) →
             DialogFor config self.old rounds → Awaits self.old ask.from_tag → FilledFor config rounds ask ports keys next →
             AreDemandedLegs config rounds ask ports legs → DialogFor config self.new (Offered ask legs keys ∷ rounds) }
+        ensures sections { self.new.sections ≡ next.sections }
     {
         let OfferedNext { last, sections } = next;
         self.is_begun = true;
@@ -175,7 +178,8 @@ impl Dialog {
 
     /// Takes an answer in. It takes no memory.
     pub(crate) fn apply_answer(&mut self, next: AnsweredNext)
-        ensures { (config : Config) (rounds : List Round) (ask : AnswerAsk) → DialogFor config self.old rounds → AnsweredFor config rounds ask next →
+        ensures sections { self.new.sections ≡ next.sections }
+        ensures stands { (config : Config) (rounds : List Round) (ask : AnswerAsk) → DialogFor config self.old rounds → AnsweredFor config rounds ask next →
             DialogFor config self.new (Answered ask ∷ rounds) }
     {
         let AnsweredNext {
@@ -196,6 +200,10 @@ impl Dialog {
             AreDemandedLegs config rounds ask ports legs → DialogFor config self.new (Offered ask legs keys ∷ rounds) }
         ensures answered { (config : Config) (rounds : List Round) (ask : AnswerAsk) → DialogFor config self.old rounds →
             AnswerNext config rounds ask plan.next → DialogFor config self.new (Answered ask ∷ rounds) }
+        ensures shapes { (made : Plan) (ports : List ℕ) (keys : List NewKey) → FilledShapes made self.old ports keys plan.next →
+            (section : ℕ) → section < 8 → shape_of self.new section ≡ shape_offered made ports keys section (shape_of self.old section) }
+        ensures answered_shapes { (made : Plan) → AnswerShapes made self.old plan.next →
+            (section : ℕ) → section < 8 → ShapeAnswered (slice_get made.signal section) (shape_of self.old section) (shape_of self.new section) }
     {
         match plan.into_next() {
             Next::Offer(next) => self.apply_offer(next),

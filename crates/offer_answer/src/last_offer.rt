@@ -9,7 +9,7 @@ use sdp_text::{MOST_SECTIONS, Proto, Section};
 
 /// A section of the last offer.
 #[derive(Clone, Copy, Debug, PartialEq, Eq)]
-pub(crate) struct MadeSection {
+pub struct MadeSection {
     /// What the offer signals.
     pub section: Section,
     /// Its first usable crypto line.
@@ -41,7 +41,7 @@ impl MadeSection {
 
 /// The last accepted offer.
 #[derive(Drop)]
-pub(crate) struct LastOffer {
+pub struct LastOffer {
     /// The tag of the side that made it.
     pub from_tag: Text,
     /// The side that made it.

@@ -10,7 +10,7 @@ use sdp_text::Proto;
 
 /// A key that an offer drew for a leg.
 #[derive(Clone, Copy, Debug, PartialEq, Eq)]
-pub(crate) struct DrawnKey {
+pub struct DrawnKey {
     /// Its number among the drawn keys.
     pub number: u64,
     /// The suite that it is for.
@@ -21,7 +21,7 @@ pub(crate) struct DrawnKey {
 
 /// A leg of a section.
 #[derive(Clone, Copy, Debug, PartialEq, Eq)]
-pub(crate) struct Leg {
+pub struct Leg {
     /// The RTP port of its pair, 0 where it has none.
     pub port: u16,
     /// The family of its pair, where it has one.
@@ -40,7 +40,7 @@ pub(crate) struct Leg {
 
 /// A section of the dialog.
 #[derive(Clone, Copy, Debug, PartialEq, Eq)]
-pub(crate) struct DialogSection {
+pub struct DialogSection {
     /// Whether it has its two pairs of ports.
     pub has_pairs: bool,
     /// Whether an answer has committed it since it got them.

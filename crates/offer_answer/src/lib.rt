@@ -29,15 +29,19 @@ mod offered_section;
 mod plan;
 mod ports_and_keys;
 mod rejected_sections;
+mod saved;
 mod signals;
 
 pub use answer_plan::answer;
 pub use chosen_lines::ChosenLines;
 pub use dialog::Dialog;
 pub use fault::OaFault;
+pub use last_offer::{LastOffer, MadeSection};
 pub use law::{
     legs_have_their_pairs_families, offers_drop_what_goes, signals_name_drawn_keys,
     signals_reject_what_goes, signals_secure_legs,
 };
+pub use leg::{DialogSection, DrawnKey, Leg};
 pub use offer_plan::offer;
 pub use plan::Plan;
+pub use saved::{DialogSaved, dialog_moves};

@@ -8,6 +8,8 @@ ghost use Rattle.offer_answer.specs.Sections.{most_sections};
 ghost use Rattle.offer_answer.specs.Keys.{committed_key};
 ghost use Rattle.offer_answer.specs.Signals.{is_rejected_by};
 ghost use Rattle.offer_answer.specs.Dialogs.{DialogFor, SectionFor, LegFor, drawn_for_leg, no_state};
+ghost use Rattle.offer_answer.specs.Shapes.{key_shape, leg_shape, no_leg_shape, section_shape, bare_shape, shape_in, shape_of};
+ghost use Rattle.offer_answer.specs.AnswerShapes.{with_key_in_force, refuses_section, shape_taken, NextShape};
 ghost use Rattle.offer_answer.specs.Answers.{IsLast, ReadsAnswer, AsksAnswer, AnsweredAt, AnsweredFor};
 
 use crate::answered_section::{AnsweredSection, answered_section};
@@ -35,7 +37,8 @@ pub(crate) struct AnsweredNext {
 
 /// A leg whose section was rejected: of it only the profile stays that the last offer gave it.
 fn rejected_leg(leg: &Leg) -> Leg
-    ensures { (config : Config) (rounds : List Round) (ask : AnswerAsk) (section : ℕ) (side : Side) → LegFor config rounds section side leg.now →
+    ensures shape { leg_shape result ≡ no_leg_shape }
+    ensures next { (config : Config) (rounds : List Round) (ask : AnswerAsk) (section : ℕ) (side : Side) → LegFor config rounds section side leg.now →
         is_rejected_by rounds ask section ≡ true → LegFor config (Answered ask ∷ rounds) section side result }
 {
     Leg {
@@ -46,7 +49,8 @@ fn rejected_leg(leg: &Leg) -> Leg
 
 /// A leg that was committed with this key: the profile that the last offer gave it is in force.
 fn committed_leg(leg: &Leg, key: Option<DrawnKey>) -> Leg
-    ensures { (config : Config) (rounds : List Round) (ask : AnswerAsk) (section : ℕ) (side : Side) → LegFor config rounds section side leg.now →
+    ensures shape { leg_shape result ≡ with_key_in_force (option_map key_shape key) (leg_shape leg.now) }
+    ensures next { (config : Config) (rounds : List Round) (ask : AnswerAsk) (section : ℕ) (side : Side) → LegFor config rounds section side leg.now →
         is_rejected_by rounds ask section ≡ false → option_map (drawn_for_leg section side) key ≡ committed_key rounds ask section side →
         LegFor config (Answered ask ∷ rounds) section side result }
 {
@@ -59,7 +63,8 @@ fn committed_leg(leg: &Leg, key: Option<DrawnKey>) -> Leg
 
 /// A section that was rejected.
 fn rejected_section(kept: &DialogSection) -> DialogSection
-    ensures { (config : Config) (rounds : List Round) (ask : AnswerAsk) (section : ℕ) → SectionFor config rounds section kept.now →
+    ensures shape { section_shape result ≡ bare_shape }
+    ensures next { (config : Config) (rounds : List Round) (ask : AnswerAsk) (section : ℕ) → SectionFor config rounds section kept.now →
         is_rejected_by rounds ask section ≡ true → SectionFor config (Answered ask ∷ rounds) section result }
 {
     DialogSection {
@@ -71,7 +76,8 @@ fn rejected_section(kept: &DialogSection) -> DialogSection
 
 /// A section that was committed.
 fn committed_section(answered: &AnsweredSection, last: &LastOffer) -> DialogSection
-    ensures { (config : Config) (rounds : List Round) (offer : MadeOffer) (ask : AnswerAsk) (section : ℕ) →
+    ensures shape { section_shape result ≡ shape_taken answered.now last.now.maker }
+    ensures next { (config : Config) (rounds : List Round) (offer : MadeOffer) (ask : AnswerAsk) (section : ℕ) →
         AnsweredAt config rounds offer ask section answered.now → IsLast rounds offer last.now → is_rejected_by rounds ask section ≡ false →
         SectionFor config (Answered ask ∷ rounds) section result }
 {
@@ -88,7 +94,8 @@ fn committed_section(answered: &AnsweredSection, last: &LastOffer) -> DialogSect
 
 fn next_section(dialog: &Dialog, last: &LastOffer, sdp: &Sdp, section: usize) -> DialogSection
     requires { section < 8 }
-    ensures { (config : Config) (rounds : List Round) (offer : MadeOffer) (ask : AnswerAsk) → DialogFor config dialog.now rounds →
+    ensures shape { NextShape (refuses_section last.now sdp.now section (shape_of dialog.now section)) dialog.now last.now sdp.now section (section_shape result) }
+    ensures next { (config : Config) (rounds : List Round) (offer : MadeOffer) (ask : AnswerAsk) → DialogFor config dialog.now rounds →
         IsLast rounds offer last.now → ReadsAnswer sdp.now rounds ask → SectionFor config (Answered ask ∷ rounds) section result }
 {
     if is_rejected(dialog, last, sdp, section) {
@@ -99,7 +106,9 @@ fn next_section(dialog: &Dialog, last: &LastOffer, sdp: &Sdp, section: usize) ->
 }
 
 fn next_sections(dialog: &Dialog, last: &LastOffer, sdp: &Sdp) -> [DialogSection; MOST_SECTIONS]
-    ensures { (config : Config) (rounds : List Round) (offer : MadeOffer) (ask : AnswerAsk) → DialogFor config dialog.now rounds →
+    ensures shapes { (section : ℕ) → section < 8 →
+        NextShape (refuses_section last.now sdp.now section (shape_of dialog.now section)) dialog.now last.now sdp.now section (shape_in result section) }
+    ensures next { (config : Config) (rounds : List Round) (offer : MadeOffer) (ask : AnswerAsk) → DialogFor config dialog.now rounds →
         IsLast rounds offer last.now → ReadsAnswer sdp.now rounds ask →
         (section : ℕ) → section < most_sections → SectionFor config (Answered ask ∷ rounds) section (slice_index_or result section no_state) }
 {
@@ -123,7 +132,9 @@ pub(crate) fn next_of_answer(
     input: &AnswerIn,
     sdp: &Sdp,
 ) -> Result<AnsweredNext, OutOfMemory>
-    ensures { (config : Config) (rounds : List Round) (offer : MadeOffer) (ask : AnswerAsk) → DialogFor config dialog.now rounds →
+    ensures shapes { IfOk result (λ next. (section : ℕ) → section < 8 →
+        NextShape (refuses_section last.now sdp.now section (shape_of dialog.now section)) dialog.now last.now sdp.now section (shape_in next.sections section)) }
+    ensures next { (config : Config) (rounds : List Round) (offer : MadeOffer) (ask : AnswerAsk) → DialogFor config dialog.now rounds →
         IsLast rounds offer last.now → AsksAnswer input.now sdp.now rounds ask → IfOk result (AnsweredFor config rounds ask) }
 {
     let Ok(to_tag) = Text::copy_of(alloc, input.to_tag.as_slice()) else {

@@ -10,6 +10,7 @@ ghost use Rattle.offer_answer.specs.Profiles.{profile_offered};
 ghost use Rattle.offer_answer.specs.Dialogs.{DialogFor, leg_at, no_state};
 ghost use Rattle.offer_answer.specs.LastOffers.{no_made};
 ghost use Rattle.offer_answer.specs.Offers.{ReadsOffer, AsksOffer, OfferedFor};
+ghost use Rattle.offer_answer.specs.Shapes.{leg_shape, no_leg_shape, section_shape, shape_in, shape_of, is_active_at, shape_after};
 ghost use Rattle.offer_answer.specs.Nexts.{LegNext, SectionNext, MadeNext, NextFor};
 
 use crate::dialog::Dialog;
@@ -55,8 +56,10 @@ impl OfferedSection {
 
     /// A leg after the offer: where the offer drops the section, only its profile is left.
     fn leg_after(&self, side: Side, options: &Options, maker: Side) -> Leg
-        ensures { (config : Config) (rounds : List Round) (ask : OfferAsk) (section : ℕ) → OfferedFor config rounds ask section self.now →
+        ensures next { (config : Config) (rounds : List Round) (ask : OfferAsk) (section : ℕ) → OfferedFor config rounds ask section self.now →
             options.now ≡ ask.options → maker ≡ offerer rounds ask → LegNext config rounds ask [] [] section side result }
+        ensures shape { leg_shape result
+            ≡ (if self.now.kept.has_pairs && not self.now.kept.is_committed && not (is_active self.now.section) then no_leg_shape else leg_shape (leg_at self.now.kept side)) }
     {
         let offered = Some(self.profile(side, options.transport, maker));
         if self.is_dropped() {
@@ -75,19 +78,20 @@ impl OfferedSection {
 
     /// Whether the section has pairs after the offer.
     fn has_pairs_after(&self) -> bool
-        ensures { result ≡ (is_active self.now.section || self.now.kept.is_committed) }
+        ensures { result ≡ (is_active self.now.section || (self.now.kept.has_pairs && self.now.kept.is_committed)) }
     {
-        is_active(&self.section) || self.kept.is_committed
+        is_active(&self.section) || self.is_committed()
     }
 
     /// The section after the offer, without its new ports and keys.
     fn after(&self, options: &Options, maker: Side) -> DialogSection
-        ensures { (config : Config) (rounds : List Round) (ask : OfferAsk) (section : ℕ) → OfferedFor config rounds ask section self.now →
+        ensures next { (config : Config) (rounds : List Round) (ask : OfferAsk) (section : ℕ) → OfferedFor config rounds ask section self.now →
             options.now ≡ ask.options → maker ≡ offerer rounds ask → SectionNext config rounds ask [] [] section result }
+        ensures shape { section_shape result ≡ shape_after (is_active self.now.section) (section_shape self.now.kept) }
     {
         DialogSection {
             has_pairs: self.has_pairs_after(),
-            is_committed: self.kept.is_committed,
+            is_committed: self.is_committed(),
             a: self.leg_after(Side::A, options, maker),
             b: self.leg_after(Side::B, options, maker),
         }
@@ -114,9 +118,10 @@ fn sections_after(
     options: &Options,
     maker: Side,
 ) -> [DialogSection; MOST_SECTIONS]
-    ensures { (config : Config) (rounds : List Round) (ask : OfferAsk) → DialogFor config dialog.now rounds → ReadsOffer sdp.now ask →
+    ensures next { (config : Config) (rounds : List Round) (ask : OfferAsk) → DialogFor config dialog.now rounds → ReadsOffer sdp.now ask →
         options.now ≡ ask.options → maker ≡ offerer rounds ask →
         (section : ℕ) → section < 8 → SectionNext config rounds ask [] [] section (slice_index_or result section no_state) }
+    ensures shapes { (section : ℕ) → section < 8 → shape_in result section ≡ shape_after (is_active_at sdp.now section) (shape_of dialog.now section) }
 {
     let mut sections = [DialogSection::NONE; MOST_SECTIONS];
     for index in 0..MOST_SECTIONS {
@@ -154,6 +159,8 @@ pub(crate) fn next_of_offer(
     ensures few { IfOk result (λ next. next.last.count ≤ 8) }
     ensures next { (config : Config) (rounds : List Round) (ask : OfferAsk) → DialogFor config dialog.now rounds → AsksOffer input.now sdp.now ask →
         side ≡ offerer rounds ask → IfOk result (λ next. NextFor config rounds ask [] [] next) }
+    ensures shapes { IfOk result (λ next. (section : ℕ) → section < 8 →
+        shape_in next.sections section ≡ shape_after (is_active_at sdp.now section) (shape_of dialog.now section)) }
 {
     let Ok(from_tag) = Text::copy_of(alloc, input.from_tag.as_slice()) else {
         return Err(OutOfMemory);

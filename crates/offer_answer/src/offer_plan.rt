@@ -1,6 +1,6 @@
 //! How an offer is judged, and what it demands.
 
-ghost use Rattle.std.specs.Prelude.{◌≡◌, ◌<◌, ◌&&◌, ◌++◌, ◌∷◌, [], ◌≤◌, ℕ, List, Bool, Option, Some, None, length, map, filter, OnOk, IfOk, slice_index_or, false};
+ghost use Rattle.std.specs.Prelude.{◌≡◌, ◌<◌, ◌&&◌, ◌++◌, ◌∷◌, [], ◌≤◌, ℕ, List, Bool, Option, Some, None, length, map, filter, OnOk, IfOk, slice_index_or, false, not};
 ghost use Rattle.std.specs.List.{list_any};
 ghost use Rattle.histories.specs.Words.{has};
 ghost use Rattle.relay_outside.specs.declared.settings.Config.{Config};
@@ -16,6 +16,7 @@ ghost use Rattle.offer_answer.specs.Plans.{OfferAnswered};
 ghost use Rattle.offer_answer.specs.Texts.{interface_host};
 ghost use Rattle.offer_answer.specs.Edits.{IsEditReserved, widest_len};
 ghost use Rattle.offer_answer.specs.Widths.{WritesFrom};
+ghost use Rattle.offer_answer.specs.Shapes.{shape_of, is_active_at, is_dropped_from, is_demanded, OfferShapes};
 ghost use Rattle.offer_answer.specs.Offers.{ReadsOffer, AsksOffer, leg_asked, key_asked, fault_code};
 
 use crate::dialog::Dialog;
@@ -121,8 +122,10 @@ fn demanded_legs(
     options: &Options,
     side: Side,
 ) -> Result<Vec<(u8, Side, Family)>, OutOfMemory>
-    ensures { (config : Config) (rounds : List Round) (ask : OfferAsk) → DialogFor config dialog.now rounds → ReadsOffer sdp.now ask →
+    ensures legs { (config : Config) (rounds : List Round) (ask : OfferAsk) → DialogFor config dialog.now rounds → ReadsOffer sdp.now ask →
         options.now ≡ ask.options → side ≡ offerer rounds ask → IfOk result (λ legs. map leg_asked legs.items ≡ new_legs rounds ask) }
+    ensures sections { IfOk result (λ legs. (section : ℕ) →
+        is_demanded (map leg_asked legs.items) section ≡ (is_active_at sdp.now section && not (shape_of dialog.now section).has_pairs)) }
 {
     let mut legs = Vec::new(alloc);
     for index in 0..sdp.section_count() {
@@ -153,15 +156,18 @@ fn demanded_keys(
 
 fn is_dropped(dialog: &Dialog, sdp: &Sdp, section: usize) -> bool
     requires { section < 8 }
-    ensures { (config : Config) (rounds : List Round) (ask : OfferAsk) → DialogFor config dialog.now rounds → ReadsOffer sdp.now ask →
+    ensures dropped { (config : Config) (rounds : List Round) (ask : OfferAsk) → DialogFor config dialog.now rounds → ReadsOffer sdp.now ask →
         result ≡ is_dropped rounds ask section }
+    ensures shape { result ≡ is_dropped_from (is_active_at sdp.now section) (shape_of dialog.now section) }
 {
     offered_section(dialog, sdp, section).is_dropped()
 }
 
 fn dropped(dialog: &Dialog, sdp: &Sdp) -> [bool; MOST_SECTIONS]
-    ensures { (config : Config) (rounds : List Round) (ask : OfferAsk) → DialogFor config dialog.now rounds → ReadsOffer sdp.now ask →
+    ensures dropped { (config : Config) (rounds : List Round) (ask : OfferAsk) → DialogFor config dialog.now rounds → ReadsOffer sdp.now ask →
         (section : ℕ) → slice_index_or result section false ≡ has (dropped_sections rounds ask) section }
+    ensures shapes { (section : ℕ) → section < 8 →
+        slice_index_or result section false ≡ is_dropped_from (is_active_at sdp.now section) (shape_of dialog.now section) }
 {
     [
         is_dropped(dialog, sdp, 0),
@@ -206,6 +212,7 @@ pub fn offer(
 ) -> Result<Plan, OaFault>
     ensures answered { (rounds : List Round) (ask : OfferAsk) → DialogFor config.now dialog.now rounds → AsksOffer input.now sdp.now ask →
         OfferAnswered config.now rounds ask result }
+    ensures shapes { IfOk result (λ plan. OfferShapes plan dialog.now plan.next) }
     ensures writes { IfOk result (λ plan. WritesFrom plan sdp.now) }
 {
     if let Some(fault) = fault_of(dialog, input, sdp) {

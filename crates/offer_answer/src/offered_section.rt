@@ -1,6 +1,6 @@
 //! A section of an offer, with what the dialog keeps of it.
 
-ghost use Rattle.std.specs.Prelude.{◌≡◌, ◌<◌, ◌&&◌, ◌∷◌, [], ◌++◌, List, Bool, not, is_none, OnOk, length, if◌then◌else◌};
+ghost use Rattle.std.specs.Prelude.{◌≡◌, ◌<◌, ◌&&◌, ◌∷◌, [], ◌++◌, List, Bool, not, is_none, OnOk, length, slice_index_or, if◌then◌else◌};
 ghost use Rattle.relay_outside.specs.declared.settings.Config.{Config};
 ghost use Rattle.sdp_text.specs.Parts.{is_rtp_proto};
 ghost use Rattle.port_pool.specs.Signals.{other_side};
@@ -8,7 +8,8 @@ ghost use Rattle.offer_answer.specs.Rounds.{Round, OfferAsk};
 ghost use Rattle.offer_answer.specs.Sections.{is_active};
 ghost use Rattle.offer_answer.specs.Families.{misfits};
 ghost use Rattle.offer_answer.specs.Profiles.{is_srtp};
-ghost use Rattle.offer_answer.specs.Dialogs.{DialogFor, leg_at};
+ghost use Rattle.offer_answer.specs.Dialogs.{DialogFor, leg_at, no_state};
+ghost use Rattle.offer_answer.specs.Shapes.{is_active_at};
 ghost use Rattle.offer_answer.specs.Offers.{ReadsOffer, OfferedFor, written_over, missing, offerers_keys, others_keys, keys_asked, legs_asked};
 
 use crate::dialog::Dialog;
@@ -92,8 +93,10 @@ pub(crate) fn is_active(section: &Section) -> bool
 /// A section of an offer, by its number from 0, with what the dialog keeps of it.
 pub(crate) fn offered_section(dialog: &Dialog, sdp: &Sdp, section: usize) -> OfferedSection
     requires { section < 8 }
-    ensures { (config : Config) (rounds : List Round) (ask : OfferAsk) → DialogFor config dialog.now rounds → ReadsOffer sdp.now ask →
+    ensures offered { (config : Config) (rounds : List Round) (ask : OfferAsk) → DialogFor config dialog.now rounds → ReadsOffer sdp.now ask →
         OfferedFor config rounds ask section result }
+    ensures kept { result.kept ≡ slice_index_or dialog.now.sections section no_state }
+    ensures active { is_active result.section ≡ is_active_at sdp.now section }
 {
     let kept = dialog.section(section);
     if section < sdp.section_count() {
@@ -160,6 +163,13 @@ impl OfferedSection {
         ensures { result ≡ (self.now.kept.has_pairs && not self.now.kept.is_committed && not (is_active self.now.section)) }
     {
         self.kept.has_pairs && !self.kept.is_committed && !is_active(&self.section)
+    }
+
+    /// Whether an answer has committed the pairs that it has.
+    pub(crate) fn is_committed(&self) -> bool
+        ensures { result ≡ (self.now.kept.has_pairs && self.now.kept.is_committed) }
+    {
+        self.kept.has_pairs && self.kept.is_committed
     }
 
     fn offerers_keys(

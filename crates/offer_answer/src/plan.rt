@@ -12,6 +12,9 @@ ghost use Rattle.offer_answer.specs.Laws.{new_leg_place};
 ghost use Rattle.offer_answer.specs.Plans.{OfferNext, OfferFilled, OfferPlan, AnswerNext, AnswerPlan};
 ghost use Rattle.offer_answer.specs.Nexts.{numbered_keys};
 ghost use Rattle.offer_answer.specs.Widths.{KeepsOffer, WritesNext, WritesFrom};
+ghost use Rattle.offer_answer.specs.AnswerShapes.{AnswerShapes};
+ghost use Rattle.offer_answer.specs.Shapes.{OfferShapes, FilledShapes, SamePlaces, keys_demanded};
+ghost use Rattle.offer_answer.specs.declared.dialog.Dialog.{Dialog};
 
 use crate::last_offer::OfferedNext;
 use crate::next_answer::AnsweredNext;
@@ -147,6 +150,9 @@ impl Plan {
         ensures filled { (config : Config) (rounds : List Round) (ask : OfferAsk) → PlanFor self.old (demand rounds ask) →
             OfferNext config rounds ask self.old.next →
             OfferFilled config rounds ask ports.now (numbered_keys first_key keys.now (demand rounds ask).keys) self.new.next }
+        ensures shapes { (dialog : Dialog) → OfferShapes self.old dialog self.old.next →
+            FilledShapes self.old dialog ports.now (numbered_keys first_key keys.now (keys_demanded self.old)) self.new.next }
+        ensures answered_shapes { (dialog : Dialog) → AnswerShapes self.old dialog self.old.next → AnswerShapes self.old dialog self.new.next }
     {
         match &mut self.next {
             Next::Offer(next) => {
@@ -161,6 +167,7 @@ impl Plan {
     fn write(&mut self, sdp: &Sdp, out: &mut Bytes)
         requires made { WritesFrom self.old sdp.now }
         requires room { self.old.reply_len ≤ out.old.spare }
+        ensures rest { self.new ≡ record self.old { edit = self.new.edit } }
         ensures next { self.new.next ≡ self.old.next }
         ensures demands { (asked : Demand) → PlanFor self.old asked → PlanFor self.new asked }
         ensures signal { self.new.signal ≡ self.old.signal }
@@ -202,6 +209,10 @@ impl Plan {
             out.new.list ≡ out.old.list ++ offer_text config rounds ask ports.now (numbered_keys first_key keys.now (demand rounds ask).keys) }
         ensures answered { (config : Config) (rounds : List Round) (ask : AnswerAsk) → AnswerPlan config rounds ask sdp.now self.old →
             AnswerNext config rounds ask self.new.next × (out.new.list ≡ out.old.list ++ answer_text config rounds ask) }
+        ensures kept { SamePlaces self.old self.new }
+        ensures answered_shapes { (dialog : Dialog) → AnswerShapes self.old dialog self.old.next → AnswerShapes self.old dialog self.new.next }
+        ensures shapes { (dialog : Dialog) → OfferShapes self.old dialog self.old.next →
+            FilledShapes self.old dialog ports.now (numbered_keys first_key keys.now (keys_demanded self.old)) self.new.next }
         ensures within { length out.new.list ≤ length out.old.list + self.old.reply_len }
         ensures spare { length out.old.list + out.old.spare ≤ length out.new.list + out.new.spare }
     {

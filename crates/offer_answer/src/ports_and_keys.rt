@@ -15,6 +15,7 @@ ghost use Rattle.offer_answer.specs.LastOffers.{MadeFor, no_made};
 ghost use Rattle.offer_answer.specs.Offers.{leg_asked, key_asked};
 ghost use Rattle.offer_answer.specs.PortsAndKeys.{FilledFor};
 ghost use Rattle.offer_answer.specs.Widths.{SameMade, SameOffer};
+ghost use Rattle.offer_answer.specs.Shapes.{leg_shape, section_shape, shape_in, leg_with_new, shape_with_new};
 ghost use Rattle.offer_answer.specs.Nexts.{LegNext, SectionNext, MadeNext, NextFor, numbered_keys, carrying};
 
 use crate::last_offer::{MadeSection, OfferedNext};
@@ -62,8 +63,9 @@ fn section_with_ports(
     ports: &[u16],
 ) -> DialogSection
     requires { length legs.now ≡ length ports.now }
-    ensures { (config : Config) (rounds : List Round) (ask : OfferAsk) (keys : List NewKey) → map leg_asked legs.now ≡ new_legs rounds ask →
+    ensures next { (config : Config) (rounds : List Round) (ask : OfferAsk) (keys : List NewKey) → map leg_asked legs.now ≡ new_legs rounds ask →
         SectionNext config rounds ask [] keys section kept → SectionNext config rounds ask ports.now keys section result }
+    ensures shape { section_shape result ≡ shape_with_new (map leg_asked legs.now) ports.now [] section (section_shape kept) }
 {
     DialogSection {
         a: leg_with_port(kept.a, port_of(legs, ports, section, Side::A)),
@@ -78,9 +80,10 @@ fn sections_with_ports(
     ports: &[u16],
 ) -> [DialogSection; MOST_SECTIONS]
     requires { length legs.now ≡ length ports.now }
-    ensures { (config : Config) (rounds : List Round) (ask : OfferAsk) (keys : List NewKey) → map leg_asked legs.now ≡ new_legs rounds ask →
+    ensures next { (config : Config) (rounds : List Round) (ask : OfferAsk) (keys : List NewKey) → map leg_asked legs.now ≡ new_legs rounds ask →
         ((section : ℕ) → section < 8 → SectionNext config rounds ask [] keys section (slice_index_or kept.now section no_state)) →
         (section : ℕ) → section < 8 → SectionNext config rounds ask ports.now keys section (slice_index_or result section no_state) }
+    ensures shapes { (section : ℕ) → section < 8 → shape_in result section ≡ shape_with_new (map leg_asked legs.now) ports.now [] section (shape_in kept.now section) }
 {
     let mut sections = [DialogSection::NONE; MOST_SECTIONS];
     for index in 0..MOST_SECTIONS {
@@ -143,8 +146,9 @@ fn leg_with_keys(
 ) -> Leg
     requires same { length places.now ≡ length keys.now }
     requires first { first_key ≤ 2 ^ 63 }
-    ensures { (config : Config) (rounds : List Round) (ask : OfferAsk) (ports : List ℕ) → LegNext config rounds ask ports [] section side leg →
+    ensures next { (config : Config) (rounds : List Round) (ask : OfferAsk) (ports : List ℕ) → LegNext config rounds ask ports [] section side leg →
         LegNext config rounds ask ports (numbered_keys first_key keys.now (map key_asked places.now)) section side result }
+    ensures shape { leg_shape result ≡ leg_with_new [] [] (numbered_keys first_key keys.now (map key_asked places.now)) section side (leg_shape leg) }
 {
     let long = key_of(places, first_key, keys, section, side, Suite::Tag80);
     let short = key_of(places, first_key, keys, section, side, Suite::Tag32);
@@ -164,8 +168,9 @@ fn section_with_keys(
 ) -> DialogSection
     requires same { length places.now ≡ length keys.now }
     requires first { first_key ≤ 2 ^ 63 }
-    ensures { (config : Config) (rounds : List Round) (ask : OfferAsk) (ports : List ℕ) → SectionNext config rounds ask ports [] section kept →
+    ensures next { (config : Config) (rounds : List Round) (ask : OfferAsk) (ports : List ℕ) → SectionNext config rounds ask ports [] section kept →
         SectionNext config rounds ask ports (numbered_keys first_key keys.now (map key_asked places.now)) section result }
+    ensures shape { section_shape result ≡ shape_with_new [] [] (numbered_keys first_key keys.now (map key_asked places.now)) section (section_shape kept) }
 {
     DialogSection {
         a: leg_with_keys(kept.a, section, Side::A, places, first_key, keys),
@@ -182,10 +187,12 @@ fn sections_with_keys(
 ) -> [DialogSection; MOST_SECTIONS]
     requires same { length places.now ≡ length keys.now }
     requires first { first_key ≤ 2 ^ 63 }
-    ensures { (config : Config) (rounds : List Round) (ask : OfferAsk) (ports : List ℕ) →
+    ensures next { (config : Config) (rounds : List Round) (ask : OfferAsk) (ports : List ℕ) →
         ((section : ℕ) → section < 8 → SectionNext config rounds ask ports [] section (slice_index_or kept.now section no_state)) →
         (section : ℕ) → section < 8 →
         SectionNext config rounds ask ports (numbered_keys first_key keys.now (map key_asked places.now)) section (slice_index_or result section no_state) }
+    ensures shapes { (section : ℕ) → section < 8 →
+        shape_in result section ≡ shape_with_new [] [] (numbered_keys first_key keys.now (map key_asked places.now)) section (shape_in kept.now section) }
 {
     let mut sections = [DialogSection::NONE; MOST_SECTIONS];
     for index in 0..MOST_SECTIONS {
@@ -261,6 +268,8 @@ impl OfferedNext {
         ensures last { self.new.last ≡ self.old.last }
         ensures next { (config : Config) (rounds : List Round) (ask : OfferAsk) (keys : List NewKey) → NextFor config rounds ask [] keys self.old →
             map leg_asked legs.now ≡ new_legs rounds ask → NextFor config rounds ask ports.now keys self.new }
+        ensures shapes { (section : ℕ) → section < 8 →
+            shape_in self.new.sections section ≡ shape_with_new (map leg_asked legs.now) ports.now [] section (shape_in self.old.sections section) }
     {
         let sections = sections_with_ports(&self.sections, legs, ports);
         self.sections = sections;
@@ -272,6 +281,8 @@ impl OfferedNext {
         ensures last { self.new.last ≡ self.old.last }
         ensures next { (config : Config) (rounds : List Round) (ask : OfferAsk) (ports : List ℕ) → NextFor config rounds ask ports [] self.old →
             NextFor config rounds ask ports (numbered_keys first_key keys.now (map key_asked places.now)) self.new }
+        ensures shapes { (section : ℕ) → section < 8 → shape_in self.new.sections section
+            ≡ shape_with_new [] [] (numbered_keys first_key keys.now (map key_asked places.now)) section (shape_in self.old.sections section) }
     {
         let sections = sections_with_keys(&self.sections, places, first_key, keys);
         self.sections = sections;
@@ -282,6 +293,7 @@ impl OfferedNext {
         ensures same { SameOffer self.old.last self.new.last }
         ensures filled { (config : Config) (rounds : List Round) (ask : OfferAsk) (ports : List ℕ) (keys : List NewKey) →
             NextFor config rounds ask ports keys self.old → map key_place keys ≡ new_keys rounds ask → FilledFor config rounds ask ports keys self.new }
+        ensures sections { self.new.sections ≡ self.old.sections }
     {
         let side = other_side(self.last.maker);
         let sections = sections_with_lines(&self.last.sections, side, &self.sections);
@@ -302,6 +314,8 @@ impl OfferedNext {
         ensures filled { (config : Config) (rounds : List Round) (ask : OfferAsk) (ports : List ℕ) → NextFor config rounds ask ports [] self.old →
             map key_asked places.now ≡ new_keys rounds ask →
             FilledFor config rounds ask ports (numbered_keys first_key keys.now (new_keys rounds ask)) self.new }
+        ensures shapes { (section : ℕ) → section < 8 → shape_in self.new.sections section
+            ≡ shape_with_new [] [] (numbered_keys first_key keys.now (map key_asked places.now)) section (shape_in self.old.sections section) }
     {
         self.put_drawn(places, first_key, keys);
         self.put_lines();

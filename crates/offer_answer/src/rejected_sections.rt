@@ -11,6 +11,8 @@ ghost use Rattle.offer_answer.specs.Signals.{is_rejected_by};
 ghost use Rattle.offer_answer.specs.Dialogs.{DialogFor};
 ghost use Rattle.offer_answer.specs.LastOffers.{no_made};
 ghost use Rattle.offer_answer.specs.Answers.{IsLast};
+ghost use Rattle.offer_answer.specs.Shapes.{shape_of};
+ghost use Rattle.offer_answer.specs.AnswerShapes.{refuses_section};
 
 use crate::dialog::Dialog;
 use crate::last_offer::{LastOffer, MadeSection};
@@ -40,7 +42,8 @@ pub(crate) fn section_in(sdp: &Sdp, section: usize) -> Section
 /// section 6). Sections count from 0.
 pub(crate) fn is_rejected(dialog: &Dialog, last: &LastOffer, sdp: &Sdp, section: usize) -> bool
     requires { section < 8 }
-    ensures { (config : Config) (rounds : List Round) (offer : MadeOffer) (ask : AnswerAsk) → DialogFor config dialog.now rounds →
+    ensures shape { result ≡ refuses_section last.now sdp.now section (shape_of dialog.now section) }
+    ensures rejected { (config : Config) (rounds : List Round) (offer : MadeOffer) (ask : AnswerAsk) → DialogFor config dialog.now rounds →
         IsLast rounds offer last.now → lines_of ask.sdp ≡ sdp.now → result ≡ is_rejected_by rounds ask section }
 {
     let offered = made_section(last, section).section;

@@ -1,6 +1,6 @@
 //! What an answer commits.
 
-ghost use Rattle.std.specs.Prelude.{◌≡◌, ◌<◌, ℕ, List, IfOk, option_map};
+ghost use Rattle.std.specs.Prelude.{◌≡◌, ◌<◌, ℕ, List, IfOk, option_map, length, slice_index_or};
 ghost use Rattle.relay_outside.specs.declared.settings.Config.{Config};
 ghost use Rattle.port_pool.specs.Signals.{NewKey};
 ghost use Rattle.offer_answer.specs.Rounds.{Round, AnswerAsk};
@@ -8,6 +8,10 @@ ghost use Rattle.offer_answer.specs.Sides.{MadeOffer};
 ghost use Rattle.offer_answer.specs.Signals.{ip_of, signalled, line_key, leg_signal, side_signal, section_signal};
 ghost use Rattle.offer_answer.specs.Plan.{signal};
 ghost use Rattle.offer_answer.specs.Dialogs.{DialogFor, drawn_for_leg};
+ghost use Rattle.sdp_text.specs.Descriptions.{sections_in};
+ghost use Rattle.port_pool.specs.declared.signal.SectionSignal.{SectionSignal};
+ghost use Rattle.offer_answer.specs.Shapes.{shape_of};
+ghost use Rattle.offer_answer.specs.AnswerShapes.{refuses_section, SignalsLeg, SignalShape};
 ghost use Rattle.offer_answer.specs.Answers.{IsLast, ReadsAnswer, AnsweredAt};
 
 use crate::answered_section::{AnsweredSection, answered_section, is_same};
@@ -99,7 +103,8 @@ fn side_signal(
     options: &Options,
     side: Side,
 ) -> LegSignal
-    ensures { (config : Config) (rounds : List Round) (offer : MadeOffer) (ask : AnswerAsk) (section : ℕ) →
+    ensures keys { SignalsLeg answered.now last.now.maker side result }
+    ensures signal { (config : Config) (rounds : List Round) (offer : MadeOffer) (ask : AnswerAsk) (section : ℕ) →
         AnsweredAt config rounds offer ask section answered.now → IsLast rounds offer last.now → ask.options ≡ options.now →
         result ≡ side_signal rounds offer ask section side }
 {
@@ -123,7 +128,8 @@ fn section_signal(
     section: usize,
 ) -> SectionSignal
     requires { section < 8 }
-    ensures { (config : Config) (rounds : List Round) (offer : MadeOffer) (ask : AnswerAsk) → DialogFor config dialog.now rounds →
+    ensures shape { SignalShape (refuses_section last.now sdp.now section (shape_of dialog.now section)) dialog.now last.now sdp.now section result }
+    ensures signal { (config : Config) (rounds : List Round) (offer : MadeOffer) (ask : AnswerAsk) → DialogFor config dialog.now rounds →
         IsLast rounds offer last.now → ReadsAnswer sdp.now rounds ask → ask.options ≡ options.now →
         result ≡ section_signal rounds offer ask section }
 {
@@ -144,7 +150,10 @@ pub(crate) fn answer_signal(
     options: &Options,
     sdp: &Sdp,
 ) -> Result<Signal, OutOfMemory>
-    ensures { (config : Config) (rounds : List Round) (offer : MadeOffer) (ask : AnswerAsk) → DialogFor config dialog.now rounds →
+    ensures count { IfOk result (λ committed. length committed ≡ length (sections_in sdp.now)) }
+    ensures shapes { IfOk result (λ committed. (section : ℕ) (none : SectionSignal) → section < length committed →
+        SignalShape (refuses_section last.now sdp.now section (shape_of dialog.now section)) dialog.now last.now sdp.now section (slice_index_or committed section none)) }
+    ensures signal { (config : Config) (rounds : List Round) (offer : MadeOffer) (ask : AnswerAsk) → DialogFor config dialog.now rounds →
         IsLast rounds offer last.now → ReadsAnswer sdp.now rounds ask → ask.options ≡ options.now →
         IfOk result (λ committed. committed ≡ signal rounds ask) }
 {

@@ -2,6 +2,7 @@ use Rattle.std.proofs.Common.{map, ap}
 use Rattle.std.proofs.lemmas.Result.{err_from_is_err_and}
 use Rattle.offer_answer.specs.Offers.{leg_asked, key_asked}
 use Rattle.offer_answer.proofs.Kept.{none-set}
+use Rattle.offer_answer.proofs.AnswerShapes.{answers}
 use Rattle.offer_answer.proofs.answer_plan.answer.Goals as goal
 
 pub returns-in_err-last-clause-answered : goal.returns-in_err-last-clause-answered
@@ -21,8 +22,13 @@ returns-clause-answered c = λ rounds ask s a.
           keys_are = ap (map key_asked) c.new-2.ensures.items;
           drops_are = none-set 8;
         };
-        next_for = c.in_ok-next.ensures c.args.config.now rounds offer ask s is a;
-        signal_is = c.in_ok-signal.ensures c.args.config.now rounds offer ask s is a.hears a.options_are;
+        next_for = c.in_ok-next.ensures.next c.args.config.now rounds offer ask s is a;
+        signal_is = c.in_ok-signal.ensures.signal c.args.config.now rounds offer ask s is a.hears a.options_are;
         text_is = c.in_ok-edit.ensures.text rounds offer ask s is.offer_is is.kept is.kept.heard a.options_are a.hears.lines_are;
       },
     )
+
+pub returns-clause-shapes : goal.returns-clause-shapes
+returns-clause-shapes c =
+    answers c.args.dialog.now c.in_ok-last.last.now c.args.sdp.now c.in_ok-next.next.sections c.in_ok-signal.signal
+    c.in_ok-next.ensures.shapes c.in_ok-signal.ensures.count c.in_ok-signal.ensures.shapes

@@ -15,7 +15,7 @@ returns-then-misfits c = λ config rounds offer ask s i h e.
     let below : k < n = omega (arith, c.loop-index-test.true, c.section_count-index-end.ensures.count, count-answered c.args.sdp.now rounds ask h) in
     let side = c.other_side-side.ensures ∙ ap other_side i.kept.maker_is in
     let yes : (is_active_in ask.sdp k && misfits_answerer rounds offer ask k) ≡ true =
-    sym (unfit-is config rounds offer ask k c.answered_section.result c.args.options.now c.other_side-side.result (c.answered_section.ensures config rounds offer ask s i h) e side)
+    sym (unfit-is config rounds offer ask k c.answered_section.result c.args.options.now c.other_side-side.result (c.answered_section.ensures.answered config rounds offer ask s i h) e side)
     ∙ sym c.misfits.ensures ∙ c.if-misfits.true in
     sym (c.loop-index.invariant config rounds offer ask s i h e ∙ any-next (misfits_answerer rounds offer ask) (is_active_in ask.sdp) k n below
     ∙ ap (λ b. b || list_any (misfits_answerer rounds offer ask) (filter (is_active_in ask.sdp) (numbers (k + 1) (n - (k + 1))))) yes)
@@ -27,7 +27,7 @@ loop-index-preserved c = λ config rounds offer ask s i h e.
     let below : k < n = omega (arith, c.loop-index-test.true, c.section_count-index-end.ensures.count, count-answered c.args.sdp.now rounds ask h) in
     let side = c.other_side-side.ensures ∙ ap other_side i.kept.maker_is in
     let no : (is_active_in ask.sdp k && misfits_answerer rounds offer ask k) ≡ false =
-    sym (unfit-is config rounds offer ask k c.answered_section.result c.args.options.now c.other_side-side.result (c.answered_section.ensures config rounds offer ask s i h) e side)
+    sym (unfit-is config rounds offer ask k c.answered_section.result c.args.options.now c.other_side-side.result (c.answered_section.ensures.answered config rounds offer ask s i h) e side)
     ∙ sym c.misfits.ensures ∙ c.if-misfits.false in
     c.loop-index.invariant config rounds offer ask s i h e ∙ any-next (misfits_answerer rounds offer ask) (is_active_in ask.sdp) k n below
     ∙ ap (λ b. b || list_any (misfits_answerer rounds offer ask) (filter (is_active_in ask.sdp) (numbers (k + 1) (n - (k + 1))))) no

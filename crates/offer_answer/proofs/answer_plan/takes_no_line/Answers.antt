@@ -12,7 +12,7 @@ returns-then-takes_no_line c = λ config rounds offer ask s i h.
     let n : ℕ = section_count ask.sdp in
     let below : k < n = omega (arith, c.loop-index-test.true, c.section_count-index-end.ensures.count, count-answered c.args.sdp.now rounds ask h) in
     let yes : takes_no_line offer ask k ≡ true =
-    sym (takes-is config rounds offer ask k c.answered_section.result (c.answered_section.ensures config rounds offer ask s i h)) ∙ sym c.takes_no_line.ensures ∙ c.if-takes_no_line.true in
+    sym (takes-is config rounds offer ask k c.answered_section.result (c.answered_section.ensures.answered config rounds offer ask s i h)) ∙ sym c.takes_no_line.ensures ∙ c.if-takes_no_line.true in
     sym (c.loop-index.invariant config rounds offer ask s i h ∙ any-left (takes_no_line offer ask) k n below
     ∙ ap (λ b. b || list_any (takes_no_line offer ask) (numbers (k + 1) (n - (k + 1)))) yes)
 
@@ -22,7 +22,7 @@ loop-index-preserved c = λ config rounds offer ask s i h.
     let n : ℕ = section_count ask.sdp in
     let below : k < n = omega (arith, c.loop-index-test.true, c.section_count-index-end.ensures.count, count-answered c.args.sdp.now rounds ask h) in
     let no : takes_no_line offer ask k ≡ false =
-    sym (takes-is config rounds offer ask k c.answered_section.result (c.answered_section.ensures config rounds offer ask s i h)) ∙ sym c.takes_no_line.ensures ∙ c.if-takes_no_line.false in
+    sym (takes-is config rounds offer ask k c.answered_section.result (c.answered_section.ensures.answered config rounds offer ask s i h)) ∙ sym c.takes_no_line.ensures ∙ c.if-takes_no_line.false in
     c.loop-index.invariant config rounds offer ask s i h ∙ any-left (takes_no_line offer ask) k n below
     ∙ ap (λ b. b || list_any (takes_no_line offer ask) (numbers (k + 1) (n - (k + 1)))) no
 

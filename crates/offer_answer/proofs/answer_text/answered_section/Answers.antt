@@ -28,5 +28,5 @@ returns-clause-edit c = λ rounds offer ask d o m heard l.
     ∙ section-back c.args.config.now rounds offer ask section made kept c.args.last.now.maker r c.section_in-answered.result c.args.last.now.options
     (subst (MadeFor offer section) (sym c.made_at-made.ensures) (m.sections_are section c.requires))
     (d.sections_are section c.requires)
-    m.maker_is heard (c.is_rejected-is_rejected.ensures c.args.config.now rounds offer ask d (record { offer_is = o; kept = m }) l)
+    m.maker_is heard (c.is_rejected-is_rejected.ensures.rejected c.args.config.now rounds offer ask d (record { offer_is = o; kept = m }) l)
     (c.section_in-answered.ensures ∙ section-answered c.args.sdp.now ask.sdp section l) m.options_are

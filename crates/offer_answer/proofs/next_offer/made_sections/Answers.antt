@@ -12,7 +12,7 @@ loop-index-preserved c = record {
       one-more (MadeNext rounds ask) c.loop-index.sections c.loop-index.index c.made.result no_made
       (omega (arith, c.loop-index-test.true, c.loop-index.invariant.full))
       (c.loop-index.invariant.done config rounds ask s h t m)
-      (c.made.ensures config rounds ask c.loop-index.index (c.offered_section.ensures config rounds ask s h) t m);
+      (c.made.ensures config rounds ask c.loop-index.index (c.offered_section.ensures.offered config rounds ask s h) t m);
 }
 
 pub returns : goal.returns

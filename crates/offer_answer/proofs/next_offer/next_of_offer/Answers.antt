@@ -15,5 +15,5 @@ returns-clause-next c = λ config rounds ask s a m.
         heard = a.hears.heard;
         sections_are = c.made_sections-made.ensures config rounds ask s a.hears t m;
       };
-      sections_are = c.sections_after-sections.ensures config rounds ask s a.hears (sym a.options_are) m;
+      sections_are = c.sections_after-sections.ensures.next config rounds ask s a.hears (sym a.options_are) m;
     }

@@ -15,7 +15,7 @@ loop-index-preserved c = λ config rounds ask s h t e.
     let below : i < n = omega (arith, c.loop-index-test.true, c.section_count-index-end.ensures.count, count-heard c.args.sdp.now ask h) in
     let o = c.offered_section-offered.result in
     keys-gathered rounds ask i n (keys_asked o c.args.transport i c.args.side) c.loop-index.keys.items c.push_keys.new.keys.items below
-    (keys-are config rounds ask i o c.args.transport c.args.side (c.offered_section-offered.ensures config rounds ask s h) t e) c.in_ok-push_keys.ensures
+    (keys-are config rounds ask i o c.args.transport c.args.side (c.offered_section-offered.ensures.offered config rounds ask s h) t e) c.in_ok-push_keys.ensures
     ∙ c.loop-index.invariant config rounds ask s h t e
 
 pub returns : goal.returns

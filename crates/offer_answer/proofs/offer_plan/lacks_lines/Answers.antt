@@ -12,7 +12,7 @@ returns-then-lacks_line c = λ config rounds ask s h.
     let n : ℕ = section_count ask.sdp in
     let below : i < n = omega (arith, c.loop-index-test.true, c.section_count-index-end.ensures.count, count-heard c.args.sdp.now ask h) in
     let yes : (is_active_in ask.sdp i && lacks_line ask i) ≡ true =
-    sym (lacks-is config rounds ask i c.offered_section.result (c.offered_section.ensures config rounds ask s h)) ∙ sym c.lacks_line.ensures ∙ c.if-lacks_line.true in
+    sym (lacks-is config rounds ask i c.offered_section.result (c.offered_section.ensures.offered config rounds ask s h)) ∙ sym c.lacks_line.ensures ∙ c.if-lacks_line.true in
     sym (c.loop-index.invariant config rounds ask s h ∙ any-next (lacks_line ask) (is_active_in ask.sdp) i n below
     ∙ ap (λ b. b || list_any (lacks_line ask) (filter (is_active_in ask.sdp) (numbers (i + 1) (n - (i + 1))))) yes)
 
@@ -22,7 +22,7 @@ loop-index-preserved c = λ config rounds ask s h.
     let n : ℕ = section_count ask.sdp in
     let below : i < n = omega (arith, c.loop-index-test.true, c.section_count-index-end.ensures.count, count-heard c.args.sdp.now ask h) in
     let no : (is_active_in ask.sdp i && lacks_line ask i) ≡ false =
-    sym (lacks-is config rounds ask i c.offered_section.result (c.offered_section.ensures config rounds ask s h)) ∙ sym c.lacks_line.ensures ∙ c.if-lacks_line.false in
+    sym (lacks-is config rounds ask i c.offered_section.result (c.offered_section.ensures.offered config rounds ask s h)) ∙ sym c.lacks_line.ensures ∙ c.if-lacks_line.false in
     c.loop-index.invariant config rounds ask s h ∙ any-next (lacks_line ask) (is_active_in ask.sdp) i n below
     ∙ ap (λ b. b || list_any (lacks_line ask) (filter (is_active_in ask.sdp) (numbers (i + 1) (n - (i + 1))))) no
 

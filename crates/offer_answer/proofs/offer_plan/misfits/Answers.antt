@@ -12,7 +12,7 @@ returns-then-misfits c = λ config rounds ask s h e m.
     let n : ℕ = section_count ask.sdp in
     let below : i < n = omega (arith, c.loop-index-test.true, c.section_count-index-end.ensures.count, count-heard c.args.sdp.now ask h) in
     let yes : (is_active_in ask.sdp i && misfits_offerer rounds ask i) ≡ true =
-    sym (misfits-is config rounds ask i c.offered_section.result c.args.options.now c.args.side (c.offered_section.ensures config rounds ask s h) e m) ∙ sym c.misfits.ensures ∙ c.if-misfits.true in
+    sym (misfits-is config rounds ask i c.offered_section.result c.args.options.now c.args.side (c.offered_section.ensures.offered config rounds ask s h) e m) ∙ sym c.misfits.ensures ∙ c.if-misfits.true in
     sym (c.loop-index.invariant config rounds ask s h e m ∙ any-next (misfits_offerer rounds ask) (is_active_in ask.sdp) i n below
     ∙ ap (λ b. b || list_any (misfits_offerer rounds ask) (filter (is_active_in ask.sdp) (numbers (i + 1) (n - (i + 1))))) yes)
 
@@ -22,7 +22,7 @@ loop-index-preserved c = λ config rounds ask s h e m.
     let n : ℕ = section_count ask.sdp in
     let below : i < n = omega (arith, c.loop-index-test.true, c.section_count-index-end.ensures.count, count-heard c.args.sdp.now ask h) in
     let no : (is_active_in ask.sdp i && misfits_offerer rounds ask i) ≡ false =
-    sym (misfits-is config rounds ask i c.offered_section.result c.args.options.now c.args.side (c.offered_section.ensures config rounds ask s h) e m) ∙ sym c.misfits.ensures ∙ c.if-misfits.false in
+    sym (misfits-is config rounds ask i c.offered_section.result c.args.options.now c.args.side (c.offered_section.ensures.offered config rounds ask s h) e m) ∙ sym c.misfits.ensures ∙ c.if-misfits.false in
     c.loop-index.invariant config rounds ask s h e m ∙ any-next (misfits_offerer rounds ask) (is_active_in ask.sdp) i n below
     ∙ ap (λ b. b || list_any (misfits_offerer rounds ask) (filter (is_active_in ask.sdp) (numbers (i + 1) (n - (i + 1))))) no
 

@@ -1,7 +1,9 @@
-use Rattle.std.proofs.Common.{◌∙◌, arith}
+use Rattle.std.proofs.Common.{◌≡◌, [], map, ◌∙◌, arith}
 use Rattle.std.proofs.lemmas.List.{length-set}
 use Rattle.offer_answer.specs.Dialogs.{no_state}
+use Rattle.offer_answer.specs.Offers.{leg_asked}
 use Rattle.offer_answer.specs.Nexts.{SectionNext}
+use Rattle.offer_answer.specs.Shapes.{section_shape, shape_in, shape_with_new}
 use Rattle.offer_answer.proofs.Arrays.{one-more}
 use Rattle.offer_answer.proofs.ports_and_keys.sections_with_ports.Goals as goal
 
@@ -12,9 +14,15 @@ loop-index-preserved c = record {
       one-more (SectionNext config rounds ask c.args.ports.now keys) c.loop-index.sections c.loop-index.index c.section_with_ports.result no_state
       (omega (arith, c.loop-index-test.true, c.loop-index.invariant.full))
       (c.loop-index.invariant.done config rounds ask keys l each)
-      (c.section_with_ports.ensures config rounds ask keys l (each c.loop-index.index c.loop-index-test.true));
+      (c.section_with_ports.ensures.next config rounds ask keys l (each c.loop-index.index c.loop-index-test.true));
+  shapes = one-more (λ section kept. section_shape kept ≡ shape_with_new (map leg_asked c.args.legs.now) c.args.ports.now [] section (shape_in c.args.kept.now section))
+      c.loop-index.sections c.loop-index.index c.section_with_ports.result no_state
+      (omega (arith, c.loop-index-test.true, c.loop-index.invariant.full)) c.loop-index.invariant.shapes c.section_with_ports.ensures.shape;
 }
 
-pub returns : goal.returns
-returns c = λ config rounds ask keys l each section below.
+pub returns-clause-next : goal.returns-clause-next
+returns-clause-next c = λ config rounds ask keys l each section below.
     c.loop-index.invariant.done config rounds ask keys l each section (omega (arith, below, c.loop-index-test.false))
+
+pub returns-clause-shapes : goal.returns-clause-shapes
+returns-clause-shapes c = λ section below. c.loop-index.invariant.shapes section (omega (arith, below, c.loop-index-test.false))

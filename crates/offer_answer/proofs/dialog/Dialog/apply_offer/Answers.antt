@@ -2,8 +2,8 @@ use Rattle.std.proofs.Common.{refl}
 use Rattle.offer_answer.proofs.Nexts.{tag-offered, none-offered}
 use Rattle.offer_answer.proofs.dialog.Dialog.apply_offer.Goals as goal
 
-pub returns : goal.returns
-returns c = λ config rounds ask ports keys legs s awaits f leased. record {
+pub returns-clause-stands : goal.returns-clause-stands
+returns-clause-stands c = λ config rounds ask ports keys legs s awaits f leased. record {
   begun_is = refl;
   first_tag_is = tag-offered config c.args.self.now rounds ask legs keys s awaits;
   answering_tag_is = s.answering_tag_is;

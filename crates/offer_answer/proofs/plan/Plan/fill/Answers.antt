@@ -5,6 +5,8 @@ use Rattle.offer_answer.specs.Nexts.{numbered_keys}
 use Rattle.offer_answer.specs.Plans.{OfferFilled}
 use Rattle.offer_answer.specs.Widths.{WritesNext}
 use Rattle.offer_answer.specs.declared.plan.Plan.{Plan}
+use Rattle.offer_answer.specs.AnswerShapes.{AnswerShapes}
+use Rattle.offer_answer.specs.Shapes.{FilledShapes}
 use Rattle.offer_answer.proofs.Kept.{kept-writes}
 use Rattle.offer_answer.proofs.plan.Plan.fill.Goals as goal
 
@@ -27,3 +29,10 @@ pub returns-clause-demands : goal.returns-clause-demands
 returns-clause-demands c = λ asked for.
     c.write.ensures.demands asked
     (subst (λ (plan : Plan). PlanFor plan asked) (sym c.put.ensures.rest) (record { pairs_are = for.pairs_are; keys_are = for.keys_are; drops_are = for.drops_are }))
+
+pub returns-clause-shapes : goal.returns-clause-shapes
+returns-clause-shapes c = λ dialog s.
+    subst (FilledShapes c.args.self.now dialog c.args.ports.now _) (sym c.write.ensures.next) (c.put.ensures.shapes dialog s)
+
+pub returns-clause-answered_shapes : goal.returns-clause-answered_shapes
+returns-clause-answered_shapes c = λ dialog s. subst (AnswerShapes c.args.self.now dialog) (sym c.write.ensures.next) (c.put.ensures.answered_shapes dialog s)
