@@ -1,5 +1,5 @@
 -- Histories that one board stands for demand the same replies and acts.
-use Rattle.std.proofs.Common.{◌≡◌, ◌∙◌, refl, ap, subst, ℕ, ◌+◌, ◌≤◌, ◌&&◌, nat_le, Bool, true, false, not, List, [], ◌∷◌, map, length, take, filter, Option, Some, None, Result, Ok, Err, if◌then◌else◌, is_some, filter_map, codes, ◌++◌}
+use Rattle.std.proofs.Common.{◌≡◌, ◌∙◌, refl, ap, subst, ℕ, ◌+◌, ◌≤◌, ◌&&◌, nat_le, Bool, true, false, not, List, [], ◌∷◌, map, length, take, Option, Some, None, Result, Ok, Err, if◌then◌else◌, is_some, filter_map, codes, ◌++◌}
 use Rattle.std.specs.List.{list_any}
 use Rattle.relay_outside.specs.declared.settings.Config.{Config}
 use Rattle.histories.specs.Words.{In, here, there, numbers, or_else}

@@ -15,7 +15,7 @@ use Rattle.offer_answer.specs.Plan as plan
 use Rattle.call_board.specs.Acts as act
 use Rattle.call_board.specs.Acts.{Act, Call, Control, BoardEntry}
 use Rattle.call_board.specs.Calls.{live, find_call, rounds, first_moment, latest_moment}
-use Rattle.call_board.specs.Pairs.{free, next_lease}
+use Rattle.call_board.specs.Pairs.{next_lease}
 use Rattle.call_board.specs.KeptReplies.{kept_reply}
 use Rattle.call_board.specs.Requests.{ReadsBody, asked}
 use Rattle.call_board.specs.Replies.{Reply, Pong, Done, Warned, Described, Reported, Listed, Fault, reply_datagram}

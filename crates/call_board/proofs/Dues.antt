@@ -1,25 +1,22 @@
 -- What the board plans is what is due: the answer to an offer or an answer by its plan, and the legs of an offer by its leases.
-use Rattle.std.proofs.Common.{◌≡◌, ◌≢◌, ◌∙◌, refl, sym, ap, subst, ℕ, ◌+◌, ◌<◌, List, [], ◌∷◌, map, filter, take, length, Bool, true, false, cond, Option, Some, None, Ok, Err, arith}
-use Rattle.std.specs.Prelude.{◌&&◌, ◌||◌, nat_le, nat_lt, option_map}
-use Rattle.std.specs.List.{flat_map}
+use Rattle.std.proofs.Common.{◌≡◌, ◌≢◌, ◌∙◌, refl, sym, ap, subst, ℕ, ◌+◌, ◌<◌, List, [], ◌∷◌, map, filter, length, Bool, true, false, cond, Option, Some, None, Ok, Err, arith}
+use Rattle.std.specs.Prelude.{◌&&◌, nat_le, option_map}
 use Rattle.std.proofs.lemmas.List.{length-map}
 use Rattle.std.proofs.lemmas.Simd.{map-map}
 use Rattle.std.proofs.lemmas.Bool.Decides.{nat_tests}
 use Rattle.relay_outside.specs.declared.settings.Config.{Config}
-use Rattle.relay_outside.specs.declared.address.Family.TheVariants.{V4, V6}
 use Rattle.ng_command.specs.declared.command.AnswerIn.{AnswerIn}
 use Rattle.ng_reply.specs.declared.code.ErrorCode.{ErrorCode}
 use Rattle.ng_reply.specs.declared.code.ErrorCode.TheVariants.{E9, E13, E14}
 use Rattle.histories.specs.Words.{In, first, or_else}
 use Rattle.offer_answer.specs.Rounds.{Round, OfferAsk, AnswerAsk, NewLeg, Demand}
-use Rattle.offer_answer.specs.Demands.{legs_for, new_active_sections}
 use Rattle.offer_answer.specs.Plan as plan
 use Rattle.offer_answer.specs.Plan.{demand}
 use Rattle.offer_answer.specs.Answers.{AsksAnswer}
 use Rattle.call_board.specs.Acts as act
 use Rattle.call_board.specs.Acts.{Call, BoardEntry, Given}
 use Rattle.call_board.specs.Calls.{begun, live, find_call, new_call, rounds, is_ending, lowest_but}
-use Rattle.call_board.specs.Pairs.{free, free_in, is_short, is_short_of, leased_new_legs}
+use Rattle.call_board.specs.Pairs.{free_in, is_short, leased_new_legs}
 use Rattle.call_board.specs.Replies.{Described}
 use Rattle.call_board.specs.Answers.{Answering, failing, ending_error, leased_pairs, offer_leased, offer_planned, offer_unless, offer_to, answer_unless, answer_to}
 use Rattle.call_board.specs.Views.{View, CallView, call_view, view_of, times_leased, is_of_id, call_of_id, with_calls, goes_on}
@@ -33,7 +30,6 @@ use Rattle.call_board.specs.declared.board_plan.BoardPlan.{BoardPlan}
 use Rattle.call_board.specs.declared.board_plan.NewCall.{NewCall}
 use Rattle.call_board.proofs.Lowest.{lowest_is, lowest_bound}
 use Rattle.call_board.proofs.Calls.{found_live}
-use Rattle.call_board.proofs.Demands.{count_of, count_next}
 use Rattle.call_board.proofs.Found.{found_by_id}
 
 -- The pairs of an offer.

@@ -1,6 +1,6 @@
 -- The changes that the calls of the board make together are a whole entry of its history.
-use Rattle.std.proofs.Common.{◌≡◌, ◌∙◌, refl, sym, ap, subst, ℕ, zero, suc, ◌+◌, ◌≤◌, ◌<◌, List, [], ◌∷◌, ◌++◌, map, filter, drop, take, length, Bool, true, false, cond, not, ◌==◌, Some, None, arith, append_assoc, append-nil, length-append}
-use Rattle.std.specs.Prelude.{count_by, max}
+use Rattle.std.proofs.Common.{◌≡◌, ◌∙◌, refl, sym, ap, subst, ℕ, zero, suc, ◌+◌, ◌≤◌, ◌<◌, List, [], ◌∷◌, ◌++◌, map, filter, length, Bool, true, false, cond, not, ◌==◌, Some, None, arith, append_assoc, append-nil, length-append}
+use Rattle.std.specs.Prelude.{max}
 use Rattle.std.specs.List.{flat_map, cons_option}
 use Rattle.std.proofs.lemmas.List.{map-append, length-map}
 use Rattle.std.proofs.lemmas.List.Sums.{sum_by-append}

@@ -1,5 +1,5 @@
 -- Which pairs are free after an entry, in their order: those that it did not lease, then those that it gave back.
-use Rattle.std.proofs.Common.{◌≡◌, ◌∙◌, refl, sym, ap, subst, ℕ, zero, suc, ◌+◌, ◌⊎◌, inl, inr, List, [], ◌∷◌, ◌++◌, map, filter, take, drop, length, Bool, true, false, cond, not, arith, append_assoc}
+use Rattle.std.proofs.Common.{◌≡◌, ◌∙◌, refl, sym, ap, subst, ℕ, zero, suc, ◌⊎◌, inl, inr, List, [], ◌∷◌, ◌++◌, map, filter, take, length, Bool, true, false, not, arith, append_assoc}
 use Rattle.std.specs.Prelude.{◌&&◌, ◌||◌}
 use Rattle.std.specs.List.{flat_map}
 use Rattle.std.proofs.lemmas.List.{map-append}
@@ -16,12 +16,12 @@ use Rattle.call_board.specs.Calls.{live, ended_by_act}
 use Rattle.call_board.specs.Pairs.{held, legs_of_act, closes_leg, closed, closed_of, calls_in, signalled_by, all_leased, leased_by_act, returned, undone_pairs, free, free_in, fronts, next_lease, leased_new_legs}
 use Rattle.call_board.specs.Fits.{FitsBoard, FitsAt, IsFitting}
 use Rattle.call_board.proofs.Once.{Once, once_append, once_filtered, once_numbers}
-use Rattle.call_board.proofs.Sieves.{filter_both, filter_alike, filter_whole, has_append, is_out, last_append, last_same, without_taken}
+use Rattle.call_board.proofs.Sieves.{filter_both, filter_alike, filter_whole, has_append, is_out, last_append, last_same}
 use Rattle.call_board.proofs.Told.{Tells}
 use Rattle.call_board.proofs.Tells.{tells}
 use Rattle.call_board.proofs.Calls.{begun_numbers}
 use Rattle.call_board.proofs.Held.{held_split, held_stays, closed_held, closed_of_held, closes_held}
-use Rattle.call_board.proofs.Free.{free_once, fronts_once, families_apart, new_legs_once, free_not_held, legs_leased, undone_leased, leased_free, held_once, held_apart}
+use Rattle.call_board.proofs.Free.{fronts_once, families_apart, new_legs_once, free_not_held, legs_leased, undone_leased, leased_free, held_once, held_apart}
 
 abbrev pair_of : Holder → ℕ
 pair_of leg = leg.pair

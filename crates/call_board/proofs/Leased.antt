@@ -1,13 +1,13 @@
 -- What one more lease adds to those that were made.
-use Rattle.std.proofs.Common.{◌≡◌, ◌∙◌, refl, ap, sym, subst, ℕ, zero, suc, ◌+◌, ◌*◌, ◌<◌, Bool, true, false, cond, not, List, [], ◌∷◌, ◌++◌, length, map, filter, take, drop, Option, Some, slice_index_or, slice_set, slice_get, option_map, append_assoc, append-nil, arith}
+use Rattle.std.proofs.Common.{◌≡◌, ◌∙◌, refl, ap, sym, subst, ℕ, zero, suc, ◌+◌, ◌*◌, ◌<◌, Bool, true, false, cond, not, List, [], ◌∷◌, ◌++◌, length, filter, take, drop, Option, Some, slice_index_or, slice_set, slice_get, option_map, append_assoc, append-nil, arith}
 use Rattle.std.specs.Prelude.{count_by, ◌==◌, ◌&&◌, ◌||◌}
 use Rattle.std.proofs.lemmas.List.{map_push, get_or-set_same, get_or-set_other, length-set}
 use Rattle.std.proofs.lemmas.List.Sums.{sum_by-append}
 use Rattle.relay_outside.specs.declared.address.Family.{Family}
 use Rattle.relay_outside.specs.declared.address.Family.TheVariants.{V4, V6}
 use Rattle.relay_outside.specs.declared.settings.Config.{Config}
-use Rattle.histories.specs.Words.{In, here, there, has}
-use Rattle.histories.proofs.Lists.{equal, equal_if, has_it, it_has, filtered}
+use Rattle.histories.specs.Words.{In, here, has}
+use Rattle.histories.proofs.Lists.{equal, equal_if, it_has, filtered}
 use Rattle.port_pool.specs.Ports.{first_port, pair_count, pair_family, pair_port, place_in_family, family_eq, pairs_of_family}
 use Rattle.port_pool.specs.Leases.{lease_of}
 use Rattle.port_pool.specs.Pools as pools

@@ -45,3 +45,5 @@ pub mod AlikeViews
 pub mod AlikeHistories
 pub mod AlikeAnswers
 pub mod OneBoard
+pub mod SavedMoves
+pub mod SavedLoading

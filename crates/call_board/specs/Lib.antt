@@ -18,3 +18,4 @@ pub mod NextBoards
 pub mod Whole
 pub mod Returns
 pub mod Futures
+pub mod SavedBoards

@@ -26,9 +26,11 @@ mod live_call;
 mod live_calls;
 mod offer_leases;
 mod offer_plan;
+mod saved_board;
 
 pub use board::Board;
 pub use board_plan::BoardPlan;
 pub use fault::BoardFault;
 pub use law::{changes_are_entries, one_board_has_one_future};
 pub use live_call::LiveCall;
+pub use saved_board::{BoardSaved, CallSaved, board_moves};

@@ -5,8 +5,9 @@ ghost use Rattle.std.specs.List.{list_any};
 ghost use Rattle.std.specs.Str.{bytes_eq};
 
 use crate::live_call::LiveCall;
+use crate::saved_board::{CallSaved, saved_calls};
 use indexmap::IndexMap;
-use offer_answer::Plan;
+use offer_answer::{Dialog, Plan};
 use relay_outside::OutOfMemory;
 use std::alloc::Global;
 use std::marker::Model;
@@ -41,6 +42,8 @@ impl LiveCalls {
     ghost use Rattle.indexmap.specs.IndexMap.{keys, values};
     ghost use Rattle.call_board.specs.NextBoards.{CallGoesOn, CallEnds};
     ghost use Rattle.call_board.specs.CallNumbers.{NumbersRise};
+    ghost use Rattle.std.specs.Prelude.{IfOk};
+    ghost use Rattle.call_board.specs.SavedBoards.{CallsSave, GainsSaved};
 
     /// No calls.
     pub fn new(alloc: Global) -> LiveCalls
@@ -152,5 +155,45 @@ impl LiveCalls {
             unreachable!();
         };
         call
+    }
+
+    /// The calls in order as values with public fields. `Err`: there was no memory for them.
+    pub fn into_saved(self, alloc: Global) -> Result<Vec<CallSaved>, OutOfMemory>
+        ensures { IfOk result (λ saved. CallsSave self.list saved.items) }
+    {
+        saved_calls(alloc, self.calls)
+    }
+
+    /// Takes in a saved call after the others, where none of them has its call-id.
+    pub fn take_in(&mut self, alloc: Global, saved: CallSaved) -> Result<(), OutOfMemory>
+        requires { list_any (λ live. bytes_eq live.id.list saved.id.list) self.old.list ≡ false }
+        ensures { OnOk result (GainsSaved self.old.list self.new.list saved) }
+    {
+        let key = Vec::from_slice(alloc, saved.id.as_slice())?;
+        let CallSaved {
+            number,
+            cell,
+            id,
+            dialog,
+            first_moment,
+            last_moment,
+            due_moment,
+        } = saved;
+        let Some(dialog) = Dialog::from_saved(dialog)? else {
+            unreachable!();
+        };
+        let dialog = Box::new(alloc, dialog)?;
+        let call = LiveCall {
+            number,
+            cell,
+            id,
+            dialog,
+            first_moment,
+            last_moment,
+            due_moment,
+        };
+        self.reserve()?;
+        self.push(key, call);
+        Ok(())
     }
 }

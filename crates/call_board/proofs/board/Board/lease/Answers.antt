@@ -1,4 +1,4 @@
-use Rattle.std.proofs.Common.{refl, ap, sym, subst, ◌∙◌, arith, ℕ, ◌≡◌, ◌≤◌, ◌<◌, ◌+◌, List, [], ◌∷◌, ◌++◌, length, take, drop, cond, Some, option_map, slice_get}
+use Rattle.std.proofs.Common.{refl, ap, sym, subst, ◌∙◌, arith, ℕ, ◌≡◌, ◌≤◌, ◌<◌, ◌+◌, List, [], ◌∷◌, ◌++◌, length, take, drop, cond}
 use Rattle.relay_outside.specs.declared.address.Family.{Family}
 use Rattle.std.proofs.lemmas.List.{length-map}
 use Rattle.port_pool.specs.Ports.{pair_count, pairs_of_family, family_eq}
@@ -6,7 +6,6 @@ use Rattle.port_pool.specs.Pools.{free_pairs}
 use Rattle.port_pool.specs.LeaseLists.{LeaseList}
 use Rattle.offer_answer.specs.Rounds.{NewLeg}
 use Rattle.offer_answer.specs.Offers.{pairs_demanded, legs_demanded, leg_asked}
-use Rattle.call_board.specs.declared.board_plan.BoardPlan.{BoardPlan}
 use Rattle.call_board.specs.Pairs.{without_front}
 use Rattle.call_board.specs.Views.{with_leases}
 use Rattle.call_board.specs.Boards.{BoardMatches, fronts_for, leases_at}

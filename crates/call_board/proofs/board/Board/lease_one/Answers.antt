@@ -5,7 +5,6 @@ use Rattle.port_pool.specs.Leases.{LeasesFront, lease_of}
 use Rattle.port_pool.specs.LeaseLists.{with_lease}
 use Rattle.port_pool.specs.declared.pairs.Lease.{Lease}
 use Rattle.port_pool.specs.Ports.{pair_count}
-use Rattle.call_board.specs.Boards.{lease_at}
 use Rattle.call_board.specs.Views.{with_leases}
 use Rattle.call_board.proofs.Leased.{lease_stands, lease_same, once_free}
 use Rattle.call_board.proofs.board.Board.lease_one.Goals as goal
