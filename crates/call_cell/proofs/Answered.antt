@@ -1,6 +1,7 @@
 -- The legs of a cell over one commit: each is committed, and those of rejected sections go.
 use Rattle.std.proofs.Common.{◌≡◌, refl, ap, subst, sym, ◌∙◌, ℕ, zero, suc, ◌+◌, ◌<◌, ◌≤◌, Bool, true, false, cond, not, List, [], ◌∷◌, ◌++◌, map, filter, length, Option, Some, None, get_or, max, arith}
 use Rattle.std.specs.Prelude.{is_some}
+use Rattle.std.specs.List.{cons_option, filter_map}
 use Rattle.std.proofs.lemmas.List.Kept.{AllPairs-filter}
 use Rattle.relay_outside.specs.declared.settings.Config.{Config}
 use Rattle.histories.specs.Words.{In, here, there, final}
@@ -63,6 +64,11 @@ map_filter {X} {Z} f p (x ∷ xs) =
     map_case f x (filter (λ (y : X). p (f y)) xs) (p (f x))
     ∙ ap (λ (l : List Z). cond (p (f x)) (f x ∷ l) l) (map_filter f p xs)
 
+-- what is picked is what is made, where it is there
+pub picked_made : {X Y : Type 0} (f : X → Option Y) (xs : List X) → filter_map f xs ≡ filter_map (λ (o : Option Y). o) (map f xs)
+picked_made f [] = refl
+picked_made {X} {Y} f (x ∷ xs) = ap (λ (l : List Y). cons_option (f x) l) (picked_made f xs)
+
 -- A leg and what the commit made of it.
 
 same_of : {O : Type 0} (said : Option LegSignal) (a b : Leg O) → LegCommitsBy said a b → (b.holder ≡ a.holder) × (parts_of b ≡ parts_of a)
@@ -110,7 +116,7 @@ apart_kept {O} p xs apart = apart_of (filter p xs) (AllPairs-filter (λ (a b : L
 pub record Answered {O : Type 0} (config : Config) (m : ℕ) (signal : List SectionSignal) (h : List CellEntry) (old new : List (Leg O))
     (gone : List (Lease × O × O)) : Type 0 where
   pub legs_for : LegsStandFor config (commit_entry m signal ∷ h) new
-  pub went : gone ≡ map (λ (leg : Leg O). parts_of leg) (filter (λ (leg : Leg O). goes_by signal leg) old)
+  pub went : gone ≡ filter_map (λ (leg : Leg O). parts_of leg) (filter (λ (leg : Leg O). goes_by signal leg) old)
   pub stay : map (λ (leg : Leg O). parts_of leg) new ≡ map (λ (leg : Leg O). parts_of leg) (filter (λ (leg : Leg O). stays_by signal leg) old)
 
 pub answered : {O : Type 0} (config : Config) (m : ℕ) (signal : List SectionSignal) (h : List CellEntry) (flags : List Bool) (old mid new : List (Leg O))
@@ -120,7 +126,7 @@ answered {O} config m signal h flags old mid new before after for names long doe
     let P : List (Leg O) → Type 0 = λ (l : List (Leg O)). LegsStandFor config (commit_entry m signal ∷ h) l in
     let room : length before + length mid ≤ 16
     = subst (λ (l : List (Lease × O × O)). length l + length mid ≤ 16) (sym empty) (omega (arith, few config h old for, long)) in
-    let parts : Leg O → Lease × O × O = λ (leg : Leg O). parts_of leg in
+    let parts : Leg O → Option (Lease × O × O) = λ (leg : Leg O). parts_of leg in
     let holder : Leg O → Holder = λ (leg : Leg O). leg.holder in
     let R : Leg O → Leg O → Type 0 = λ (a b : Leg O). Same signal flags a b in
     let stay_p : Leg O → Bool = λ (leg : Leg O). stays_by signal leg in
@@ -148,8 +154,11 @@ answered {O} config m signal h flags old mid new before after for names long doe
     } in
     record {
       legs_for = subst P (sym (part room).0) kept;
-      went = (part room).1 ∙ ap (λ (l : List (Lease × O × O)). l ++ map parts (filter (λ (leg : Leg O). goes flags leg) mid)) empty
-          ∙ kept_both R (λ (leg : Leg O). goes_by signal leg) (λ (leg : Leg O). goes flags leg) parts parts (λ a b r. (r.flag, r.parts)) old mid pairs;
+      went = (part room).1 ∙ ap (λ (l : List (Lease × O × O)). l ++ filter_map parts (filter (λ (leg : Leg O). goes flags leg) mid)) empty
+          ∙ picked_made parts (filter (λ (leg : Leg O). goes flags leg) mid)
+          ∙ ap (λ (l : List (Option (Lease × O × O))). filter_map (λ o. o) l)
+          (kept_both R (λ (leg : Leg O). goes_by signal leg) (λ (leg : Leg O). goes flags leg) parts parts (λ a b r. (r.flag, r.parts)) old mid pairs)
+          ∙ sym (picked_made parts (filter (λ (leg : Leg O). goes_by signal leg) old));
       stay = ap (λ (l : List (Leg O)). map parts l) (part room).0
           ∙ kept_both R stay_p stay_q parts parts (λ a b r. (ap not r.flag, r.parts)) old mid pairs;
     }

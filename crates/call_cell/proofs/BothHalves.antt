@@ -1,6 +1,6 @@
 -- What the contexts of one key do, half by half: a note of one half changes nothing in the other half's context.
 use Rattle.std.proofs.Common.{◌≡◌, refl, ap, subst, sym, ◌∙◌, ℕ, List, ◌∷◌, ◌++◌, Bool, false, Option, Some, None, Result, Ok, Err, length, take, drop, take_at}
-use Rattle.std.specs.Prelude.{is_some, ◌==◌, ◌&&◌, if◌then◌else◌}
+use Rattle.std.specs.Prelude.{◌==◌, ◌&&◌, if◌then◌else◌}
 use Rattle.std.specs.List.{cons_option, filter_map}
 use Rattle.std.specs.Option.{option_map_or}
 use Rattle.sdes_lines.specs.declared.crypto_line.Suite.{Suite}
@@ -29,10 +29,9 @@ use Rattle.srtcp_context.specs.Contexts as srtcp_for
 use Rattle.port_pool.specs.Signals.{NewKey}
 use Rattle.call_cell.specs.declared.outcome.Refused.{Refused}
 use Rattle.call_cell.specs.declared.outcome.Lost.{Lost}
-use Rattle.call_cell.specs.declared.outcome.Lost.TheVariants as lost
 use Rattle.call_cell.specs.declared.contexts.Inbound.{Inbound}
 use Rattle.call_cell.specs.declared.contexts.Outbound.{Outbound}
-use Rattle.call_cell.specs.Protection.{is_packet, Departure, Held, refused_by, opened_rtp, opened_rtcp, opened_under, lost_by, wrapped_rtp, wrapped_rtcp, wrapped_under}
+use Rattle.call_cell.specs.Protection.{refused_by, opened_rtp, opened_rtcp, opened_under, lost_by, wrapped_rtp, wrapped_rtcp, wrapped_under}
 use Rattle.call_cell.specs.Contexts.{InboundFor, InboundOpensTo, OutboundFor, OutboundWrapsTo}
 
 -- The halves of notes.

@@ -1,6 +1,6 @@
 -- What a cell's caller knows of its legs by the history.
 use Rattle.std.proofs.Common.{◌≡◌, refl, ap, sym, ◌∙◌, ℕ, Bool, List, [], ◌∷◌, ◌++◌, Option, map, filter, length, arith}
-use Rattle.std.specs.List.{count_by}
+use Rattle.std.specs.List.{count_by, filter_map}
 use Rattle.std.proofs.lemmas.List.{length-append, length-map}
 use Rattle.std.proofs.lemmas.List.Sums.{length-filter, count_by-le-length}
 use Rattle.relay_outside.specs.declared.settings.Config.{Config}
@@ -30,7 +30,7 @@ places_fit {O} config cell h signal call keys dropped for prep can =
     let p : Leg O → Bool = λ (leg : Leg O). stays signal.dropped leg in
     let kept = filter p old in
     let f : Leg O → Leg O = λ (leg : Leg O). with_keys signal.keys.items leg in
-    let after : List (Lease × O × O) = map (λ (leg : Leg O). parts_of leg) (filter (λ (leg : Leg O). goes signal.dropped leg) old) in
+    let after : List (Lease × O × O) = filter_map (λ (leg : Leg O). parts_of leg) (filter (λ (leg : Leg O). goes signal.dropped leg) old) in
     let part : Part signal.dropped old kept [] after = λ room. (refl, refl) in
     let o = offered config 0 call signal keys dropped (since_end h) old kept (kept ++ signal.legs.items) (map f (kept ++ signal.legs.items)) [] after
     for.legs_for for.unnoted prep can refl part refl (λ apart. refl) in

@@ -1,5 +1,6 @@
 -- All legs go from a cell.
-use Rattle.std.proofs.Common.{◌≡◌, refl, ap, subst, sym, ◌∙◌, ℕ, zero, suc, ◌+◌, ◌<◌, ◌≤◌, Bool, true, false, cond, not, List, [], ◌∷◌, ◌++◌, map, filter, length, get_or, arith}
+use Rattle.std.proofs.Common.{◌≡◌, refl, ap, subst, sym, ◌∙◌, ℕ, zero, suc, ◌+◌, ◌<◌, ◌≤◌, Bool, true, false, cond, not, List, [], ◌∷◌, ◌++◌, filter, length, get_or, arith}
+use Rattle.std.specs.List.{filter_map}
 use Rattle.relay_outside.specs.declared.settings.Config.{Config}
 use Rattle.histories.specs.Words.{In, here, there}
 use Rattle.port_pool.specs.declared.pairs.Lease.{Lease}
@@ -26,14 +27,14 @@ filter_none p (x ∷ xs) none = none_case p x xs (none x (here refl)) (filter_no
 
 pub all_go : {O : Type 0} (config : Config) (h : List CellEntry) (flags : List Bool) (old new : List (Leg O)) (before after : List (Lease × O × O))
     → LegsStandFor config h old → ((section : ℕ) → section < 8 → get_or flags section false ≡ true) → before ≡ [] → Part flags old new before after
-    → (new ≡ []) × (after ≡ map (λ (leg : Leg O). parts_of leg) old)
+    → (new ≡ []) × (after ≡ filter_map (λ (leg : Leg O). parts_of leg) old)
 all_go {O} config h flags old new before after for flagged empty part =
     let room : length before + length old ≤ 16
     = subst (λ (l : List (Lease × O × O)). length l + length old ≤ 16) (sym empty) (omega (arith, few config h old for)) in
     let gone : (leg : Leg O) → In leg old → goes flags leg ≡ true = λ leg i. flagged leg.holder.section (each_in config h old leg for i).section in (
       (part room).0 ∙ filter_none (λ (leg : Leg O). stays flags leg) old (λ leg i. ap not (gone leg i)),
-      (part room).1 ∙ ap (λ (l : List (Lease × O × O)). l ++ map (λ (leg : Leg O). parts_of leg) (filter (λ (leg : Leg O). goes flags leg) old)) empty
-          ∙ ap (λ (l : List (Leg O)). map (λ (leg : Leg O). parts_of leg) l) (filter_whole (λ (leg : Leg O). goes flags leg) old gone),
+      (part room).1 ∙ ap (λ (l : List (Lease × O × O)). l ++ filter_map (λ (leg : Leg O). parts_of leg) (filter (λ (leg : Leg O). goes flags leg) old)) empty
+          ∙ ap (λ (l : List (Leg O)). filter_map (λ (leg : Leg O). parts_of leg) l) (filter_whole (λ (leg : Leg O). goes flags leg) old gone),
     )
 
 pub eight_true : (section : ℕ) → section < 8 → get_or (true ∷ true ∷ true ∷ true ∷ true ∷ true ∷ true ∷ true ∷ []) section false ≡ true

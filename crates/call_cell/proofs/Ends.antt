@@ -1,5 +1,6 @@
 -- A cell over the end of its call.
-use Rattle.std.proofs.Common.{◌≡◌, refl, subst, sym, ◌∙◌, ℕ, List, [], map, max, arith, false, None}
+use Rattle.std.proofs.Common.{◌≡◌, refl, subst, sym, ◌∙◌, ℕ, List, [], max, arith, false, None}
+use Rattle.std.specs.List.{filter_map}
 use Rattle.relay_outside.specs.declared.settings.Config.{Config}
 use Rattle.port_pool.specs.declared.pairs.Lease.{Lease}
 use Rattle.call_cell.specs.declared.leg.Leg.{Leg}
@@ -24,7 +25,7 @@ no_legs config = record {
 
 pub cell_ends : {O : Type 0} (config : Config) (old new : Cell O) (h : List CellEntry) (after : List (Lease × O × O)) → CellFor config old h
     → new.config ≡ old.config → new.moment ≡ old.moment → new.call ≡ None → new.is_committed ≡ false
-    → new.legs.items ≡ [] → after ≡ map (λ (leg : Leg O). parts_of leg) old.legs.items → CellEnds config old new h after
+    → new.legs.items ≡ [] → after ≡ filter_map (λ (leg : Leg O). parts_of leg) old.legs.items → CellEnds config old new h after
 cell_ends {O} config old new h after for same_config same_moment call committed none went =
     record {
       fits = tt;

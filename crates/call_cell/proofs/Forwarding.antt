@@ -1,13 +1,12 @@
 -- What a leg does with an accepted packet: it stays, or leaves by one send of the leg's end of the half.
 use Rattle.std.proofs.Common.{◌≡◌, refl, ap, subst, sym, ◌∙◌, ℕ, Bool, true, false, List, length, take, Option, Some, Result, Ok, Err}
-use Rattle.std.specs.Prelude.{Box, ◌≤◌, if◌then◌else◌, is_ok}
+use Rattle.std.specs.Prelude.{Box, IsSome, OnErr, if◌then◌else◌, is_ok}
 use Rattle.std.specs.Global.{Global}
 use Rattle.relay_outside.specs.declared.address.Addr.{Addr}
 use Rattle.relay_outside.specs.declared.ports.OutCall.{OutCall}
 use Rattle.relay_outside.specs.declared.ports.OutCall.TheVariants.{Send}
-use Rattle.relay_outside.specs.DeviceLogs.{EndLog, EndGains, Rose}
+use Rattle.relay_outside.specs.DeviceLogs.{EndLog, EndGains, HasCause, Rose, is_done}
 use Rattle.rtp_packet.specs.declared.head.Half.{Half}
-use Rattle.rtp_packet.specs.declared.head.Half.TheVariants.{Rtp, Rtcp}
 use Rattle.sdes_lines.specs.declared.crypto_line.Suite.TheVariants.{Tag80, Tag32}
 use Rattle.srtp_sources.specs.Notes.{Note}
 use Rattle.port_pool.specs.declared.holder.Holder.{Holder}
@@ -26,7 +25,7 @@ use Rattle.call_cell.specs.declared.leg.Leg.{Leg}
 use Rattle.call_cell.specs.declared.counts.Counts.{Counts}
 use Rattle.call_cell.specs.Protection.{Departure, Held, Leaves}
 use Rattle.call_cell.specs.Counts.{more_sent}
-use Rattle.call_cell.specs.Parts.{boxed_in, OutboundIn, ProtectsTo, ForwardsTo, SendsBy, SameEnds, SameKeys, ends_of, other_half, noted_under, wrapped_by, wrapped_for, send_answer}
+use Rattle.call_cell.specs.Parts.{boxed_in, OutboundIn, ProtectsTo, ForwardsTo, SendsBy, SameEnds, SameKeys, end_of, other_half, noted_under, wrapped_by, wrapped_for, send_answer}
 use Rattle.call_cell.specs.LegHistories.{LegForwards, LegForwardsBy, with_send, leased_port, outcome_of, send_outcome, sent_ok}
 
 -- A refusal.
@@ -48,19 +47,43 @@ held {O} log faults leg keys notes s half kind bytes from to old new buf cause f
 
 -- A send.
 
-same_end : {O : Type 0} (half : Half) (old mid : Sending O) → SameEnds old mid → ends_of half mid ≡ ends_of half old
-same_end Rtp old mid same = same.rtp
-same_end Rtcp old mid same = same.rtcp
+done_is : {T E : Type 0} (r : Result T E) → is_done r ≡ is_ok r
+done_is (Ok value) = refl
+done_is (Err error) = refl
+
+if_failed : {T E : Type 0} (r : Result T E) (P : Type 0) → is_ok r ≡ false → OnErr r P → P
+if_failed (Ok value) P failed holds = absurd (let f = failed in cc)
+if_failed (Err error) P failed holds = holds
+
+pub end_sends : {O T E : Type 0} (log : O → EndLog OutCall) (faults : O → ℕ) (half : Half) (to : Addr) (bytes : List ℕ) (done : Bool) (r : Result T E)
+    (old new : Sending O) (before after : O × O) → old.ends ≡ Some before → new.ends ≡ Some after → done ≡ is_ok r
+    → EndGains (log (end_of half before)) (log (end_of half after)) (Send to bytes (is_done r))
+    → HasCause (faults (end_of half before)) (faults (end_of half after)) r → end_of (other_half half) after ≡ end_of (other_half half) before
+    → SendsBy log faults half to bytes done old new
+end_sends {O} log faults half to bytes done r old new before after had has is gains cause other =
+    record {
+      before = before;
+      after = after;
+      had = had;
+      has = has;
+      gains = subst (λ (b : Bool). EndGains (log (end_of half before)) (log (end_of half after)) (Send to bytes b)) (done_is r ∙ sym is) gains;
+      later = cause.later;
+      cause = λ failed. if_failed r (Rose (faults (end_of half before)) (faults (end_of half after))) (sym is ∙ failed) cause.failed;
+      other = other;
+    }
 
 sends_from : {O : Type 0} (log : O → EndLog OutCall) (faults : O → ℕ) (half : Half) (to : Addr) (bytes : List ℕ) (ok : Bool) (old mid new : Sending O)
     → SameEnds old mid → SendsBy log faults half to bytes ok mid new → SendsBy log faults half to bytes ok old new
 sends_from {O} log faults half to bytes ok old mid new same sends =
-    let here : ends_of half mid ≡ ends_of half old = same_end half old mid same in
     record {
-      gains = subst (λ (x : O). EndGains (log x) (log (ends_of half new)) (Send to bytes ok)) here sends.gains;
-      later = subst (λ (x : O). faults x ≤ faults (ends_of half new)) here sends.later;
-      cause = λ q. subst (λ (x : O). Rose (faults x) (faults (ends_of half new))) here (sends.cause q);
-      other = sends.other ∙ same_end (other_half half) old mid same;
+      before = sends.before;
+      after = sends.after;
+      had = sym same ∙ sends.had;
+      has = sends.has;
+      gains = sends.gains;
+      later = sends.later;
+      cause = sends.cause;
+      other = sends.other;
     }
 
 answered : (from : LocalPort) (size : ℕ) (done : Bool) → is_ok (send_answer from size done) ≡ done
@@ -88,6 +111,7 @@ sent_case {O} log faults leg keys notes half from to old mid new buf size done r
       buffer = does.buffer;
       under = does.under;
       keeps = record {
+        ends = subst (λ (o : Option (O × O)). IsSome o) (sym sends.has) refl;
         tag80 = subst (λ (o : Option (Box (Option Outbound) Global)). OutboundIn leg Tag80 keys (noted_under shield notes) (boxed_in o)) (sym same.tag80) does.keeps.tag80;
         tag32 = subst (λ (o : Option (Box (Option Outbound) Global)). OutboundIn leg Tag32 keys (noted_under shield notes) (boxed_in o)) (sym same.tag32) does.keeps.tag32;
       };

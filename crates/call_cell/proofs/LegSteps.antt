@@ -123,6 +123,7 @@ sending_over m p ok d h leg sending for =
     let same : (n : ℕ) → noted_under d.shield (protected h) n ≡ protected (relay_entry m p ok d ∷ h) n
     = λ n. sym (relay_protected m (relayed_of p ok d) h n) in
     record {
+      ends = for.ends;
       tag80 = same_in leg Tag80 (key_numbered h) (noted_under d.shield (protected h)) (protected (relay_entry m p ok d ∷ h)) same (boxed_in sending.tag80) for.tag80;
       tag32 = same_in leg Tag32 (key_numbered h) (noted_under d.shield (protected h)) (protected (relay_entry m p ok d ∷ h)) same (boxed_in sending.tag32) for.tag32;
     }
@@ -136,6 +137,7 @@ sending_keeps : {O : Type 0} (leg : Holder) (keys : ℕ → Option NewKey) (note
     → IsElsewhere leg keys shield → SendingFor leg keys notes sending → SendingFor leg keys (noted_under shield notes) sending
 sending_keeps leg keys notes shield sending apart for =
     record {
+      ends = for.ends;
       tag80 = other_kept leg Tag80 keys notes shield (boxed_in sending.tag80) (λ s q key there section side suite. apart s q key there section side) for.tag80;
       tag32 = other_kept leg Tag32 keys notes shield (boxed_in sending.tag32) (λ s q key there section side suite. apart s q key there section side) for.tag32;
     }

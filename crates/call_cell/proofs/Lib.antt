@@ -43,6 +43,11 @@ pub mod Due
 pub mod Boxed
 pub mod KeysEqual
 pub mod Ends
+pub mod EndsThere
 pub mod Again
 pub mod Nested
 pub mod NewKeys
+pub mod Shaped
+pub mod TakenFirst
+pub mod Moved
+pub mod SavedLegs

@@ -24,7 +24,7 @@ use Rattle.call_cell.specs.LegHistories.{LegStandsFor, LegsStandFor, AreApart, w
 use Rattle.call_cell.specs.CellHistories.{CellFor, WasAt, cell_last_moment}
 use Rattle.call_cell.specs.CellEnds.{parts_of}
 use Rattle.call_cell.specs.DroppedLegs.{goes, stays, Part}
-use Rattle.call_cell.specs.Preparations.{PrepareFor, CanCome, AreTwo, CellPrepares, added, parts_added, prepare_entry, prepared_at, is_key_at, with_contexts, with_key, with_keys}
+use Rattle.call_cell.specs.Preparations.{PrepareFor, CanCome, AreTwo, CellPrepares, added, prepare_entry, prepared_at, is_key_at, with_contexts, with_key, with_keys}
 use Rattle.call_cell.proofs.Placing.{same_itself}
 use Rattle.call_cell.proofs.Few.{few, in_at, at_in, each_in, Apart, pairs_of, apart_of}
 use Rattle.call_cell.proofs.Answered.{map_filter, apart_kept}
@@ -79,9 +79,10 @@ keys_parts (key ∷ keys) leg = if_parts key (with_keys keys leg) (is_key_at key
 pub record Offered {O : Type 0} (config : Config) (m call : ℕ) (signal : prepared.Prepare O) (keys : List NewKey) (dropped : List ℕ) (h : List CellEntry)
     (old new : List (Leg O)) (gone : List (Lease × O × O)) : Type 0 where
   pub legs_for : LegsStandFor config (prepare_entry m call (added signal) keys dropped ∷ h) new
-  pub went : gone ≡ map (λ (leg : Leg O). parts_of leg) (filter (λ (leg : Leg O). has dropped leg.holder.section) old)
+  pub went : gone ≡ filter_map (λ (leg : Leg O). parts_of leg) (filter (λ (leg : Leg O). has dropped leg.holder.section) old)
   pub stay : map (λ (leg : Leg O). parts_of leg) new
-      ≡ map (λ (leg : Leg O). parts_of leg) (filter (λ (leg : Leg O). not (has dropped leg.holder.section)) old) ++ parts_added signal
+      ≡ map (λ (leg : Leg O). parts_of leg) (filter (λ (leg : Leg O). not (has dropped leg.holder.section)) old)
+      ++ map (λ (leg : Leg O). parts_of leg) signal.legs.items
 
 pub offered : {O : Type 0} (config : Config) (m call : ℕ) (signal : prepared.Prepare O) (keys : List NewKey) (dropped : List ℕ) (h : List CellEntry)
     (old kept joined new : List (Leg O)) (before after : List (Lease × O × O)) → LegsStandFor config h old
@@ -93,7 +94,7 @@ offered {O} config m call signal keys dropped h old kept joined new before after
     let e = prepare_entry m call (added signal) keys dropped in
     let room : length before + length old ≤ 16
     = subst (λ (l : List (Lease × O × O)). length l + length old ≤ 16) (sym empty) (omega (arith, few config h old for)) in
-    let parts : Leg O → Lease × O × O = λ (leg : Leg O). parts_of leg in
+    let parts : Leg O → Option (Lease × O × O) = λ (leg : Leg O). parts_of leg in
     let holder : Leg O → Holder = λ (leg : Leg O). leg.holder in
     let drop : Leg O → Bool = λ (leg : Leg O). has dropped leg.holder.section in
     let keep : Leg O → Bool = λ (leg : Leg O). not (has dropped leg.holder.section) in
@@ -152,12 +153,12 @@ offered {O} config m call signal keys dropped h old kept joined new before after
             let m = mapped f joined (at_in (map f joined) i d below) in
             subst (λ (l : Leg O). LegStandsFor config (e ∷ h) l) m.makes (each_joined m.from m.is_in);
       });
-      went = (part room).1 ∙ ap (λ (l : List (Lease × O × O)). l ++ map parts (filter (λ (leg : Leg O). goes signal.dropped leg) old)) empty
-          ∙ ap (λ (l : List (Leg O)). map parts l) (filter_by drop (λ (leg : Leg O). goes signal.dropped leg) old flags_are);
+      went = (part room).1 ∙ ap (λ (l : List (Lease × O × O)). l ++ filter_map parts (filter (λ (leg : Leg O). goes signal.dropped leg) old)) empty
+          ∙ ap (λ (l : List (Leg O)). filter_map parts l) (filter_by drop (λ (leg : Leg O). goes signal.dropped leg) old flags_are);
       stay = ap (λ (l : List (Leg O)). map parts l) new_is ∙ map_map parts f joined
           ∙ map_by (λ (leg : Leg O). parts_of (f leg)) parts (λ leg. keys_parts signal.keys.items leg) joined
           ∙ ap (λ (l : List (Leg O)). map parts l) joins ∙ map-append parts kept signal.legs.items
-          ∙ ap (λ (l : List (Leg O)). map parts l ++ parts_added signal) kept_is;
+          ∙ ap (λ (l : List (Leg O)). map parts l ++ map parts signal.legs.items) kept_is;
     }
   where
     not_kept : (b : Bool) → not b ≡ true → b ≡ false

@@ -1,6 +1,6 @@
 -- A leg over one Prepare: it stays, or it is new; and the keys that came for it.
 use Rattle.std.proofs.Common.{◌≡◌, refl, ap, subst, sym, ◌∙◌, ℕ, ◌<◌, ◌⊎◌, inl, inr, Bool, true, false, cond, List, [], ◌∷◌, ◌++◌, filter, Option, Some, None, Box, Global, append-nil}
-use Rattle.std.specs.Prelude.{◌&&◌, ◌||◌, ◌==◌}
+use Rattle.std.specs.Prelude.{◌&&◌, ◌||◌, ◌==◌, IsSome}
 use Rattle.std.specs.List.{AllZip, list_any}
 use Rattle.std.proofs.lemmas.List.Elements.{filter-append}
 use Rattle.relay_outside.specs.declared.address.Addr.{Addr}
@@ -304,12 +304,24 @@ held_so config m call legs prepared keys dropped h came leg base are held suite 
     ∙ ap (λ (o : Option ℕ). or_else (key_number_for suite (filter (is_for_leg leg.holder) keys)) o) (held suite)
     ∙ sym (key_of_append suite (filter (is_for_leg leg.holder) keys) base) ∙ ap (λ (l : List NewKey). key_number_for suite l) (sym are)
 
+put_ends : {O : Type 0} (t : Suite) (box : Box (Option Outbound) Global) (leg : Leg O) → (with_sending leg (with_contexts t box leg.sending)).sending.ends ≡ leg.sending.ends
+put_ends Tag80 box leg = refl
+put_ends Tag32 box leg = refl
+
+if_ends : {O : Type 0} (key : PreparedKey) (leg : Leg O) (b : Bool) → (cond b (with_key key leg) leg).sending.ends ≡ leg.sending.ends
+if_ends key leg true = put_ends key.suite key.contexts leg
+if_ends key leg false = refl
+
+keys_ends : {O : Type 0} (keys : List PreparedKey) (leg : Leg O) → (with_keys keys leg).sending.ends ≡ leg.sending.ends
+keys_ends [] leg = refl
+keys_ends (key ∷ keys) leg = if_ends key (with_keys keys leg) (is_key_at key (with_keys keys leg)) ∙ keys_ends keys leg
+
 sending_so : {O : Type 0} (config : Config) (m call : ℕ) (legs : List Holder) (prepared : List PreparedKey) (keys : List NewKey) (dropped : List ℕ) (h : List CellEntry)
-    → Came config m call legs prepared keys dropped h → (leg : Leg O)
+    → Came config m call legs prepared keys dropped h → (leg : Leg O) → IsSome leg.sending.ends
     → ((suite : Suite) → OutboundIn leg.holder suite (key_numbered h) (protected h) (contexts_of suite leg.sending))
     → SendingFor leg.holder (key_numbered (prepare_entry m call legs keys dropped ∷ h)) (protected (prepare_entry m call legs keys dropped ∷ h)) (with_keys prepared leg).sending
-sending_so {O} config m call legs prepared keys dropped h came leg old =
-    record { tag80 = part Tag80; tag32 = part Tag32 }
+sending_so {O} config m call legs prepared keys dropped h came leg ends old =
+    record { ends = subst (λ (o : Option (O × O)). IsSome o) (sym (keys_ends prepared leg)) ends; tag80 = part Tag80; tag32 = part Tag32 }
   where
     part : (suite : Suite) → OutboundIn leg.holder suite (key_numbered (prepare_entry m call legs keys dropped ∷ h)) (protected (prepare_entry m call legs keys dropped ∷ h))
         (contexts_of suite (with_keys prepared leg).sending)
@@ -351,7 +363,7 @@ leg_stays {O} config m call legs prepared keys dropped h came leg stays one for 
         inbound = subst (λ (l : List Note). InboundIn (inbound_of leg.signal) (boxed_in leg.receiving.inbound) l)
             (sym (prepare_accepted m call legs keys dropped h leg.holder stays)) for.receiving.inbound;
       };
-      sending = sending_so config m call legs prepared keys dropped h came leg (of_suite leg.holder (key_numbered h) (protected h) leg.sending for.sending);
+      sending = sending_so config m call legs prepared keys dropped h came leg for.sending.ends (of_suite leg.holder (key_numbered h) (protected h) leg.sending for.sending);
       named = named_over (keys_for (prepare_entry m call legs keys dropped ∷ h) leg.holder) (keys_for h leg.holder) (filter (is_for_leg leg.holder) keys)
           leg.sending (with_keys prepared leg).sending (outbound_of leg.signal) are for.held held one for.named;
       section = for.section;
@@ -384,7 +396,7 @@ leg_begins {O} config m call legs prepared keys dropped h came leg new one small
             (subst (λ (l : List Note). InboundIn None (boxed_in leg.receiving.inbound) l)
             (sym (new_leg_notes_nothing m call legs keys dropped h leg.holder new)) fresh.receiving.inbound);
       };
-      sending = sending_so config m call legs prepared keys dropped h came leg
+      sending = sending_so config m call legs prepared keys dropped h came leg fresh.ends
           (λ suite. subst (λ (o : Option Outbound). OutboundIn leg.holder suite (key_numbered h) (protected h) o) (sym (fresh.keyless suite)) tt);
       named = subst (λ (o : Option ℕ). HasIt o (with_keys prepared leg).sending) (sym (ap outbound_of fresh.signal)) tt;
       section = small;

@@ -2,14 +2,14 @@
 use Rattle.std.proofs.Common.{◌≡◌, refl, ap, subst, sym, ◌∙◌, ℕ, zero, suc, ◌<◌, Bool, true, false, List, [], ◌∷◌, ◌++◌, length, map, inl, inr, get_or, set, arith}
 use Rattle.std.specs.Prelude.{if◌then◌else◌}
 use Rattle.std.proofs.lemmas.List.{get_or-set_same, get_or-set_other}
-use Rattle.std.specs.List.{AllZip}
+use Rattle.std.specs.List.{AllZip, filter_map}
 use Rattle.histories.specs.Words.{In, here, there, has}
 use Rattle.histories.proofs.Lists.{in_append}
-use Rattle.port_pool.specs.declared.pairs.Lease.{Lease}
 use Rattle.port_pool.specs.Signals.{NewKey}
 use Rattle.call_cell.specs.declared.leg.Leg.{Leg}
 use Rattle.call_cell.specs.declared.prepare.PreparedKey.{PreparedKey}
 use Rattle.call_cell.specs.declared.prepare.Prepare as prepared
+use Rattle.call_cell.specs.CellEnds.{parts_of}
 use Rattle.call_cell.specs.DroppedLegs.{FlagsAre}
 use Rattle.call_cell.specs.Preparations.{PrepareFor, IsPrepared, IsFreshLeg, added, parts_added}
 use Rattle.srtp_sources.proofs.Knowing.{equal, differ}
@@ -36,11 +36,8 @@ nothing {O} signal keys legs drops = (
     fresh = λ leg i. elim (subst (λ (l : List (Leg O)). In leg l) legs i) [ ];
   },
   ap (λ (l : List (Leg O)). map (λ (leg : Leg O). leg.holder) l) legs,
-  ap (λ (l : List (Leg O)). map (λ (leg : Leg O). parts_of_leg leg) l) legs,
+  ap (λ (l : List (Leg O)). filter_map (λ (leg : Leg O). parts_of leg) l) legs,
 )
-  where
-    parts_of_leg : Leg O → Lease × O × O
-    parts_of_leg leg = (leg.lease, leg.sending.rtp, leg.sending.rtcp)
 
 fresh_more : {O : Type 0} (legs : List (Leg O)) (new : Leg O) → ((leg : Leg O) → In leg legs → IsFreshLeg leg) → IsFreshLeg new
     → (leg : Leg O) → In leg (legs ++ new ∷ []) → IsFreshLeg leg

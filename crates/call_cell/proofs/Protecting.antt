@@ -137,11 +137,11 @@ tags_differ q = let f = q in cc
 
 pub protects_80 : {O : Type 0} (leg : Holder) (keys : ℕ → Option NewKey) (notes : ℕ → List Note) (old : Sending O) (new : Option (Box (Option Outbound) Global)) (buf : List ℕ)
     (result : Result ℕ Lost) → SendingFor leg keys notes old → (w : Departure) → WrapsInTo w leg Tag80 keys notes old.tag80 new buf result
-    → ProtectsTo w leg keys notes old (record { rtp = old.rtp; rtcp = old.rtcp; tag80 = new; tag32 = old.tag32 }) buf result
+    → ProtectsTo w leg keys notes old (record { ends = old.ends; tag80 = new; tag32 = old.tag32 }) buf result
 protects_80 {O} leg keys notes old new buf result for (Held cause) does =
     record {
       answer = does.answer;
-      contexts = ap (λ (x : Option (Box (Option Outbound) Global)). as_it_is (record { rtp = old.rtp; rtcp = old.rtcp; tag80 = x; tag32 = old.tag32 })) does.contexts;
+      contexts = ap (λ (x : Option (Box (Option Outbound) Global)). as_it_is (record { ends = old.ends; tag80 = x; tag32 = old.tag32 })) does.contexts;
     }
   where
     as_it_is : Sending O → Sending O
@@ -152,6 +152,7 @@ protects_80 leg keys notes old new buf result for (Leaves shield bytes) does =
       buffer = does.buffer;
       under = λ s q. (Tag80, does.under s q);
       keeps = record {
+        ends = for.ends;
         tag80 = does.contexts;
         tag32 = other_kept leg Tag32 keys notes shield (boxed_in old.tag32) (other_suite leg Tag80 Tag32 keys shield tags_differ does.under) for.tag32;
       };
@@ -159,11 +160,11 @@ protects_80 leg keys notes old new buf result for (Leaves shield bytes) does =
 
 pub protects_32 : {O : Type 0} (leg : Holder) (keys : ℕ → Option NewKey) (notes : ℕ → List Note) (old : Sending O) (new : Option (Box (Option Outbound) Global)) (buf : List ℕ)
     (result : Result ℕ Lost) → SendingFor leg keys notes old → (w : Departure) → WrapsInTo w leg Tag32 keys notes old.tag32 new buf result
-    → ProtectsTo w leg keys notes old (record { rtp = old.rtp; rtcp = old.rtcp; tag80 = old.tag80; tag32 = new }) buf result
+    → ProtectsTo w leg keys notes old (record { ends = old.ends; tag80 = old.tag80; tag32 = new }) buf result
 protects_32 {O} leg keys notes old new buf result for (Held cause) does =
     record {
       answer = does.answer;
-      contexts = ap (λ (x : Option (Box (Option Outbound) Global)). as_it_is (record { rtp = old.rtp; rtcp = old.rtcp; tag80 = old.tag80; tag32 = x })) does.contexts;
+      contexts = ap (λ (x : Option (Box (Option Outbound) Global)). as_it_is (record { ends = old.ends; tag80 = old.tag80; tag32 = x })) does.contexts;
     }
   where
     as_it_is : Sending O → Sending O
@@ -174,6 +175,7 @@ protects_32 leg keys notes old new buf result for (Leaves shield bytes) does =
       buffer = does.buffer;
       under = λ s q. (Tag32, does.under s q);
       keeps = record {
+        ends = for.ends;
         tag80 = other_kept leg Tag80 keys notes shield (boxed_in old.tag80) (other_suite leg Tag32 Tag80 keys shield (λ q. tags_differ (sym q)) does.under) for.tag80;
         tag32 = does.contexts;
       };

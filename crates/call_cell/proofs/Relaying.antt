@@ -61,8 +61,8 @@ none_elsewhere leg keys s q = absurd (let f = q in cc)
 
 pub ends_none : {O : Type 0} (log : O → EndLog OutCall) (faults : O → ℕ) (leaves ok : Bool) (old new : parts.Sending O) → new ≡ old
     → EndsFor log faults leaves None ok old new
-ends_none {O} log faults true ok old new q = (ap (λ (x : parts.Sending O). x.rtp) q, ap (λ (x : parts.Sending O). x.rtcp) q)
-ends_none {O} log faults false ok old new q = (ap (λ (x : parts.Sending O). x.rtp) q, ap (λ (x : parts.Sending O). x.rtcp) q)
+ends_none {O} log faults true ok old new q = ap (λ (x : parts.Sending O). x.ends) q
+ends_none {O} log faults false ok old new q = ap (λ (x : parts.Sending O). x.ends) q
 
 pub holders_over : {O : Type 0} (m : ℕ) (p : Receipt) (ok : Bool) (d : Deed) (h : List CellEntry) (those : List (Leg O)) → holders_of those ≡ legs h
     → holders_of those ≡ legs (relay_entry m p ok d ∷ h)

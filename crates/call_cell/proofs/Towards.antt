@@ -265,7 +265,7 @@ leaving_ends {O} log faults config h p those i x new noted plain buf size k z y 
           let other : same_leg (get_or those k z).holder (get_or those j v).holder ≡ false = apart_leg config h those k z t.for l.facing.below j v within off in
           let as_before : (get_or (set mid k y) j v).sending ≡ (get_or those j v).sending
           = ap (λ (a : Leg O). a.sending) (off_set mid k j y v off) ∙ taker_sending config h p those i x new noted plain buf size t j v in
-          subst P (sym other) (ap (λ (a : parts.Sending O). a.rtp) as_before, ap (λ (a : parts.Sending O). a.rtcp) as_before)
+          subst P (sym other) (ap (λ (a : parts.Sending O). a.ends) as_before)
     ]
 
 pub leaves : {O : Type 0} (log : O → EndLog OutCall) (faults : O → ℕ) (config : Config) (h : List CellEntry) (p : Receipt) (those : List (Leg O)) (i : ℕ)

@@ -1,5 +1,5 @@
 -- What an answer's commit does to a leg, to the legs of a cell, and to the cell.
-use Rattle.std.specs.Prelude.{◌≡◌, ◌<◌, ◌+◌, ◌&&◌, not, ℕ, Bool, false, max, List, [], ◌∷◌, map, filter, count_by, length, Option, Some, None, option_map, is_some, slice_index_or, if◌then◌else◌}
+use Rattle.std.specs.Prelude.{◌≡◌, ◌<◌, ◌+◌, ◌&&◌, not, ℕ, Bool, false, max, List, [], ◌∷◌, map, filter, filter_map, count_by, length, Option, Some, None, option_map, is_some, slice_index_or, if◌then◌else◌}
 use Rattle.relay_outside.specs.declared.address.Addr.{Addr}
 use Rattle.relay_outside.specs.declared.settings.Config.{Config}
 use Rattle.rtp_packet.specs.declared.head.Half.{Half}
@@ -131,6 +131,6 @@ pub record CellCommits {O : Type 0} (config : Config) (old new : Cell O) (h : Li
     (gone : List (Lease × O × O)) : Type 0 where
   pub fits : FitsCell config h (committed_at h signal now)
   pub stands : CellFor config new (committed_at h signal now ∷ h)
-  pub went : gone ≡ map (λ (leg : Leg O). parts_of leg) (filter (λ (leg : Leg O). goes_by signal leg) old.legs.items)
+  pub went : gone ≡ filter_map (λ (leg : Leg O). parts_of leg) (filter (λ (leg : Leg O). goes_by signal leg) old.legs.items)
   pub stay : map (λ (leg : Leg O). parts_of leg) new.legs.items
       ≡ map (λ (leg : Leg O). parts_of leg) (filter (λ (leg : Leg O). stays_by signal leg) old.legs.items)

@@ -1,5 +1,6 @@
 -- Legs of some sections go from a cell, and the others stay.
-use Rattle.std.specs.Prelude.{◌≡◌, ◌<◌, ◌+◌, ◌≤◌, ◌++◌, ℕ, Bool, false, not, List, [], ◌∷◌, map, filter, length, slice_index_or, if◌then◌else◌}
+use Rattle.std.specs.Prelude.{◌≡◌, ◌<◌, ◌+◌, ◌≤◌, ◌++◌, ℕ, Bool, false, not, List, [], ◌∷◌, filter, filter_map, length, slice_index_or, if◌then◌else◌}
+use Rattle.std.specs.Option.{option_to_list}
 use Rattle.port_pool.specs.declared.pairs.Lease.{Lease}
 use Rattle.call_cell.specs.declared.leg.Leg.{Leg}
 use Rattle.call_cell.specs.CellEnds.{parts_of}
@@ -18,11 +19,11 @@ stays flags leg = not (goes flags leg)
 abbrev pub staying : {O : Type 0} → List Bool → Leg O → List (Leg O)
 staying flags leg = if stays flags leg then leg ∷ [] else []
 
--- what goes with the leg, where it goes
+-- what goes with the leg, where it goes and has its ends
 abbrev pub going : {O : Type 0} → List Bool → Leg O → List (Lease × O × O)
-going flags leg = if goes flags leg then parts_of leg ∷ [] else []
+going flags leg = if goes flags leg then option_to_list (parts_of leg) else []
 
--- where there is room, the legs of the sections with a flag went, in their order
+-- where there is room, the legs of the sections with a flag went, in their order, those without ends nowhere
 abbrev pub Part : {O : Type 0} → List Bool → List (Leg O) → List (Leg O) → List (Lease × O × O) → List (Lease × O × O) → Type 0
 Part {O} flags old new before after = length before + length old ≤ 16 → (new ≡ filter (λ (leg : Leg O). stays flags leg) old)
-    × (after ≡ before ++ map (λ (leg : Leg O). parts_of leg) (filter (λ (leg : Leg O). goes flags leg) old))
+    × (after ≡ before ++ filter_map (λ (leg : Leg O). parts_of leg) (filter (λ (leg : Leg O). goes flags leg) old))

@@ -197,8 +197,8 @@ relay_entry moment p ok d = record { moment = moment; event = Relay (record { pa
 
 -- what a leg's ends send: nothing, or once by the end of a half
 abbrev pub EndsFor : {O : Type 0} → (O → EndLog OutCall) → (O → ℕ) → Bool → Option Sending → Bool → parts.Sending O → parts.Sending O → Type 0
-EndsFor log faults leaves None ok old new = (new.rtp ≡ old.rtp) × (new.rtcp ≡ old.rtcp)
-EndsFor log faults false (Some w) ok old new = (new.rtp ≡ old.rtp) × (new.rtcp ≡ old.rtcp)
+EndsFor log faults leaves None ok old new = new.ends ≡ old.ends
+EndsFor log faults false (Some w) ok old new = new.ends ≡ old.ends
 EndsFor log faults true (Some w) ok old new = SendsBy log faults w.half w.to w.bytes ok old new
 
 -- with Sent, the bytes that were sent stand at the buffer's front

@@ -20,3 +20,6 @@ pub mod Expiries
 pub mod LegReports
 pub mod SignalEntries
 pub mod Numbers
+pub mod Shapes
+pub mod TakenEnds
+pub mod SavedCells

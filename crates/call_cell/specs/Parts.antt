@@ -1,6 +1,6 @@
 -- The parts of a leg: for which learned sources, keys and notes they stand, and what their calls do. A part knows no
 -- history; `specs/LegHistories.antt` says which sources, keys and notes a cell's history gives it.
-use Rattle.std.specs.Prelude.{◌≡◌, ◌≤◌, Box, ℕ, Bool, true, false, ◌||◌, ◌==◌, List, take, length, Option, Some, None, Result, Ok, Err, is_ok, if◌then◌else◌}
+use Rattle.std.specs.Prelude.{◌≡◌, ◌≤◌, Box, ℕ, Bool, true, false, ◌||◌, ◌==◌, List, take, length, Option, Some, None, Result, Ok, Err, IsSome, is_ok, if◌then◌else◌}
 use Rattle.std.specs.Global.{Global}
 use Rattle.std.specs.List.{cons_option}
 use Rattle.relay_outside.specs.declared.address.Addr.{Addr}
@@ -150,9 +150,10 @@ abbrev pub contexts_of : {O : Type 0} → Suite → Sending O → Option Outboun
 contexts_of Tag80 sending = boxed_in sending.tag80
 contexts_of Tag32 sending = boxed_in sending.tag32
 
-abbrev pub ends_of : {O : Type 0} → Half → Sending O → O
-ends_of Rtp sending = sending.rtp
-ends_of Rtcp sending = sending.rtcp
+-- the end of a half, of the ends for RTP and for RTCP
+abbrev pub end_of : {O : Type 0} → Half → O × O → O
+end_of Rtp ends = ends.0
+end_of Rtcp ends = ends.1
 
 abbrev pub other_half : Half → Half
 other_half Rtp = Rtcp
@@ -161,8 +162,9 @@ other_half Rtcp = Rtp
 abbrev pub has_number : {O : Type 0} → Sending O → ℕ → Bool
 has_number sending number = is_numbered (boxed_in sending.tag80) number || is_numbered (boxed_in sending.tag32) number
 
--- the part stands for these keys and their notes
+-- the part stands for these keys and their notes, and has its ends
 pub record SendingFor {O : Type 0} (leg : Holder) (keys : ℕ → Option NewKey) (notes : ℕ → List Note) (sending : Sending O) : Type 0 where
+  pub ends : IsSome sending.ends
   pub tag80 : OutboundIn leg Tag80 keys notes (boxed_in sending.tag80)
   pub tag32 : OutboundIn leg Tag32 keys notes (boxed_in sending.tag32)
 
@@ -195,9 +197,8 @@ wrapped_by keys notes None kind bytes = Leaves None bytes
 wrapped_by keys notes (Some number) kind bytes = wrapped_with (keys number) (notes number) kind bytes
 
 -- the ends are as before
-pub record SameEnds {O : Type 0} (old new : Sending O) : Type 0 where
-  pub rtp : new.rtp ≡ old.rtp
-  pub rtcp : new.rtcp ≡ old.rtcp
+abbrev pub SameEnds : {O : Type 0} → Sending O → Sending O → Type 0
+SameEnds old new = new.ends ≡ old.ends
 
 -- a packet is protected, and noted under its key
 pub record Wraps {O : Type 0} (leg : Holder) (keys : ℕ → Option NewKey) (notes : ℕ → List Note) (shield : Option Shield) (bytes : List ℕ)
@@ -215,10 +216,14 @@ ProtectsTo (Leaves shield bytes) leg keys notes old new buf result = Wraps leg k
 -- one send by the end of a half, and none by the other
 pub record SendsBy {O : Type 0} (log : O → EndLog OutCall) (faults : O → ℕ) (half : Half) (to : Addr) (bytes : List ℕ) (ok : Bool)
     (old new : Sending O) : Type 0 where
-  pub gains : EndGains (log (ends_of half old)) (log (ends_of half new)) (Send to bytes ok)
-  pub later : faults (ends_of half old) ≤ faults (ends_of half new)
-  pub cause : ok ≡ false → Rose (faults (ends_of half old)) (faults (ends_of half new))
-  pub other : ends_of (other_half half) new ≡ ends_of (other_half half) old
+  pub before : O × O
+  pub after : O × O
+  pub had : old.ends ≡ Some before
+  pub has : new.ends ≡ Some after
+  pub gains : EndGains (log (end_of half before)) (log (end_of half after)) (Send to bytes ok)
+  pub later : faults (end_of half before) ≤ faults (end_of half after)
+  pub cause : ok ≡ false → Rose (faults (end_of half before)) (faults (end_of half after))
+  pub other : end_of (other_half half) after ≡ end_of (other_half half) before
 
 -- the keys are as before
 pub record SameKeys {O : Type 0} (old new : Sending O) : Type 0 where

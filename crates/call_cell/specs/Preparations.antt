@@ -1,5 +1,5 @@
 -- What an offer prepares for a cell, and what the cell makes of it.
-use Rattle.std.specs.Prelude.{◌≡◌, ◌<◌, ◌≤◌, ◌+◌, ◌-◌, ◌&&◌, ◌==◌, not, ℕ, Bool, true, false, min, max, List, [], ◌∷◌, ◌++◌, map, filter, count_by, Option, Some, None, Box, vec_len, vec_capacity, slice_index_or, if◌then◌else◌}
+use Rattle.std.specs.Prelude.{◌≡◌, ◌<◌, ◌≤◌, ◌+◌, ◌-◌, ◌&&◌, ◌==◌, not, ℕ, Bool, true, false, min, max, List, [], ◌∷◌, ◌++◌, map, filter, filter_map, count_by, Option, Some, None, IsSome, Box, vec_len, vec_capacity, slice_index_or, if◌then◌else◌}
 use Rattle.std.specs.Global.{Global}
 use Rattle.std.specs.List.{AllPairs, AllZip}
 use Rattle.relay_outside.specs.declared.settings.Config.{Config}
@@ -52,6 +52,7 @@ pub record IsFreshLeg {O : Type 0} (leg : Leg O) : Type 0 where
   pub generation : leg.lease.generation ≡ leg.holder.generation
   pub signal : leg.signal ≡ None
   pub receiving : ReceivingFor None leg.receiving (λ half. None) []
+  pub ends : IsSome leg.sending.ends
   pub keyless : (suite : Suite) → contexts_of suite leg.sending ≡ None
   pub uncounted : leg.counts ≡ no_counts
   pub unreported : leg.report ≡ None
@@ -61,7 +62,7 @@ abbrev pub added : {O : Type 0} → prepared.Prepare O → List Holder
 added {O} signal = map (λ (leg : Leg O). leg.holder) signal.legs.items
 
 abbrev pub parts_added : {O : Type 0} → prepared.Prepare O → List (Lease × O × O)
-parts_added {O} signal = map (λ (leg : Leg O). parts_of leg) signal.legs.items
+parts_added {O} signal = filter_map (λ (leg : Leg O). parts_of leg) signal.legs.items
 
 -- the new keys, in the order in which they were added
 abbrev pub prepared_keys : {O : Type 0} → prepared.Prepare O → List NewKey
@@ -127,9 +128,10 @@ pub record CellPrepares {O : Type 0} (config : Config) (old new : Cell O) (h : L
     (dropped : List ℕ) (now : ℕ) (gone : List (Lease × O × O)) : Type 0 where
   pub fits : FitsCell config h (prepared_at h signal call keys dropped now)
   pub stands : CellFor config new (prepared_at h signal call keys dropped now ∷ h)
-  pub went : gone ≡ map (λ (leg : Leg O). parts_of leg) (filter (λ (leg : Leg O). has dropped leg.holder.section) old.legs.items)
+  pub went : gone ≡ filter_map (λ (leg : Leg O). parts_of leg) (filter (λ (leg : Leg O). has dropped leg.holder.section) old.legs.items)
   pub stay : map (λ (leg : Leg O). parts_of leg) new.legs.items
-      ≡ map (λ (leg : Leg O). parts_of leg) (filter (λ (leg : Leg O). not (has dropped leg.holder.section)) old.legs.items) ++ parts_added signal
+      ≡ map (λ (leg : Leg O). parts_of leg) (filter (λ (leg : Leg O). not (has dropped leg.holder.section)) old.legs.items)
+      ++ map (λ (leg : Leg O). parts_of leg) signal.legs.items
 
 -- A key comes to its leg.
 
@@ -138,8 +140,8 @@ abbrev pub is_key_at : {O : Type 0} → PreparedKey → Leg O → Bool
 is_key_at key leg = (key.section == leg.holder.section) && side_eq key.side leg.holder.side
 
 abbrev pub with_contexts : {O : Type 0} → Suite → Box (Option Outbound) Global → Sending O → Sending O
-with_contexts Tag80 contexts sending = record { rtp = sending.rtp; rtcp = sending.rtcp; tag80 = Some contexts; tag32 = sending.tag32 }
-with_contexts Tag32 contexts sending = record { rtp = sending.rtp; rtcp = sending.rtcp; tag80 = sending.tag80; tag32 = Some contexts }
+with_contexts Tag80 contexts sending = record { ends = sending.ends; tag80 = Some contexts; tag32 = sending.tag32 }
+with_contexts Tag32 contexts sending = record { ends = sending.ends; tag80 = sending.tag80; tag32 = Some contexts }
 
 abbrev pub with_key : {O : Type 0} → PreparedKey → Leg O → Leg O
 with_key key leg = with_sending leg (with_contexts key.suite key.contexts leg.sending)

@@ -1,4 +1,4 @@
-ghost use Rattle.std.specs.Prelude.{ℕ, ◌≡◌, ◌≤◌, ◌<◌, ◌+◌, true, [], List, Some, is_some, if◌then◌else◌};
+ghost use Rattle.std.specs.Prelude.{ℕ, ◌≡◌, ◌≤◌, ◌<◌, ◌+◌, true, false, [], List, filter_map, slice_index_or, IfOk, Some, is_some, if◌then◌else◌};
 ghost use Rattle.relay_outside.specs.declared.settings.Config.{Config};
 ghost use Rattle.histories.specs.Words.{or_else};
 ghost use Rattle.call_cell.specs.Cells.{CellEntry, since_end, is_accepted};
@@ -6,6 +6,7 @@ ghost use Rattle.call_cell.specs.Demands.{CountsBelow};
 ghost use Rattle.call_cell.specs.LegHistories.{LegsStandFor, LegsRelay, receipt_of};
 ghost use Rattle.call_cell.specs.Commits.{LegCommitsBy, LegsCommit, contexts_due, needs_contexts, said_of};
 ghost use Rattle.call_cell.specs.Expiries.{is_ago};
+ghost use Rattle.call_cell.specs.Shapes.{cell_leg_shapes};
 
 use crate::dropped_legs::part;
 use crate::gone::Gone;
@@ -15,9 +16,12 @@ use crate::leg_reports::tell_legs;
 use crate::new_legs::{join, put_keys};
 use crate::outcome::{Incoming, Lost, Outcome, PacketBuffer, Refused};
 use crate::prepare::Prepare;
+use crate::saved::CellSaved;
+use crate::saving::save_legs;
 use crate::signals::{rejected, said_of};
+use crate::taken_ends::take_first;
 use port_pool::{LegReports, Signal};
-use relay_outside::{Config, OutEnd};
+use relay_outside::{Addr, Config, OutEnd, OutOfMemory};
 use sdp_text::MOST_SECTIONS;
 use std::alloc::Global;
 
@@ -97,6 +101,7 @@ fn active_after(outcome: Outcome, active: u64, now: u64) -> u64
 /// on the leg that sends it.
 fn relay_legs<O: OutEnd>(legs: &mut [Leg<O>], packet: &Incoming, buf: &mut PacketBuffer) -> Outcome
     requires held { packet.now.len ≤ 2000 }
+    ensures shape { cell_leg_shapes legs.new ≡ cell_leg_shapes legs.old }
     ensures relays { (config : Config) (h : List CellEntry) (number : ℕ) → LegsStandFor config h legs.old →
         LegsRelay O.log O.faults config h (receipt_of number packet.now buf.old) legs.old legs.new buf.new result }
 {
@@ -126,6 +131,8 @@ fn is_ago(now: u64, limit: u64, moment: u64) -> bool
 
 impl<O> Cell<O> {
     ghost use Rattle.call_cell.specs.Expiries.{due_by};
+    ghost use Rattle.call_cell.specs.TakenEnds.{TakesEnds};
+    ghost use Rattle.call_cell.specs.SavedCells.{AreEmptied, SavesCell};
 
     /// Whether the call is due to end at the cell's last moment.
     /// An answer that rejects every section commits the call, too. A call begins, for its timeout, at the first entry in its
@@ -138,12 +145,49 @@ impl<O> Cell<O> {
         }
         self.call.is_some() && is_ago(self.moment, self.config.offer_timeout_ms, self.began)
     }
+
+    /// Takes the out ends of the first leg, in lease order, that still has them: with the address of its port for RTP, and RTP first.
+    /// `None`: none has any. A cell without them sends nothing by these legs, and no history says more of it, so a cell is emptied
+    /// to be saved. It takes no memory.
+    pub fn take_ends(&mut self) -> Option<(Addr, O, O)>
+        ensures { TakesEnds self.old self.new result }
+    {
+        take_first(self.legs.as_mut_slice(), &self.config)
+    }
+
+    /// What the cell is saved as, once all ends were taken. For want of memory all is let go.
+    pub fn into_saved(self) -> Result<CellSaved, OutOfMemory>
+        requires { AreEmptied self.legs.items }
+        ensures { IfOk result (λ saved. SavesCell self saved) }
+    {
+        let Cell {
+            config,
+            moment,
+            call,
+            began,
+            is_committed,
+            active,
+            legs,
+        } = self;
+        let legs = save_legs(legs)?;
+        Ok(CellSaved {
+            config,
+            moment,
+            call,
+            began,
+            is_committed,
+            active,
+            legs,
+        })
+    }
 }
 
 impl<O: OutEnd> Cell<O> {
     ghost use Rattle.call_cell.specs.CellHistories.{CellFor, CellRelays};
     ghost use Rattle.call_cell.specs.CellEnds.{CellEnds};
-    ghost use Rattle.port_pool.specs.Signals.{NewKey};
+    ghost use Rattle.port_pool.specs.Signals.{NewKey, is_rejected};
+    ghost use Rattle.call_cell.specs.CellEnds.{parts_of};
+    ghost use Rattle.call_cell.specs.Shapes.{IsSmall, LegsGo, cell_shape, offered_shape, answered_shape, ended_shape};
     ghost use Rattle.call_cell.specs.Commits.{CellCommits, NamesKeys};
     ghost use Rattle.call_cell.specs.Expiries.{CellExpires};
     ghost use Rattle.call_cell.specs.LegReports.{CellReads};
@@ -168,7 +212,8 @@ impl<O: OutEnd> Cell<O> {
     /// at the buffer's front.
     pub fn relay(&mut self, packet: &Incoming, buf: &mut PacketBuffer, now: u64) -> Outcome
         requires { packet.now.len ≤ 2000 }
-        ensures { (config : Config) (h : List CellEntry) (number : ℕ) → CellFor config self.old h →
+        ensures shape { cell_shape self.new ≡ cell_shape self.old }
+        ensures relays { (config : Config) (h : List CellEntry) (number : ℕ) → CellFor config self.old h →
             CellRelays O.log O.faults config self.old self.new h (receipt_of number packet.now buf.old) now buf.new result }
     {
         self.moment = self.moment.max(now);
@@ -183,7 +228,10 @@ impl<O: OutEnd> Cell<O> {
         requires empty { gone.old ≡ [] }
         requires ready { IsReady signal }
         requires room { FitsPlaces self.old signal }
-        ensures { (config : Config) (h : List CellEntry) (keys : List NewKey) (dropped : List ℕ) → CellFor config self.old h → PrepareFor signal keys dropped →
+        ensures shape { (keys : List NewKey) (dropped : List ℕ) → PrepareFor signal keys dropped →
+            cell_shape self.new ≡ offered_shape signal.dropped (cell_leg_shapes signal.legs.items) keys call (cell_shape self.old) }
+        ensures legs { LegsGo (λ leg. slice_index_or signal.dropped leg.section false) signal.legs.items self.old.legs.items self.new.legs.items gone.new }
+        ensures prepares { (config : Config) (h : List CellEntry) (keys : List NewKey) (dropped : List ℕ) → CellFor config self.old h → PrepareFor signal keys dropped →
             CanCome config (since_end h) signal call keys dropped → CellPrepares config self.old self.new h signal call keys dropped now gone.new }
     {
         let Prepare {
@@ -207,7 +255,10 @@ impl<O: OutEnd> Cell<O> {
     pub fn commit(&mut self, signal: &Signal, contexts: InContexts, gone: &mut Gone<O>, now: u64)
         requires empty { gone.old ≡ [] }
         requires room { contexts_due signal.now self.old.legs.items ≤ contexts }
-        ensures { (config : Config) (h : List CellEntry) → CellFor config self.old h → NamesKeys (since_end h) signal.now →
+        ensures shape { IsSmall (cell_leg_shapes self.old.legs.items) → cell_shape self.new ≡ answered_shape signal.now (cell_shape self.old) }
+        ensures legs { IsSmall (cell_leg_shapes self.old.legs.items) →
+            LegsGo (λ leg. is_rejected signal.now leg.section) [] self.old.legs.items self.new.legs.items gone.new }
+        ensures commits { (config : Config) (h : List CellEntry) → CellFor config self.old h → NamesKeys (since_end h) signal.now →
             CellCommits config self.old self.new h signal.now now gone.new }
     {
         let mut contexts = contexts;
@@ -221,7 +272,8 @@ impl<O: OutEnd> Cell<O> {
     /// Whether the call is due to end at the moment `now` in milliseconds: one that was committed, without a further answer or
     /// an accepted packet for the timeout, or one that never was, begun the offer timeout ago.
     pub fn expire(&mut self, now: u64) -> bool
-        ensures { (config : Config) (h : List CellEntry) → CellFor config self.old h → CellExpires config self.old self.new h now result }
+        ensures shape { cell_shape self.new ≡ cell_shape self.old }
+        ensures expires { (config : Config) (h : List CellEntry) → CellFor config self.old h → CellExpires config self.old self.new h now result }
     {
         self.moment = self.moment.max(now);
         self.is_due()
@@ -239,7 +291,9 @@ impl<O: OutEnd> Cell<O> {
     /// Ends the call: all its legs go to `gone`, which is empty. It takes no memory.
     pub fn end(&mut self, gone: &mut Gone<O>)
         requires empty { gone.old ≡ [] }
-        ensures { (config : Config) (h : List CellEntry) → CellFor config self.old h → CellEnds config self.old self.new h gone.new }
+        ensures shape { IsSmall (cell_leg_shapes self.old.legs.items) → cell_shape self.new ≡ ended_shape }
+        ensures legs { IsSmall (cell_leg_shapes self.old.legs.items) → gone.new ≡ filter_map (λ leg. parts_of leg) self.old.legs.items }
+        ensures ends { (config : Config) (h : List CellEntry) → CellFor config self.old h → CellEnds config self.old self.new h gone.new }
     {
         self.call = None;
         self.is_committed = false;

@@ -18,9 +18,11 @@ use srtp_keys::DrawnKey;
 
 /// The state of what a leg sends under one key: of its RTP and of its RTCP packets.
 #[derive(Drop)]
-pub(crate) struct Inbound {
-    rtp: InRtp,
-    rtcp: InRtcp,
+pub struct Inbound {
+    /// That of its RTP packets.
+    pub rtp: InRtp,
+    /// That of its RTCP packets.
+    pub rtcp: InRtcp,
 }
 
 impl Inbound {
@@ -93,11 +95,13 @@ impl Inbound {
 
 /// The state of what is sent under one drawn key: of the RTP and of the RTCP packets. It can't be cloned.
 #[derive(Drop)]
-pub(crate) struct Outbound {
+pub struct Outbound {
     /// The number of the key's draw.
-    number: u64,
-    rtp: OutRtp,
-    rtcp: OutRtcp,
+    pub number: u64,
+    /// That of the RTP packets.
+    pub rtp: OutRtp,
+    /// That of the RTCP packets.
+    pub rtcp: OutRtcp,
 }
 
 impl Outbound {

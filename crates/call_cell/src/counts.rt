@@ -5,11 +5,15 @@ use rtp_packet::Half;
 
 /// How many packets of each half a leg accepted from its side and sent to it since it came, or 2^64 - 1 where there were more.
 #[derive(Clone, Copy)]
-pub(crate) struct Counts {
-    pub(crate) rtp_accepted: u64,
-    pub(crate) rtp_sent: u64,
-    pub(crate) rtcp_accepted: u64,
-    pub(crate) rtcp_sent: u64,
+pub struct Counts {
+    /// RTP packets accepted from its side.
+    pub rtp_accepted: u64,
+    /// RTP packets sent to it.
+    pub rtp_sent: u64,
+    /// RTCP packets accepted from its side.
+    pub rtcp_accepted: u64,
+    /// RTCP packets sent to it.
+    pub rtcp_sent: u64,
 }
 
 impl Counts {

@@ -1,4 +1,4 @@
-ghost use Rattle.std.specs.Prelude.{◌≡◌, ◌<◌, ◌++◌, [], ◌∷◌, None, IfOk, length, nat_lt};
+ghost use Rattle.std.specs.Prelude.{◌≡◌, ◌<◌, ◌++◌, [], None, IfOk, length, nat_lt};
 ghost use Rattle.std.specs.Option.{option_to_list};
 ghost use Rattle.call_cell.specs.CellEnds.{parts_of};
 
@@ -11,18 +11,16 @@ use std::marker::Model;
 /// The legs that went from a cell: their leases and out ends, in lease order, with room for 16. Contracts see it as a list.
 #[derive(Drop)]
 pub struct Gone<O> {
-    legs: Vec<Leg<O>>,
+    legs: Vec<(Lease, O, O)>,
 }
 
 impl<O> Model for Gone<O> {
-    ghost use Rattle.std.specs.Prelude.{◌≤◌, List, map, vec_capacity};
+    ghost use Rattle.std.specs.Prelude.{◌≤◌, List, vec_capacity};
     ghost use Rattle.port_pool.specs.declared.pairs.Lease.{Lease};
-    ghost use Rattle.call_cell.specs.declared.leg.Leg.{Leg};
-    ghost use Rattle.call_cell.specs.CellEnds.{parts_of};
 
     ghost Value = { List (Lease × O × O) };
 
-    ghost view = { λ gone. map (λ (leg : Leg O). parts_of leg) gone.legs.items };
+    ghost view = { λ gone. gone.legs.items };
 
     ghost invariant = { λ gone. 16 ≤ vec_capacity gone.legs };
 }
@@ -43,12 +41,14 @@ impl<O> Gone<O> {
         self.legs.len() < MOST_LEGS
     }
 
-    /// Takes a leg.
+    /// Takes a leg, where its ends weren't taken.
     pub(crate) fn put(&mut self, leg: Leg<O>)
         requires { length self.old < 16 }
-        ensures { self.new ≡ self.old ++ parts_of leg ∷ [] }
+        ensures { self.new ≡ self.old ++ option_to_list (parts_of leg) }
     {
-        self.legs.push_reserved(leg);
+        if let Some(parts) = leg.into_parts() {
+            self.legs.push_reserved(parts);
+        }
     }
 
     /// Gives the lease of a leg that is left, and its out ends for RTP and for RTCP: that of the earliest one. `None`: none is
@@ -60,6 +60,6 @@ impl<O> Gone<O> {
         if self.legs.is_empty() {
             return None;
         }
-        Some(self.legs.remove(0).into_parts())
+        Some(self.legs.remove(0))
     }
 }

@@ -1,10 +1,18 @@
-ghost use Rattle.std.specs.Prelude.{◌≡◌, ℕ, Bool, List, Some, None};
+ghost use Rattle.std.specs.Prelude.{◌≡◌, ℕ, Bool, List, Option, Some, None, IsSome};
 ghost use Rattle.relay_outside.specs.declared.settings.Config.{Config};
 ghost use Rattle.histories.specs.Words.{In};
 ghost use Rattle.port_pool.specs.declared.signal.SectionSignal.{SectionSignal};
 ghost use Rattle.port_pool.specs.Signals.{NewKey};
 ghost use Rattle.call_cell.specs.declared.prepare.Prepare.{Prepare};
+ghost use Rattle.rtp_packet.specs.declared.head.Half.TheVariants.{Rtp};
+ghost use Rattle.port_pool.specs.Ports.{port_address};
+ghost use Rattle.call_cell.specs.declared.leg.Leg.{Leg};
 ghost use Rattle.call_cell.specs.declared.cell.Cell.{Cell};
+ghost use Rattle.call_cell.specs.Shapes.{IsSmall, cell_leg_shapes};
+ghost use Rattle.relay_outside.specs.declared.address.Addr.{Addr};
+ghost use Rattle.call_cell.specs.declared.saved.CellSaved.{CellSaved};
+ghost use Rattle.call_cell.specs.SavedCells.{SavesCell};
+ghost use Rattle.call_cell.specs.TakenEnds.{TakesEnds, leased_address};
 ghost use Rattle.call_cell.specs.Cells.{CellEntry, Receipt, Shield, since_end, key_numbered};
 ghost use Rattle.call_cell.specs.Protection.{protected};
 ghost use Rattle.call_cell.specs.Deeds.{deed};
@@ -25,6 +33,21 @@ pub fn notes_are_new()
 pub fn legs_find_places<O>()
     ensures { (config : Config) (cell : Cell O) (h : List CellEntry) (signal : Prepare O) (call : ℕ) (keys : List NewKey) (dropped : List ℕ) →
         CellFor config cell h → PrepareFor signal keys dropped → CanCome config (since_end h) signal call keys dropped → FitsPlaces cell signal }
+{}
+
+/// Theorem (no run-time code): a cell has at most 16 legs, of sections below 8, and of each the lease has the port of its pair.
+pub fn legs_are_few<O>()
+    ensures small { (config : Config) (cell : Cell O) (h : List CellEntry) → CellFor config cell h → IsSmall (cell_leg_shapes cell.legs.items) }
+    ensures ports { (config : Config) (cell : Cell O) (h : List CellEntry) (leg : Leg O) → CellFor config cell h → In leg cell.legs.items →
+        leased_address cell.config leg.lease ≡ port_address config leg.holder.pair Rtp }
+{}
+
+/// Theorem (no run-time code): what is saved as a cell was stands for each history for which that stood, once it has its ends; and a
+/// cell is saved as before its ends were taken.
+pub fn saved_cells_stand<O>()
+    ensures moves { (config : Config) (a b : Cell O) (saved : CellSaved) (h : List CellEntry) → SavesCell a saved → SavesCell b saved →
+        ((leg : Leg O) → In leg b.legs.items → IsSome leg.sending.ends) → CellFor config a h → CellFor config b h }
+    ensures taken { (old new : Cell O) (taken : Option (Addr × O × O)) (saved : CellSaved) → TakesEnds old new taken → SavesCell new saved → SavesCell old saved }
 {}
 
 /// Theorem (no run-time code): how many inbound contexts an answer makes in a cell is said by its history.

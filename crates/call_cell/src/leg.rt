@@ -1,4 +1,4 @@
-ghost use Rattle.std.specs.Prelude.{ℕ, ◌≡◌, ◌≤◌, ◌<◌, ◌+◌, List, take, Option, Some, true, IfOk, IfSome, length, position, if◌then◌else◌};
+ghost use Rattle.std.specs.Prelude.{ℕ, ◌≡◌, ◌≤◌, ◌<◌, ◌+◌, List, take, Option, Some, None, true, IfOk, IfSome, is_some, length, position, if◌then◌else◌};
 ghost use Rattle.relay_outside.specs.declared.address.Addr.{Addr};
 ghost use Rattle.rtp_packet.specs.declared.head.Half.{Half};
 ghost use Rattle.srtp_sources.specs.Notes.{Note};
@@ -11,6 +11,9 @@ ghost use Rattle.call_cell.specs.Heads.{half_of, IsHead};
 ghost use Rattle.call_cell.specs.Parts.{learner_in};
 ghost use Rattle.call_cell.specs.LegHistories.{port_by, leased_port, outcome_of, in_force_with};
 ghost use Rattle.call_cell.specs.CellEnds.{parts_of};
+ghost use Rattle.call_cell.specs.SavedCells.{saved_leg};
+ghost use Rattle.call_cell.specs.Shapes.{cell_leg_shape};
+ghost use Rattle.call_cell.specs.TakenEnds.{leased_address, ends_by_address, without_ends};
 
 use crate::contexts::Outbound;
 use crate::counts::Counts;
@@ -18,10 +21,11 @@ use crate::heads::{Head, PlainPacket, kind_on, read_head, way_on};
 use crate::in_contexts::InContexts;
 use crate::outcome::{LocalPort, Lost, Outcome, PacketBuffer, Refused};
 use crate::receiver::Receiving;
+use crate::saved::LegSaved;
 use crate::sender::Sending;
 use endpoint_learn::Learner;
 use port_pool::{Holder, Lease, LegReport, LegSignal, Side};
-use relay_outside::{Addr, OutEnd};
+use relay_outside::{Addr, Config, OutEnd};
 use rtcp_reports::{Block, last_block};
 use rtp_packet::Half;
 use sdes_lines::Suite;
@@ -97,6 +101,16 @@ fn leased_port(half: Half, lease: &Lease) -> LocalPort
     }
 }
 
+/// The address of the port for RTP of a leased pair.
+pub(crate) fn leased_address(config: &Config, lease: &Lease) -> Addr
+    ensures { result ≡ leased_address config.now lease.now }
+{
+    Addr {
+        ip: config.interface_of(lease.family()),
+        port: lease.rtp_port(),
+    }
+}
+
 /// The outcome of a packet that was sent, or was lost on its way out.
 fn outcome_of(from: LocalPort, to: Addr, sent: Result<usize, Lost>) -> Outcome
     ensures { result ≡ outcome_of from to sent }
@@ -132,7 +146,7 @@ impl<O> Leg<O> {
         requires generation { lease.generation ≡ holder.generation }
         ensures fresh { IsFreshLeg result }
         ensures holder { result.holder ≡ holder }
-        ensures parts { parts_of result ≡ (lease, rtp, rtcp) }
+        ensures parts { parts_of result ≡ Some (lease, rtp, rtcp) }
     {
         Leg {
             holder,
@@ -145,8 +159,24 @@ impl<O> Leg<O> {
         }
     }
 
-    /// The leg's lease and its out ends.
-    pub(crate) fn into_parts(self) -> (Lease, O, O)
+    /// Whether the leg has its out ends.
+    pub(crate) fn has_ends(&self) -> bool
+        ensures { result ≡ is_some self.now.sending.ends }
+    {
+        self.sending.has_ends()
+    }
+
+    /// Takes the leg's out ends, for RTP and for RTCP, with the address of its port for RTP, where they weren't taken.
+    pub(crate) fn take_ends(&mut self, config: &Config) -> Option<(Addr, O, O)>
+        ensures ends { result ≡ ends_by_address (leased_address config.now self.old.lease) self.old.sending.ends }
+        ensures rest { self.new ≡ without_ends self.old }
+    {
+        let (rtp, rtcp) = self.sending.take_ends()?;
+        Some((leased_address(config, &self.lease), rtp, rtcp))
+    }
+
+    /// The leg's lease and its out ends, where they weren't taken.
+    pub(crate) fn into_parts(self) -> Option<(Lease, O, O)>
         ensures { result ≡ parts_of self }
     {
         let Leg {
@@ -158,8 +188,38 @@ impl<O> Leg<O> {
             counts: _,
             report: _,
         } = self;
-        let (rtp, rtcp) = sending.into_ends();
-        (lease, rtp, rtcp)
+        let (rtp, rtcp) = sending.into_ends()?;
+        Some((lease, rtp, rtcp))
+    }
+
+    /// What the leg is saved as, where its ends were taken.
+    pub(crate) fn into_saved(self) -> LegSaved
+        requires { self.sending.ends ≡ None }
+        ensures { result ≡ saved_leg self }
+    {
+        let Leg {
+            holder,
+            lease,
+            signal,
+            receiving,
+            sending,
+            counts,
+            report,
+        } = self;
+        let (rtp, rtcp, inbound) = receiving.into_saved();
+        let (tag80, tag32) = sending.into_saved();
+        LegSaved {
+            holder,
+            lease,
+            signal,
+            rtp,
+            rtcp,
+            inbound,
+            tag80,
+            tag32,
+            counts,
+            report,
+        }
     }
 
     /// What was committed last, and a half's learner, which knows where its packets go.
@@ -229,6 +289,7 @@ impl<O: OutEnd> Leg<O> {
         requires held { len ≤ 2000 }
         ensures fits { IfOk result (λ plain. plain.len ≤ 2000) }
         ensures head { IfOk result (λ plain. IsHead plain.head (take plain.len buf.new)) }
+        ensures shape { cell_leg_shape self.new ≡ cell_leg_shape self.old }
         ensures kind { IfOk result (λ plain. half_of plain.head ≡ kind_on self.old.signal half (take len buf.old)) }
         ensures accepts { (known : Half → Option Addr) (notes : List Note) → ReceivingFor self.old.signal self.old.receiving known notes →
             LegAccepts (judged_leg self.old.signal (known half) notes (kind_on self.old.signal half (take len buf.old)) source (take len buf.old))
@@ -255,6 +316,7 @@ impl<O: OutEnd> Leg<O> {
         requires held { len ≤ 2000 }
         requires head { IsHead head (take len buf.old) }
         ensures numbers { SameNumbers self.old.sending self.new.sending }
+        ensures shape { cell_leg_shape self.new ≡ cell_leg_shape self.old }
         ensures forwards { (keys : ℕ → Option NewKey) (notes : ℕ → List Note) → SendingFor self.old.holder keys notes self.old.sending →
             HasNamed (outbound_of self.old.signal) keys self.old.sending →
             LegForwardsBy O.log O.faults (in_force_with self.old.signal (learner_in (way_on self.old.signal (half_of head)) self.old.receiving)) keys notes

@@ -1,8 +1,9 @@
-ghost use Rattle.std.specs.Prelude.{◌≡◌, ◌<◌, ◌≤◌, ◌+◌, ◌++◌, ◌&&◌, ◌==◌, IfSome, length, map, position, vec_len, vec_capacity};
+ghost use Rattle.std.specs.Prelude.{◌≡◌, ◌<◌, ◌≤◌, ◌+◌, ◌++◌, ◌&&◌, ◌==◌, [], ◌∷◌, IfSome, length, map, position, vec_len, vec_capacity};
 ghost use Rattle.call_cell.specs.declared.leg.Leg.{Leg};
 ghost use Rattle.port_pool.specs.Signals.{side_eq};
 ghost use Rattle.call_cell.specs.LegHistories.{AreApart};
 ghost use Rattle.call_cell.specs.Preparations.{is_key_at, put_if, with_keys};
+ghost use Rattle.call_cell.specs.Shapes.{ends_of_legs, cell_leg_shapes, with_prepared};
 
 use crate::leg::Leg;
 use crate::prepare::PreparedKey;
@@ -43,7 +44,9 @@ fn place_for<O>(legs: &[Leg<O>], key: &PreparedKey) -> Option<usize>
 /// Gives the contexts of a key to the leg that it is for.
 /// A key for which the cell has no leg is dropped.
 fn put_key<O>(legs: &mut [Leg<O>], key: PreparedKey)
-    ensures { AreApart legs.old → legs.new ≡ map (λ leg. put_if key leg) legs.old }
+    ensures legs { AreApart legs.old → legs.new ≡ map (λ leg. put_if key leg) legs.old }
+    ensures shape { cell_leg_shapes legs.new ≡ with_prepared (key ∷ []) (cell_leg_shapes legs.old) }
+    ensures ends { ends_of_legs legs.new ≡ ends_of_legs legs.old }
 {
     if let Some(at) = place_for(legs, &key) {
         legs[at].put(key.suite, key.contexts);
@@ -52,7 +55,9 @@ fn put_key<O>(legs: &mut [Leg<O>], key: PreparedKey)
 
 /// Gives the contexts of the keys to the legs that they are for.
 pub(crate) fn put_keys<O>(legs: &mut [Leg<O>], keys: Vec<PreparedKey>)
-    ensures { AreApart legs.old → legs.new ≡ map (λ leg. with_keys keys.items leg) legs.old }
+    ensures legs { AreApart legs.old → legs.new ≡ map (λ leg. with_keys keys.items leg) legs.old }
+    ensures shape { cell_leg_shapes legs.new ≡ with_prepared keys.items (cell_leg_shapes legs.old) }
+    ensures ends { ends_of_legs legs.new ≡ ends_of_legs legs.old }
 {
     let mut keys = keys;
     while let Some(key) = keys.pop() {

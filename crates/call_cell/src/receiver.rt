@@ -15,6 +15,7 @@ use crate::contexts::Inbound;
 use crate::heads::Head;
 use crate::in_contexts::InContexts;
 use crate::outcome::{PacketBuffer, Refused};
+use crate::places::unboxed;
 use crate::signals::{address, is_new_key};
 use endpoint_learn::{Judge, Learner};
 use port_pool::LegSignal;
@@ -138,6 +139,14 @@ impl Receiving {
             rtcp: None,
             inbound: None,
         }
+    }
+
+    /// What is kept, for RTP, for RTCP and under the inbound key.
+    pub(crate) fn into_saved(self) -> (Option<Learner>, Option<Learner>, Option<Inbound>)
+        ensures { result ≡ (self.rtp, self.rtcp, boxed_in self.inbound) }
+    {
+        let Receiving { rtp, rtcp, inbound } = self;
+        (rtp, rtcp, unboxed(inbound))
     }
 
     /// The learner of a half, once an answer was committed.

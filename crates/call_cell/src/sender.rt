@@ -1,4 +1,4 @@
-ghost use Rattle.std.specs.Prelude.{ℕ, ◌≡◌, ◌≤◌, false, true, List, take, Option, Some, None, IfOk};
+ghost use Rattle.std.specs.Prelude.{ℕ, ◌≡◌, ◌≤◌, false, true, List, take, Option, Some, None, IfOk, IsSome, is_some};
 ghost use Rattle.sdes_lines.specs.declared.crypto_line.Suite.{Suite};
 ghost use Rattle.srtp_sources.specs.Notes.{Note};
 ghost use Rattle.port_pool.specs.declared.holder.Holder.{Holder};
@@ -10,6 +10,7 @@ ghost use Rattle.call_cell.specs.Parts.{OutboundIn, WrapsInTo, boxed_in, is_numb
 use crate::contexts::Outbound;
 use crate::heads::Head;
 use crate::outcome::{LocalPort, Lost, PacketBuffer};
+use crate::places::unboxed;
 use port_pool::LegSignal;
 use relay_outside::{Addr, OutEnd};
 use rtp_packet::Half;
@@ -18,8 +19,8 @@ use sdes_lines::Suite;
 /// How a leg sends: the out ends of its ports, and the contexts of the keys that were drawn for it.
 #[derive(Drop)]
 pub(crate) struct Sending<O> {
-    rtp: O,
-    rtcp: O,
+    /// The out ends for RTP and for RTCP, until they are taken.
+    ends: Option<(O, O)>,
     /// The contexts of its key for the suite with tags of 80 bits.
     tag80: Option<Box<Option<Outbound>>>,
     /// The contexts of its key for the suite with tags of 32 bits.
@@ -82,12 +83,11 @@ impl<O> Sending<O> {
 
     /// The out ends for RTP and for RTCP, and no key.
     pub(crate) fn new(rtp: O, rtcp: O) -> Sending<O>
-        ensures ends { (result.rtp ≡ rtp) × (result.rtcp ≡ rtcp) }
+        ensures ends { result.ends ≡ Some (rtp, rtcp) }
         ensures keyless { (suite : Suite) → contexts_of suite result ≡ None }
     {
         Sending {
-            rtp,
-            rtcp,
+            ends: Some((rtp, rtcp)),
             tag80: None,
             tag32: None,
         }
@@ -103,17 +103,41 @@ impl<O> Sending<O> {
         }
     }
 
-    /// The out ends, for RTP and for RTCP.
-    pub(crate) fn into_ends(self) -> (O, O)
-        ensures { result ≡ (self.rtp, self.rtcp) }
+    /// Whether it has its out ends.
+    pub(crate) fn has_ends(&self) -> bool
+        ensures { result ≡ is_some self.now.ends }
+    {
+        self.ends.is_some()
+    }
+
+    /// Takes the out ends, for RTP and for RTCP, where they weren't taken.
+    pub(crate) fn take_ends(&mut self) -> Option<(O, O)>
+        ensures ends { result ≡ self.old.ends }
+        ensures rest { self.new ≡ record { ends = None; tag80 = self.old.tag80; tag32 = self.old.tag32 } }
+    {
+        self.ends.take()
+    }
+
+    /// The contexts of its keys for both suites, where its ends were taken.
+    pub(crate) fn into_saved(self) -> (Option<Outbound>, Option<Outbound>)
+        requires { self.ends ≡ None }
+        ensures { result ≡ (boxed_in self.tag80, boxed_in self.tag32) }
+    {
+        let Sending { ends, tag80, tag32 } = self;
+        let None = ends else { unreachable!() };
+        (unboxed(tag80), unboxed(tag32))
+    }
+
+    /// The out ends, for RTP and for RTCP, where they weren't taken.
+    pub(crate) fn into_ends(self) -> Option<(O, O)>
+        ensures { result ≡ self.ends }
     {
         let Sending {
-            rtp,
-            rtcp,
+            ends,
             tag80: _,
             tag32: _,
         } = self;
-        (rtp, rtcp)
+        ends
     }
 }
 
@@ -152,17 +176,21 @@ impl<O: OutEnd> Sending<O> {
 
     /// Sends a datagram by the end of a half, and returns whether that succeeded.
     fn send(&mut self, half: Half, to: Addr, bytes: &[u8]) -> bool
+        requires ends { IsSome self.old.ends }
         ensures sends { SendsBy O.log O.faults half to bytes.now result self.old self.new }
         ensures keys { SameKeys self.old self.new }
     {
+        let Some((rtp, rtcp)) = &mut self.ends else {
+            unreachable!()
+        };
         match half {
-            Half::Rtp => self.rtp.send(to, bytes).is_ok(),
-            Half::Rtcp => self.rtcp.send(to, bytes).is_ok(),
+            Half::Rtp => rtp.send(to, bytes).is_ok(),
+            Half::Rtcp => rtcp.send(to, bytes).is_ok(),
         }
     }
 
     /// Sends the packet in the buffer's first `len` bytes, which has this head, to a leg with that in force, by the end of a
-    /// half, whose local port is this, and returns how many bytes were sent.
+    /// half, whose local port is this, and returns how many bytes were sent. Once its ends were taken, the leg is on hold.
     pub(crate) fn forward(
         &mut self,
         signal: &LegSignal,
@@ -176,10 +204,11 @@ impl<O: OutEnd> Sending<O> {
         requires held { len ≤ 2000 }
         requires head { IsHead head (take len buf.old) }
         ensures numbers { SameNumbers self.old self.new }
+        ensures ends { is_some self.new.ends ≡ is_some self.old.ends }
         ensures forwards { (leg : Holder) (keys : ℕ → Option NewKey) (notes : ℕ → List Note) → SendingFor leg keys notes self.old → HasNamed signal.now.outbound keys self.old →
             ForwardsTo O.log O.faults (wrapped_for keys notes signal.now (half_of head) (take len buf.old)) leg keys notes half from to self.old self.new buf.new result }
     {
-        if signal.hold {
+        if signal.hold || self.ends.is_none() {
             return Err(Lost::Hold);
         }
         let size = self.protect(signal.outbound, head, buf, len)?;

@@ -1,5 +1,5 @@
 -- Worked rows of legs that take RTP and RTCP on one port and are sent both there, and of report blocks.
-use Rattle.std.proofs.Common.{◌≡◌, ℕ, List, [], ◌∷◌, ◌++◌, map, true, Option, Some, None, pos, refl}
+use Rattle.std.proofs.Common.{◌≡◌, ℕ, List, [], ◌∷◌, ◌++◌, map, true, Some, None, pos, refl}
 use Rattle.std.specs.Prelude.{◌-ℤ◌}
 use Rattle.relay_outside.specs.declared.address.Addr.{Addr}
 use Rattle.relay_outside.specs.declared.address.Family.TheVariants.{V4}
@@ -7,7 +7,6 @@ use Rattle.rtp_packet.specs.declared.head.Half.{Half}
 use Rattle.rtp_packet.specs.declared.head.Half.TheVariants.{Rtp, Rtcp}
 use Rattle.rtp_packet.specs.Head.{rtp_head, rtcp_ssrc}
 use Rattle.rtcp_mux.specs.PacketType.{half_of_packet}
-use Rattle.rtcp_reports.specs.declared.block.Block.{Block}
 use Rattle.rtcp_reports.specs.Compound.{compound_parts}
 use Rattle.rtcp_reports.specs.ReportBlocks.{report_blocks, last_report_block}
 use Rattle.port_pool.specs.Ports.{range_pairs}
@@ -19,7 +18,7 @@ use Rattle.call_cell.specs.Lessons.{learned}
 use Rattle.call_cell.specs.Blocks.{last_report}
 use Rattle.call_cell.specs.Deeds.{deed}
 use Rattle.call_cell.specs.Demands.{accepted_count, sent_count}
-use Rattle.call_cell.proofs.rows.Calls.{leg_a, leg_b, at_a, at_b, first_place, next_port, no_flags, strict, plain, side_a, side_b, committed, received, from_a, from_b, control_a, control_b, answered, steps, now, packet, deeds, outcomes_of, rtcp_of, rtp_of}
+use Rattle.call_cell.proofs.rows.Calls.{leg_a, leg_b, at_a, at_b, first_place, next_port, strict, plain, side_a, side_b, committed, received, from_a, from_b, control_a, control_b, answered, steps, now, packet, deeds, outcomes_of, rtcp_of, rtp_of}
 
 -- a side with one port for both
 abbrev muxed : LegSignal → LegSignal

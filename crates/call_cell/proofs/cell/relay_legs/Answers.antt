@@ -1,4 +1,4 @@
-use Rattle.std.proofs.Common.{◌≡◌, None, ap, sym, subst, ◌∙◌, filter, get_or, set}
+use Rattle.std.proofs.Common.{◌≡◌, refl, None, ap, sym, subst, ◌∙◌, filter, get_or, set}
 use Rattle.histories.specs.Words.{first}
 use Rattle.port_pool.specs.declared.holder.Holder.{Holder}
 use Rattle.port_pool.specs.Signals.{same_leg}
@@ -12,10 +12,12 @@ use Rattle.call_cell.proofs.Placing.{IsPlace, holders_of, place_is, no_place, at
 use Rattle.call_cell.proofs.Relaying.{found_at, judges, judges_so, kind_so, relays_stale, relays_refused}
 use Rattle.call_cell.proofs.Crossing.{takes_it, same_holder, relays_unopposed}
 use Rattle.call_cell.proofs.Towards.{relays_towards}
+use Rattle.call_cell.proofs.Shaped.{shapes_set}
 use Rattle.call_cell.proofs.cell.relay_legs.Goals as goal
 
 pub returns-in_default : goal.returns-in_default
 returns-in_default g c = record {
+  shape = refl;
   relays = λ config h number for.
       let p = receipt_of number c.args.packet.now c.args.buf.now in
       relays_stale g.O.OutEnd.log g.O.OutEnd.faults config h p c.args.legs.now c.args.buf.now for
@@ -24,6 +26,7 @@ returns-in_default g c = record {
 
 pub returns-in-Err : goal.returns-in-Err
 returns-in-Err g c = record {
+  shape = shapes_set c.args.legs.now c.in-Some.at c.accept.new.self c.index-legs-at.result c.accept.ensures.shape;
   relays = λ config h number for.
       let p = receipt_of number c.args.packet.now c.args.buf.now in
       let place = place_is (same_leg p.holder) c.args.legs.now c.in-Some.at c.index-legs-at.result (sym c.place_of.ensures.place ∙ c.in-Some.is) in
@@ -35,6 +38,7 @@ returns-in-Err g c = record {
 
 pub returns-in_default-place_of_opposite : goal.returns-in_default-place_of_opposite
 returns-in_default-place_of_opposite g c = record {
+  shape = shapes_set c.args.legs.now c.in-Some.at c.accept.new.self c.index-legs-at.result c.accept.ensures.shape;
   relays = λ config h number for.
       let p = receipt_of number c.args.packet.now c.args.buf.now in
       let those = c.args.legs.now in
@@ -56,6 +60,8 @@ returns-in_default-place_of_opposite g c = record {
 
 pub returns : goal.returns
 returns g c = record {
+  shape = shapes_set (set c.args.legs.now c.in-Some.at c.accept.new.self) c.in-Some-place_of_opposite.to c.forward.new.self c.index-legs-to.result c.forward.ensures.shape
+      ∙ shapes_set c.args.legs.now c.in-Some.at c.accept.new.self c.index-legs-at.result c.accept.ensures.shape;
   relays = λ config h number for.
       let p = receipt_of number c.args.packet.now c.args.buf.now in
       let those = c.args.legs.now in

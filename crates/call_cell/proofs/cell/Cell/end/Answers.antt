@@ -1,10 +1,22 @@
-use Rattle.std.proofs.Common.{refl, true, [], ◌∷◌}
+use Rattle.std.proofs.Common.{refl, ap, true, false, List, [], ◌∷◌, None}
 use Rattle.call_cell.specs.Cells.{since_end}
 use Rattle.call_cell.proofs.Ends.{cell_ends}
+use Rattle.call_cell.specs.declared.leg.Leg.{Leg}
+use Rattle.call_cell.specs.Shapes.{cell_leg_shapes}
+use Rattle.call_cell.proofs.Shaped.{shape_ended}
 use Rattle.call_cell.proofs.Ended.{all_go, eight_true}
 use Rattle.call_cell.proofs.cell.Cell.end.Goals as goal
 
-pub returns : goal.returns
-returns g c config h for =
+pub returns-clause-shape : goal.returns-clause-shape
+returns-clause-shape g c small =
+    let gone = shape_ended (true ∷ true ∷ true ∷ true ∷ true ∷ true ∷ true ∷ true ∷ []) c.args.self.now.legs.items c.part.new.legs.items c.args.gone.now c.part.new.gone small eight_true c.requires.empty c.part.ensures in
+    ap (λ (l : List (Leg _)). record { call = None; is_committed = false; legs = cell_leg_shapes l }) gone.0
+
+pub returns-clause-legs : goal.returns-clause-legs
+returns-clause-legs g c small =
+    (shape_ended (true ∷ true ∷ true ∷ true ∷ true ∷ true ∷ true ∷ true ∷ []) c.args.self.now.legs.items c.part.new.legs.items c.args.gone.now c.part.new.gone small eight_true c.requires.empty c.part.ensures).1
+
+pub returns-clause-ends : goal.returns-clause-ends
+returns-clause-ends g c config h for =
     let gone = all_go config (since_end h) (true ∷ true ∷ true ∷ true ∷ true ∷ true ∷ true ∷ true ∷ []) c.args.self.now.legs.items c.part.new.legs.items c.args.gone.now c.part.new.gone for.legs_for eight_true c.requires.empty c.part.ensures in
     cell_ends config c.args.self.now _ h c.part.new.gone for refl refl refl refl gone.0 gone.1

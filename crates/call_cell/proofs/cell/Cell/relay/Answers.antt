@@ -1,13 +1,21 @@
-use Rattle.std.proofs.Common.{refl, arith, sym, subst, List}
+use Rattle.std.proofs.Common.{refl, ap, arith, sym, subst, ◌∙◌, List}
 use Rattle.std.proofs.lemmas.List.{with_items_is}
 use Rattle.call_cell.specs.declared.leg.Leg.{Leg}
 use Rattle.call_cell.specs.Cells.{since_end}
 use Rattle.call_cell.specs.LegHistories.{LegsStandFor, LegsRelay, receipt_of}
+use Rattle.call_cell.specs.Shapes.{CellLegShape, cell_leg_shapes}
 use Rattle.call_cell.proofs.Handing.{cell_relays}
 use Rattle.call_cell.proofs.cell.Cell.relay.Goals as goal
 
-pub returns : goal.returns
-returns g c config h number for =
+pub returns-clause-shape : goal.returns-clause-shape
+returns-clause-shape g c =
+    let those = c.relay_legs-outcome.new.legs in
+    let items = with_items_is c.args.self.now.legs those (omega (arith, c.relay_legs-outcome.auto.legs, c.as_mut_slice.ensures.len)) in
+    ap (λ (l : List CellLegShape). record { call = c.args.self.now.call; is_committed = c.args.self.now.is_committed; legs = l })
+    (ap cell_leg_shapes items ∙ c.relay_legs-outcome.ensures.shape ∙ ap cell_leg_shapes c.as_mut_slice.ensures.value)
+
+pub returns-clause-relays : goal.returns-clause-relays
+returns-clause-relays g c config h number for =
     let p = receipt_of number c.args.packet.now c.args.buf.now in
     let those = c.relay_legs-outcome.new.legs in
     let value = c.as_mut_slice.ensures.value in

@@ -1,11 +1,10 @@
-use Rattle.std.proofs.Common.{◌≡◌, ◌∙◌, ap, sym, Option, Some, subst, take}
+use Rattle.std.proofs.Common.{◌∙◌, ap, sym, Option, subst, take}
 use Rattle.std.proofs.lemmas.Result.{err_from_is_err_and}
 use Rattle.rtp_packet.specs.declared.head.Half.{Half}
 use Rattle.port_pool.specs.declared.signal.LegSignal.{LegSignal}
 use Rattle.histories.specs.Words.{or_else}
 use Rattle.call_cell.specs.Blocks.{block_in}
 use Rattle.call_cell.specs.Counts.{more_accepted}
-use Rattle.call_cell.specs.Deeds.{kind_on}
 use Rattle.call_cell.specs.Heads.{half_of}
 use Rattle.call_cell.specs.Parts.{ReceivingFor}
 use Rattle.call_cell.proofs.Accepting.{leg_malformed, leg_refuses, leg_takes}

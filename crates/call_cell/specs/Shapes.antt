@@ -1,0 +1,113 @@
+-- The shape of a cell, and what each call makes of it, whatever the cell's history: the call, whether an answer committed it, and of
+-- each leg, in lease order, its holder, its lease, whether it has its out ends, whether an answer committed it, and the numbers of
+-- its keys.
+use Rattle.std.specs.Prelude.{◌≡◌, ◌<◌, ◌≤◌, ℕ, ◌&&◌, ◌||◌, ◌==◌, not, Bool, true, false, List, [], ◌∷◌, ◌++◌, map, filter, filter_map, length, Option, Some, None, is_some, slice_index_or, if◌then◌else◌}
+use Rattle.sdes_lines.specs.declared.crypto_line.Suite.{Suite}
+use Rattle.sdes_lines.specs.declared.crypto_line.Suite.TheVariants.{Tag80, Tag32}
+use Rattle.histories.specs.Words.{In, or_else}
+use Rattle.port_pool.specs.declared.pairs.Lease.{Lease}
+use Rattle.port_pool.specs.declared.holder.Holder.{Holder}
+use Rattle.port_pool.specs.declared.holder.Side.{Side}
+use Rattle.port_pool.specs.declared.signal.SectionSignal.{SectionSignal}
+use Rattle.port_pool.specs.Signals.{NewKey, side_eq, is_rejected}
+use Rattle.call_cell.specs.declared.leg.Leg.{Leg}
+use Rattle.call_cell.specs.declared.cell.Cell.{Cell}
+use Rattle.call_cell.specs.declared.prepare.PreparedKey.{PreparedKey}
+use Rattle.call_cell.specs.Parts.{contexts_of, key_number_in}
+use Rattle.call_cell.specs.CellEnds.{parts_of}
+use Rattle.call_cell.specs.Commits.{said_of}
+
+pub record CellLegShape : Type 0 where
+  pub holder : Holder
+  pub lease : Lease
+  pub has_ends : Bool
+  pub is_committed : Bool
+  pub tag80 : Option ℕ
+  pub tag32 : Option ℕ
+
+abbrev pub cell_leg_shape : {O : Type 0} → Leg O → CellLegShape
+cell_leg_shape leg = record {
+  holder = leg.holder;
+  lease = leg.lease;
+  has_ends = is_some leg.sending.ends;
+  is_committed = is_some leg.signal;
+  tag80 = key_number_in (contexts_of Tag80 leg.sending);
+  tag32 = key_number_in (contexts_of Tag32 leg.sending);
+}
+
+abbrev pub cell_leg_shapes : {O : Type 0} → List (Leg O) → List CellLegShape
+cell_leg_shapes {O} those = map (λ (leg : Leg O). cell_leg_shape leg) those
+
+pub record CellShape : Type 0 where
+  pub call : Option ℕ
+  pub is_committed : Bool
+  pub legs : List CellLegShape
+
+abbrev pub cell_shape : {O : Type 0} → Cell O → CellShape
+cell_shape cell = record { call = cell.call; is_committed = cell.is_committed; legs = cell_leg_shapes cell.legs.items }
+
+-- An offer.
+
+-- the leg has the key of this number for a suite
+abbrev pub with_key_number : Suite → Option ℕ → CellLegShape → CellLegShape
+with_key_number Tag80 number leg = record leg { tag80 = number }
+with_key_number Tag32 number leg = record leg { tag32 = number }
+
+-- the first leg on a side of a section has it
+abbrev pub key_number_at : (section : ℕ) → Side → Suite → Option ℕ → List CellLegShape → List CellLegShape
+key_number_at section side suite number [] = []
+key_number_at section side suite number (leg ∷ legs) =
+    if (section == leg.holder.section) && side_eq side leg.holder.side then with_key_number suite number leg ∷ legs
+    else leg ∷ key_number_at section side suite number legs
+
+-- the legs have the keys that are for them; of two for one suite, the former
+abbrev pub with_key_numbers : List NewKey → List CellLegShape → List CellLegShape
+with_key_numbers [] legs = legs
+with_key_numbers (key ∷ keys) legs = key_number_at key.section key.side key.suite (Some key.number) (with_key_numbers keys legs)
+
+-- the same of keys as they are prepared
+abbrev pub with_prepared : List PreparedKey → List CellLegShape → List CellLegShape
+with_prepared [] legs = legs
+with_prepared (key ∷ keys) legs = key_number_at key.section key.side key.suite (key_number_in key.contexts.value) (with_prepared keys legs)
+
+-- the cell holds the call, if it held none; the legs of the sections with a flag went, the new ones came, and the keys came to them
+abbrev pub offered_shape : List Bool → List CellLegShape → List NewKey → (call : ℕ) → CellShape → CellShape
+offered_shape flags new keys call shape = record {
+  call = or_else shape.call (Some call);
+  is_committed = shape.is_committed;
+  legs = with_key_numbers keys (filter (λ leg. not (slice_index_or flags leg.holder.section false)) shape.legs ++ new);
+}
+
+-- An answer.
+
+abbrev pub answered_leg : List SectionSignal → CellLegShape → CellLegShape
+answered_leg signal leg = record leg { is_committed = is_some (said_of signal leg.holder) || leg.is_committed }
+
+-- the legs of rejected sections went, and those of which it says something are committed
+abbrev pub answered_shape : List SectionSignal → CellShape → CellShape
+answered_shape signal shape = record {
+  call = shape.call;
+  is_committed = true;
+  legs = map (answered_leg signal) (filter (λ leg. not (is_rejected signal leg.holder.section)) shape.legs);
+}
+
+-- An end.
+
+abbrev pub ended_shape : CellShape
+ended_shape = record { call = None; is_committed = false; legs = [] }
+
+-- Legs that go.
+
+-- a call has at most 16 legs, and no section from 8 on
+pub record IsSmall (legs : List CellLegShape) : Type 0 where
+  pub few : length legs ≤ 16
+  pub sections : (leg : CellLegShape) → In leg legs → leg.holder.section < 8
+
+abbrev pub ends_of_legs : {O : Type 0} → List (Leg O) → List (Option (O × O))
+ends_of_legs {O} those = map (λ (leg : Leg O). leg.sending.ends) those
+
+-- of the old legs those that pass went with their leases and ends, in lease order, and the others have the ends that they had; the
+-- new ones came after them with theirs
+pub record LegsGo {O : Type 0} (goes : Holder → Bool) (came old new : List (Leg O)) (gone : List (Lease × O × O)) : Type 0 where
+  pub went : gone ≡ filter_map (λ (leg : Leg O). parts_of leg) (filter (λ (leg : Leg O). goes leg.holder) old)
+  pub ends : ends_of_legs new ≡ ends_of_legs (filter (λ (leg : Leg O). not (goes leg.holder)) old) ++ ends_of_legs came
