@@ -13,6 +13,7 @@ use Rattle.port_pool.specs.declared.reports.LegReport.{LegReport}
 use Rattle.port_pool.specs.Reports.{CountsFit}
 use Rattle.call_cell.specs.declared.cell.Cell as cell
 use Rattle.call_cell.specs.Cells.{CellEntry, Expire, Read, End, since_end}
+use Rattle.call_cell.specs.Shapes.{cell_shape, cell_leg_shapes, ended_shape, IsSmall}
 use Rattle.call_cell.specs.Demands.{CountsBelow}
 use Rattle.call_cell.specs.CellHistories.{CellFor}
 use Rattle.call_cell.specs.CellEnds.{CellEnds}
@@ -80,11 +81,12 @@ module _ {I O : Type 0} where
 
 module _ {I O : Type 0} (it : I → EndLog InCall) (ic : I → ℕ) (ot : O → EndLog OutCall) (oc : O → ℕ) where
   pub end_relates : (x : Part I O) (old new : cell.Cell O) (gone : List (Lease × O × O)) (number handed : ℕ) → x ≡ part.Cell old
+      → (IsSmall (cell_leg_shapes old.legs.items) → cell_shape new ≡ ended_shape)
       → ((config : Config) (h : List CellEntry) → CellFor config old h → CellEnds config old new h gone)
       → Relates it ic ot oc x (leaving number handed (moment_of_cell x) (Cell End) (gone_left ot gone)) (part.Cell new)
-  end_relates x old new gone number handed is steps =
+  end_relates x old new gone number handed is shape steps =
       subst (λ (z : Part I O). Relates it ic ot oc z (leaving number handed (moment_of_cell z) (Cell End) (gone_left ot gone)) (part.Cell new)) (sym is)
-      (record { gone = gone; left_are = refl; steps = λ config h for. (for.moment, steps config h for) })
+      (record { shape = shape; gone = gone; left_are = refl; steps = λ config h for. (for.moment, steps config h for) })
 
   pub read_relates : (x : Part I O) (cell : cell.Cell O) (all_reports : List LegReport) (number handed : ℕ) → x ≡ part.Cell cell → TakesReading x
       → ((config : Config) (h : List CellEntry) → CellFor config cell h → CountsBelow (since_end h) → CellReads config cell h all_reports)
@@ -94,12 +96,12 @@ module _ {I O : Type 0} (it : I → EndLog InCall) (ic : I → ℕ) (ot : O → 
       subst (λ (z : Part I O). Relates it ic ot oc z (nested number handed (moment_of_cell z) (Cell (Read all_reports))) z) (sym is)
       (record { same = refl; steps = λ config h for. (for.moment, all config h for) })
 
-  pub expire_relates : (x : Part I O) (old new : cell.Cell O) (number now : ℕ) (due : Bool) → x ≡ part.Cell old
+  pub expire_relates : (x : Part I O) (old new : cell.Cell O) (number now : ℕ) (due : Bool) → x ≡ part.Cell old → cell_shape new ≡ cell_shape old
       → ((config : Config) (h : List CellEntry) → CellFor config old h → CellExpires config old new h now due)
       → Relates it ic ot oc x (nested number now (max now (moment_of_cell x)) (Cell (Expire due))) (part.Cell new)
-  expire_relates x old new number now due is steps =
+  expire_relates x old new number now due is shape steps =
       subst (λ (z : Part I O). Relates it ic ot oc z (nested number now (max now (moment_of_cell z)) (Cell (Expire due))) (part.Cell new)) (sym is)
-      (λ config h for. (ap (λ (m : ℕ). max now m) for.moment, steps config h for))
+      (record { shape = shape; steps = λ config h for. (ap (λ (m : ℕ). max now m) for.moment, steps config h for) })
 
 module _ {M I O T : Type 0} {g : _} (it : I → EndLog InCall) (ic : I → ℕ) (ot : O → EndLog OutCall) (oc : O → ℕ) where
   -- the main hand is given a cell whose history is that of its list but for relays

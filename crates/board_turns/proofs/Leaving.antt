@@ -1,5 +1,5 @@
 -- The leases and ends that went from a cell are those of its legs, by the hand's list.
-use Rattle.std.proofs.Common.{◌≡◌, refl, sym, ◌∙◌, ap, subst, ℕ, Bool, true, false, cond, List, [], ◌∷◌, map, filter}
+use Rattle.std.proofs.Common.{◌≡◌, refl, sym, ◌∙◌, ap, subst, ℕ, Bool, true, false, cond, List, [], ◌∷◌, map, filter, Some}
 use Rattle.std.specs.List.{filter_map}
 use Rattle.relay_outside.specs.declared.settings.Config.{Config}
 use Rattle.relay_outside.specs.declared.ports.InCall.{InCall}
@@ -21,6 +21,7 @@ use Rattle.call_cell.specs.Cells.{CellEntry, legs, since_end}
 use Rattle.call_cell.specs.LegHistories.{LegStandsFor}
 use Rattle.call_cell.specs.CellHistories.{CellFor}
 use Rattle.call_cell.specs.CellEnds.{parts_of}
+use Rattle.call_cell.proofs.EndsThere.{is_there, zip_parts}
 use Rattle.call_cell.proofs.Few.{each_in}
 use Rattle.call_cell.proofs.Nested.{same_kept}
 use Rattle.relay_core.specs.declared.part.Part.{Part}
@@ -34,13 +35,15 @@ use Rattle.board_turns.proofs.After.{same_history_at}
 use Rattle.board_turns.proofs.Signalling.{same_lasting}
 
 module _ {O : Type 0} where
-  its_lease : (config : Config) (h : List CellEntry) (leg : Leg O) → LegStandsFor config h leg → IsLeaseOf config (parts_of leg) leg.holder
-  its_lease config h leg for = record { pair = for.pair; generation = for.generation; port = for.port Rtp; family = for.family }
-
   leases_of : (config : Config) (h : List CellEntry) (those : List (Leg O)) → ((leg : Leg O) → In leg those → LegStandsFor config h leg)
-      → AreLeasesOf config (map (λ (leg : Leg O). parts_of leg) those) (map (λ (leg : Leg O). leg.holder) those)
-  leases_of config h [] for = tt
-  leases_of config h (leg ∷ those) for = (its_lease config h leg (for leg (here refl)), leases_of config h those (λ other i. for other (there i)))
+      → AreLeasesOf config (filter_map (λ (leg : Leg O). parts_of leg) those) (map (λ (leg : Leg O). leg.holder) those)
+  leases_of config h those for = zip_parts (IsLeaseOf {O = O} config) (λ (leg : Leg O). leg.holder) those its_lease
+    where
+      its_lease : (leg : Leg O) → In leg those → (ends : O × O) × (leg.sending.ends ≡ Some ends) × IsLeaseOf {O = O} config (leg.lease, ends.0, ends.1) leg.holder
+      its_lease leg i =
+          let f = for leg i in
+          let t = is_there leg.sending.ends f.sending.ends in
+          (t.0, t.1, record { pair = f.pair; generation = f.generation; port = f.port Rtp; family = f.family })
 
   holders_case : (p : Holder → Bool) (leg : Leg O) (those : List (Leg O))
       → map (λ (x : Leg O). x.holder) (filter (λ (x : Leg O). p x.holder) those) ≡ filter p (map (λ (x : Leg O). x.holder) those) → (t : Bool)
@@ -57,7 +60,7 @@ module _ {O : Type 0} where
   -- the legs that pass went
   passing_went : (config : Config) (old : cell.Cell O) (h own : List CellEntry) (p : Holder → Bool) (gone : List (Lease × O × O)) → CellFor config old h
       → legs (since_end h) ≡ legs (since_end own)
-      → gone ≡ map (λ (leg : Leg O). parts_of leg) (filter (λ (leg : Leg O). p leg.holder) old.legs.items) → AreLeasesOf config gone (filter p (legs (since_end own)))
+      → gone ≡ filter_map (λ (leg : Leg O). parts_of leg) (filter (λ (leg : Leg O). p leg.holder) old.legs.items) → AreLeasesOf config gone (filter p (legs (since_end own)))
   passing_went config old h own p gone for same went =
       let those : List (Leg O) = filter (λ (leg : Leg O). p leg.holder) old.legs.items in
       subst (λ (l : List Holder). AreLeasesOf config gone l)
@@ -67,7 +70,7 @@ module _ {O : Type 0} where
       (λ leg i. each_in config (since_end h) old.legs.items leg for.legs_for (filtered (λ (x : Leg O). p x.holder) old.legs.items i).0)))
 
   all_went : (config : Config) (old : cell.Cell O) (h own : List CellEntry) (gone : List (Lease × O × O)) → CellFor config old h
-      → legs (since_end h) ≡ legs (since_end own) → gone ≡ map (λ (leg : Leg O). parts_of leg) old.legs.items → AreLeasesOf config gone (legs (since_end own))
+      → legs (since_end h) ≡ legs (since_end own) → gone ≡ filter_map (λ (leg : Leg O). parts_of leg) old.legs.items → AreLeasesOf config gone (legs (since_end own))
   all_went config old h own gone for same went =
       subst (λ (l : List Holder). AreLeasesOf config gone l) (for.legs_for.holders ∙ same)
       (subst (λ (l : List (Lease × O × O)). AreLeasesOf config l (map (λ (leg : Leg O). leg.holder) old.legs.items)) (sym went)

@@ -42,7 +42,7 @@ module _ {I O : Type 0} (it : I → EndLog InCall) (ic : I → ℕ) (ot : O → 
       let k = p.holder.cell in
       let stands : Stands {I = I} config (part.Cell r.before) (history (made_by old) k r.number) =
       given_whole_cell it ic ot oc config (view old) k r.number (part.Cell r.before) are in_range.0 in_range.1 r.given all numbered (keys_once config (made_by old) orderly k r.number) in
-      let did = r.step.steps config stands.history stands.stands in record {
+      let did = r.step.steps config stands.history p.take stands.stands in record {
         number = r.number;
         at_front = λ e i place. let row = in_rows (entries old) i in
             let low = r.given.above row.row row.is_in (ap (λ (x : Entry). x.place) row.is ∙ place) in

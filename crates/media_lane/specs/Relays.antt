@@ -19,7 +19,8 @@ use Rattle.relay_core.specs.declared.part.Part.{Part}
 use Rattle.relay_core.specs.declared.part.Part.TheVariants as part
 use Rattle.relay_core.specs.Entries.{Cell}
 use Rattle.relay_core.specs.Records.{Made, nothing_left, logged_relay}
-use Rattle.relay_core.specs.Steps.{CellRelayed}
+use Rattle.relay_core.specs.Steps.{with_take, CellRelayed}
+use Rattle.call_cell.specs.Shapes.{cell_shape}
 use Rattle.media_lane.specs.declared.receipt.Receipt.{Receipt}
 use Rattle.media_lane.specs.declared.answers.Relayed.{Relayed}
 use Rattle.media_lane.specs.declared.answers.Relayed.TheVariants as answer
@@ -49,10 +50,11 @@ bytes_left (outcomes.Refused cause) = 0
 abbrev pub bytes_sent : Outcome → List ℕ → List ℕ
 bytes_sent outcome buf = take (bytes_left outcome) buf
 
--- a relay of this packet in a cell, handed this moment, after which the buffer holds these bytes
+-- a relay of this packet in a cell, whichever number its take has, handed this moment, after which the buffer holds these bytes
 abbrev pub RelaysPart : {I O : Type 0} → (O → EndLog OutCall) → (O → ℕ) → cells.Receipt → ℕ → Part I O → List ℕ → Outcome → Part I O → Type 0
 RelaysPart log faults p now (part.Cell old) buf outcome (part.Cell new) =
-    (config : Config) (h : List CellEntry) → CellFor config old h → CellRelays log faults config old new h p now buf outcome
+    (cell_shape new ≡ cell_shape old)
+    × ((config : Config) (h : List CellEntry) (take : ℕ) → CellFor config old h → CellRelays log faults config old new h (with_take take p) now buf outcome)
 RelaysPart log faults p now _ buf outcome _ = ⊥
 
 -- the bytes that a relay sent: with Sent those of its one send, else none

@@ -12,6 +12,7 @@ ghost use Rattle.relay_core.specs.Turns.{made_by};
 ghost use Rattle.relay_core.specs.FirstPlaces.{AreParts};
 ghost use Rattle.relay_core.specs.Joins.{IsSound, AreStanding};
 ghost use Rattle.relay_core.specs.RowMoments.{AreTimed};
+ghost use Rattle.relay_core.specs.Continued.{AreLeftBy, IsSoundAfter, continued};
 ghost use Rattle.relay_core.specs.EndLogs.{InOrder, InsAreTold, OutsAreTold};
 ghost use Rattle.media_ports.specs.Openings.{NoneOpened};
 ghost use Rattle.media_ports.specs.OpenPorts.{LogsHeld};
@@ -251,18 +252,18 @@ impl<P: PortMaker> Server<P> {
     /// Closes the table by the hand that has all its parts, and returns what its places hold, in order. It takes no memory.
     ///
     /// The hand's list is then that of all steps of all places. With what each relay noted, protected and sent added to its outcome
-    /// it is legal, and so safe.
+    /// it is legal, and so safe. Where the places began with what an earlier list had left, it goes on from that one: both together
+    /// are legal, and leave what the places hold now.
     pub fn close(self, hand: Hand<Relay<P::In, P::Out>>) -> Vec<Part<P::In, P::Out>>
         requires table { IsHandOf self.turns hand }
         requires all { parts hand ≡ 1024 }
         requires idle { HasNoTurn hand }
-        requires starts { AreParts self.config (starts hand) }
-        requires sound { IsSound self.config (entries hand) }
         ensures length { length result.items ≡ length (starts hand) }
-        ensures states { AreStanding self.config result.items (made_by hand) }
-        ensures legal { (l : List Entry) × (map as_logged l ≡ made_by hand) × Legal self.config l × Safe self.config l × OutsAreTold (entries hand) l }
-        ensures ins { InOrder (made_by hand) → InsAreTold self.config (entries hand) }
-        ensures timed { AreTimed (entries hand) }
+        ensures continued { (before : List Entry) → AreLeftBy self.config before (starts hand) → IsSoundAfter self.config before (entries hand) → (l : List Entry) × (map as_logged l ≡ made_by hand) × AreLeftBy self.config (continued self.config before l) result.items }
+        ensures states { AreParts self.config (starts hand) → IsSound self.config (entries hand) → AreStanding self.config result.items (made_by hand) }
+        ensures legal { AreParts self.config (starts hand) → IsSound self.config (entries hand) → (l : List Entry) × (map as_logged l ≡ made_by hand) × Legal self.config l × Safe self.config l × OutsAreTold (entries hand) l }
+        ensures ins { AreParts self.config (starts hand) → IsSound self.config (entries hand) → InOrder (made_by hand) → InsAreTold self.config (entries hand) }
+        ensures timed { AreParts self.config (starts hand) → IsSound self.config (entries hand) → AreTimed (entries hand) }
     {
         let Server { config: _, turns } = self;
         close_relay(turns, hand)

@@ -4,7 +4,7 @@ use Rattle.relay_outside.specs.declared.settings.Config.{Config}
 use Rattle.rtp_packet.specs.declared.head.Half.{Half}
 use Rattle.rtp_packet.specs.declared.head.Half.TheVariants.{Rtp, Rtcp}
 use Rattle.histories.specs.Words.{In, here, there}
-use Rattle.histories.proofs.Lists.{maps, mapped}
+use Rattle.histories.proofs.Lists.{picks, mapped}
 use Rattle.port_pool.specs.Ports.{pair_count, pair_family, pair_port, half_port}
 use Rattle.port_pool.specs.Pools.{AreFree}
 use Rattle.port_pool.specs.declared.pairs.Lease.{Lease}
@@ -12,7 +12,8 @@ use Rattle.port_pool.specs.Signals.{NewKey}
 use Rattle.offer_answer.specs.Rounds.{NewLeg}
 use Rattle.call_cell.specs.declared.leg.Leg.{Leg}
 use Rattle.call_cell.specs.declared.prepare.Prepare as prepared
-use Rattle.call_cell.specs.CellEnds.{parts_of}
+use Rattle.call_cell.specs.CellEnds.{parts_of, parts_with}
+use Rattle.call_cell.proofs.EndsThere.{is_there}
 use Rattle.call_cell.specs.LegHistories.{port_by}
 use Rattle.call_cell.specs.Preparations.{PrepareFor, parts_added}
 use Rattle.call_board.specs.Acts.{BoardEntry}
@@ -85,7 +86,10 @@ half_case config port pair is low Rtcp = omega (arith, is, low)
 module _ {I O : Type 0} (config : Config) (v : View) (pairs : List ℕ) (signal : prepared.Prepare O) (leases : List Lease) (opened : List (PairEnds I O)) (keys : List NewKey) (dropped : List ℕ)
     (is : leases ≡ leases_at config v pairs) (parts : parts_added signal ≡ leased_parts leases opened) (stands : PrepareFor signal keys dropped) where
   lease_of : (leg : Leg O) → In leg signal.legs.items → In leg.lease leases
-  lease_of leg i = part_in leases opened (parts_of leg) (subst (In (parts_of leg)) parts (maps (λ (x : Leg O). parts_of x) signal.legs.items i))
+  lease_of leg i =
+      let t = is_there leg.sending.ends (stands.fresh leg i).ends in
+      let p : Lease × O × O = (leg.lease, t.0.0, t.0.1) in
+      part_in leases opened p (subst (In p) parts (picks (λ (x : Leg O). parts_of x) signal.legs.items i (ap (parts_with leg.lease) t.1)))
 
   own : (leg : Leg O) → In leg signal.legs.items → IsOwn config leg.lease
   own leg i = own_in config v.leases pairs leg.lease (subst (In leg.lease) is (lease_of leg i))

@@ -7,7 +7,7 @@ use Rattle.relay_outside.specs.Ports.{joined}
 use Rattle.relay_outside.specs.DeviceLogs.{EndLog, IsOpenedFor}
 use Rattle.rtp_packet.specs.declared.head.Half.TheVariants.{Rtp, Rtcp}
 use Rattle.histories.specs.Words.{In, here, there}
-use Rattle.histories.proofs.Lists.{maps}
+use Rattle.histories.proofs.Lists.{picks}
 use Rattle.turn_table.specs.declared.machine.Entry as table
 use Rattle.turn_table.specs.declared.hands.Hand.{Hand}
 use Rattle.turn_table.specs.Hands.{entries}
@@ -15,7 +15,8 @@ use Rattle.port_pool.specs.declared.pairs.Lease.{Lease}
 use Rattle.port_pool.specs.declared.holder.Holder.{Holder}
 use Rattle.call_cell.specs.declared.leg.Leg.{Leg}
 use Rattle.call_cell.specs.declared.prepare.Prepare as prepared
-use Rattle.call_cell.specs.CellEnds.{parts_of}
+use Rattle.call_cell.specs.CellEnds.{parts_of, parts_with}
+use Rattle.call_cell.proofs.EndsThere.{is_there}
 use Rattle.call_cell.specs.Preparations.{PrepareFor, parts_added}
 use Rattle.port_pool.specs.Ports.{port_address}
 use Rattle.port_pool.specs.Signals.{NewKey}
@@ -51,11 +52,15 @@ module _ {I O : Type 0} (taken : I → EndLog InCall) (sent : O → EndLog OutCa
       → parts_added signal ≡ leased_parts leases opened → ends.ArePairsOpened taken sent config leases opened
       → PrepareFor signal keys dropped → AreOpened sent config signal
   legs_opened config signal keys dropped leases opened parts are for leg i =
-      let new = parts_new config leases opened are (parts_of leg) (subst (In (parts_of leg)) parts (maps (λ (l : Leg O). parts_of l) signal.legs.items i)) in
+      let t = is_there leg.sending.ends (for.fresh leg i).ends in
+      let p : Lease × O × O = (leg.lease, t.0.0, t.0.1) in
+      let new = parts_new config leases opened are p (subst (In p) parts (picks (λ (l : Leg O). parts_of l) signal.legs.items i (ap (parts_with leg.lease) t.1))) in
       let pair : leg.lease.pair ≡ leg.holder.pair = (for.fresh leg i).pair in
       record {
-        rtp = subst (λ (n : ℕ). IsOpenedFor (port_address config n Rtp) (sent leg.sending.rtp)) pair new.rtp;
-        rtcp = subst (λ (n : ℕ). IsOpenedFor (port_address config n Rtcp) (sent leg.sending.rtcp)) pair new.rtcp;
+        ends = t.0;
+        ends_are = t.1;
+        rtp = subst (λ (n : ℕ). IsOpenedFor (port_address config n Rtp) (sent t.0.0)) pair new.rtp;
+        rtcp = subst (λ (n : ℕ). IsOpenedFor (port_address config n Rtcp) (sent t.0.1)) pair new.rtcp;
       }
 
 module _ {T : Type 0} where

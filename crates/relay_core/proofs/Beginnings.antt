@@ -1,12 +1,9 @@
 -- Parts that are added one after the other.
-use Rattle.std.proofs.Common.{◌≡◌, refl, sym, ◌∙◌, ap, subst, arith, ℕ, zero, suc, ◌+◌, not, List, [], ◌∷◌, ◌++◌, length, filter, append_assoc, length-append}
-use Rattle.histories.specs.Words.{has, numbers}
+use Rattle.std.proofs.Common.{◌≡◌, refl, sym, ◌∙◌, ap, subst, arith, ℕ, suc, ◌+◌, List, [], ◌∷◌, ◌++◌, length, append_assoc, length-append}
 use Rattle.port_pool.specs.Ports.{pair_count}
 use Rattle.call_board.specs.declared.board.Board as board
 use Rattle.call_board.specs.Boards.{BoardFor}
-use Rattle.call_board.specs.Pairs.{free}
 use Rattle.relay_core.specs.declared.part.Part.TheVariants as part
-use Rattle.relay_core.proofs.Turns.{filter_every}
 use Rattle.relay_outside.specs.declared.settings.Config.{Config}
 use Rattle.relay_outside.specs.Settings.{AreFamilies}
 use Rattle.relay_core.specs.declared.part.Part.{Part}

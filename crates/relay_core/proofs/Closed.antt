@@ -79,6 +79,16 @@ in_range [] k within = absurd (omega (arith, within))
 in_range (a ∷ starts) zero within = (a, refl)
 in_range (a ∷ starts) (suc k) within = in_range starts k (omega (arith, within))
 
+-- A take that fits gave its datagram to the leg that held the box.
+pub taken_fits : (config : Config) (past : List Entry) (moment : ℕ) (v : Event) (half : Half) (leg : Holder) (source : Addr) (bytes : List ℕ)
+    → v ≡ Box (Take half (Datagram leg source bytes)) → right.FitsTold config past moment v → holder (filter_map box_event past) ≡ Some leg
+taken_fits config past moment v half leg source bytes q fits =
+    held (holder (filter_map box_event past)) refl (subst (λ (w : Event). right.FitsTold config past moment w) q fits)
+  where
+    held : (o : Option Holder) → holder (filter_map box_event past) ≡ o → FitsTaken o (Datagram leg source bytes) → holder (filter_map box_event past) ≡ Some leg
+    held None is f = absurd (let k = f in cc)
+    held (Some other) is f = is ∙ ap Some (sym f.0)
+
 module _ {T I O : Type 0} (it : I → EndLog InCall) (ic : I → ℕ) (ot : O → EndLog OutCall) (oc : O → ℕ)
     (starts : List (Part I O)) (rows : List (table.Entry Made T)) (range : InRange starts rows) (whole : AreWhole it ic ot oc starts rows) where
   -- where a row stands in the history of its place
@@ -107,15 +117,88 @@ module _ {T I O : Type 0} (it : I → EndLog InCall) (ic : I → ℕ) (ot : O �
       let r = in_rows rows i in
       subst (λ (x : Entry). length (filter (is_at x.place x.number) (list_of rows)) ≡ 1) r.is (numbered_row r.row r.is_in)
 
+  -- the history of a place, up to a number, is the list's
+  pub own_past : (k : ℕ) (a : Part I O) → (w : IsWhole it ic ot oc rows k a) → (n : ℕ) → n ≤ length w.past
+      → onto (take n w.past) [] ≡ history (list_of rows) k n
+  own_past k a w n within =
+      sym (filter_every (λ (e : Entry). true) (onto (take n w.past) []) (λ e i. refl))
+      ∙ own_history (λ (e : Entry). true) k rows w.past
+      (record { numbered = closed_numbered; named = w.is.named; own = w.is.own; all = λ i e q t. w.is.all i e q }) n within
+      ∙ filter_every (λ (e : Entry). true) (history (list_of rows) k n) (λ e i. refl)
+
+  -- followed by the row
+  pub next_own : (row : table.Entry Made T) → (p : Place row)
+      → onto (take (suc row.number) p.history_of.past) [] ≡ entry_of row ∷ history (list_of rows) row.place row.number
+  next_own row p =
+      let past = p.history_of.past in
+      let within = p.within in
+      let taken : take (suc row.number) past ≡ take row.number past ++ row ∷ []
+      = take-suc past row.number row within ∙ ap (λ (x : table.Entry Made T). take row.number past ++ x ∷ []) (get_or_from_slice_get past row.number row row p.at) in
+      ap (λ (xs : List (table.Entry Made T)). onto xs []) taken
+      ∙ onto_last (take row.number past) row []
+      ∙ ap (λ (h : List Entry). entry_of row ∷ h) (own_past row.place p.start p.history_of row.number (omega (arith, within)))
+
+  -- above all that a place has, its history is whole
+  pub own_whole : (k : ℕ) (a : Part I O) → (w : IsWhole it ic ot oc rows k a) → (n : ℕ) → IsAbove (list_of rows) k n
+      → onto w.past [] ≡ history (list_of rows) k n
+  own_whole k a w n above =
+      ap (λ (xs : List (table.Entry Made T)). onto xs []) (sym (take-length w.past))
+      ∙ own_past k a w (length w.past) (omega arith)
+      ∙ up_to k a w n (long k a w n above (length w.past) refl)
+    where
+      long : (k : ℕ) (a : Part I O) → (w : IsWhole it ic ot oc rows k a) → (n : ℕ) → IsAbove (list_of rows) k n → (m : ℕ) → length w.past ≡ m → m ≤ n
+      long k a w n above zero q = omega arith
+      long k a w n above (suc m) q =
+          let x = in_range w.past m (omega (arith, q)) in
+          let named = w.is.named m x.0 x.1 in
+          let low : x.0.number < n = above (entry_of x.0) (rows_in rows (w.is.all m x.0 x.1)) named.0 in
+          let number = named.1 in
+          omega (arith, low, number)
+
+      not_there : (k : ℕ) (a : Part I O) → (w : IsWhole it ic ot oc rows k a) → (n : ℕ) → length w.past ≤ n → (e : Entry) → In e (list_of rows)
+          → (e.place ≡ k) × (e.number ≡ n) → ⊥
+      not_there k a w n long e i at =
+          let r = in_rows rows i in
+          let has = w.is.own r.row r.is_in (ap (λ (x : Entry). x.place) r.is ∙ at.0) in
+          let low = slice_get_within w.past r.row.number r.row has in
+          let number = ap (λ (x : Entry). x.number) r.is in
+          let same = at.1 in
+          omega (arith, low, number, same, long)
+
+      nothing_at : (k : ℕ) (a : Part I O) → (w : IsWhole it ic ot oc rows k a) → (n : ℕ) → length w.past ≤ n
+          → filter (is_at k n) (list_of rows) ≡ []
+      nothing_at k a w n long =
+          filter_none (is_at k n) (list_of rows) (λ e i. false_if (is_at k n e) (λ t. not_there k a w n long e i (at_place k n e t)))
+
+      up_case : (k : ℕ) (a : Part I O) → (w : IsWhole it ic ot oc rows k a) → (n : ℕ)
+          → (length w.past ≤ n → history (list_of rows) k (length w.past) ≡ history (list_of rows) k n)
+          → (length w.past < suc n) ⊎ (length w.past ≡ suc n) → history (list_of rows) k (length w.past) ≡ history (list_of rows) k (suc n)
+      up_case k a w n rest (inl low) =
+          let within : length w.past ≤ n = omega (arith, low) in
+          rest within ∙ ap (λ (xs : List Entry). xs ++ history (list_of rows) k n) (sym (nothing_at k a w n within))
+      up_case k a w n rest (inr q) = ap (λ (m : ℕ). history (list_of rows) k m) q
+
+      up_to : (k : ℕ) (a : Part I O) → (w : IsWhole it ic ot oc rows k a) → (n : ℕ) → length w.past ≤ n
+          → history (list_of rows) k (length w.past) ≡ history (list_of rows) k n
+      up_to k a w zero low = let q : length w.past ≡ zero = omega (arith, low) in ap (λ (m : ℕ). history (list_of rows) k m) q
+      up_to k a w (suc n) low = up_case k a w n (up_to k a w n) (le_or_eq (length w.past) n low)
+
+  -- below each row no number of its place is left out
+  pub row_counted : (row : table.Entry Made T) → table_lists.IsMemberOf row rows → (i : ℕ) → i < row.number → counts.Stands (list_of rows) row.place i
+  row_counted row r i low =
+      let p = place_of row r in
+      let w = p.history_of in
+      let within = p.within in
+      let x = get_or w.past i row in
+      let at : slice_get w.past i ≡ Some x = slice_get-get_or w.past i row (omega (arith, within, low)) in
+      let named = w.is.named i x at in
+      record { entry = entry_of x; is_in = rows_in rows (w.is.all i x at); at = named.0; number_is = named.1 }
+
   module _ (config : Config) (are : AreParts config starts) (orderly : Orderly config (list_of rows)) (returned : AreReturned config rows) where
     -- the history of a place, up to a number, is the list's
     pub past_is : (k : ℕ) (a : Part I O) → (w : IsWhole it ic ot oc rows k a) → (n : ℕ) → n ≤ length w.past
         → onto (take n w.past) [] ≡ history (list_of rows) k n
-    past_is k a w n within =
-        sym (filter_every (λ (e : Entry). true) (onto (take n w.past) []) (λ e i. refl))
-        ∙ own_history (λ (e : Entry). true) k rows w.past
-        (record { numbered = orderly.numbered; named = w.is.named; own = w.is.own; all = λ i e q t. w.is.all i e q }) n within
-        ∙ filter_every (λ (e : Entry). true) (history (list_of rows) k n) (λ e i. refl)
+    past_is k a w n within = own_past k a w n within
 
     -- its keys are new
     pub new_keys : (k : ℕ) (a : Part I O) → (w : IsWhole it ic ot oc rows k a) → (n : ℕ) → n ≤ length w.past
@@ -159,14 +242,7 @@ module _ {T I O : Type 0} (it : I → EndLog InCall) (ic : I → ℕ) (ot : O �
     -- followed by the row
     pub next_is : (row : table.Entry Made T) → (p : Place row)
         → onto (take (suc row.number) p.history_of.past) [] ≡ entry_of row ∷ history (list_of rows) row.place row.number
-    next_is row p =
-        let past = p.history_of.past in
-        let within = p.within in
-        let taken : take (suc row.number) past ≡ take row.number past ++ row ∷ []
-        = take-suc past row.number row within ∙ ap (λ (x : table.Entry Made T). take row.number past ++ x ∷ []) (get_or_from_slice_get past row.number row row p.at) in
-        ap (λ (xs : List (table.Entry Made T)). onto xs []) taken
-        ∙ onto_last (take row.number past) row []
-        ∙ ap (λ (h : List Entry). entry_of row ∷ h) (past_is row.place p.start p.history_of row.number (omega (arith, within)))
+    next_is row p = next_own row p
 
     -- each row is what its place's history demands, at the moment that it was handed
     row_right : (row : table.Entry Made T) → table_lists.IsMemberOf row rows
@@ -193,17 +269,6 @@ module _ {T I O : Type 0} (it : I → EndLog InCall) (ic : I → ℕ) (ot : O �
         (gives_back config rows orderly returned row i) s.step old new
         (past_placed row.place row.number) (kind_stays it ic ot oc config row.place p.start s.old (take row.number w.past) s.before b.0)
 
-    -- below each row no number of its place is left out
-    row_counted : (row : table.Entry Made T) → table_lists.IsMemberOf row rows → (i : ℕ) → i < row.number → counts.Stands (list_of rows) row.place i
-    row_counted row r i low =
-        let p = place_of row r in
-        let w = p.history_of in
-        let within = p.within in
-        let x = get_or w.past i row in
-        let at : slice_get w.past i ≡ Some x = slice_get-get_or w.past i row (omega (arith, within, low)) in
-        let named = w.is.named i x at in
-        record { entry = entry_of x; is_in = rows_in rows (w.is.all i x at); at = named.0; number_is = named.1 }
-
     row_made : IsHanded rows → (row : table.Entry Made T) → table_lists.IsMemberOf row rows → right.Made config (list_of rows) (entry_of row)
     row_made handed row i =
         let r = row_right row i in
@@ -225,69 +290,20 @@ module _ {T I O : Type 0} (it : I → EndLog InCall) (ic : I → ℕ) (ot : O �
             handed row i t x.row x.is_in (ap (λ (y : Entry). y.place) x.is ∙ p) (ap (λ (y : Entry). y.number) x.is ∙ q)
             ∙ ap (λ (y : Entry). y.moment) x.is
 
-    taken_fits : (past : List Entry) (moment : ℕ) (v : Event) (half : Half) (leg : Holder) (source : Addr) (bytes : List ℕ)
-        → v ≡ Box (Take half (Datagram leg source bytes)) → right.FitsTold config past moment v → holder (filter_map box_event past) ≡ Some leg
-    taken_fits past moment v half leg source bytes q fits =
-        held (holder (filter_map box_event past)) refl (subst (λ (w : Event). right.FitsTold config past moment w) q fits)
-      where
-        held : (o : Option Holder) → holder (filter_map box_event past) ≡ o → FitsTaken o (Datagram leg source bytes) → holder (filter_map box_event past) ≡ Some leg
-        held None is f = absurd (let k = f in cc)
-        held (Some other) is f = is ∙ ap Some (sym f.0)
-
     -- each take is of the box's own pair
     pub closed_takes : TakesOwnPairs config (list_of rows)
     closed_takes e half leg source bytes i q =
         let r = in_rows rows i in
         let fits = (row_right r.row r.is_in).0 in
         let held : holder (box_history (list_of rows) r.row.place r.row.number) ≡ Some leg
-        = taken_fits (history (list_of rows) r.row.place r.row.number) r.row.event.moment r.row.event.event half leg source bytes
+        = taken_fits config (history (list_of rows) r.row.place r.row.number) r.row.event.moment r.row.event.event half leg source bytes
         (ap (λ (x : Entry). x.event) r.is ∙ q) fits in
         sym (ap (λ (x : Entry). x.place) r.is) ∙ (holder_leased config (list_of rows) orderly r.row.place r.row.number leg held).1
 
     -- above all that a place has, its history is whole
     pub whole_past : (k : ℕ) (a : Part I O) → (w : IsWhole it ic ot oc rows k a) → (n : ℕ) → IsAbove (list_of rows) k n
         → onto w.past [] ≡ history (list_of rows) k n
-    whole_past k a w n above =
-        ap (λ (xs : List (table.Entry Made T)). onto xs []) (sym (take-length w.past))
-        ∙ past_is k a w (length w.past) (omega arith)
-        ∙ up_to k a w n (long k a w n above (length w.past) refl)
-      where
-        long : (k : ℕ) (a : Part I O) → (w : IsWhole it ic ot oc rows k a) → (n : ℕ) → IsAbove (list_of rows) k n → (m : ℕ) → length w.past ≡ m → m ≤ n
-        long k a w n above zero q = omega arith
-        long k a w n above (suc m) q =
-            let x = in_range w.past m (omega (arith, q)) in
-            let named = w.is.named m x.0 x.1 in
-            let low : x.0.number < n = above (entry_of x.0) (rows_in rows (w.is.all m x.0 x.1)) named.0 in
-            let number = named.1 in
-            omega (arith, low, number)
-
-        not_there : (k : ℕ) (a : Part I O) → (w : IsWhole it ic ot oc rows k a) → (n : ℕ) → length w.past ≤ n → (e : Entry) → In e (list_of rows)
-            → (e.place ≡ k) × (e.number ≡ n) → ⊥
-        not_there k a w n long e i at =
-            let r = in_rows rows i in
-            let has = w.is.own r.row r.is_in (ap (λ (x : Entry). x.place) r.is ∙ at.0) in
-            let low = slice_get_within w.past r.row.number r.row has in
-            let number = ap (λ (x : Entry). x.number) r.is in
-            let same = at.1 in
-            omega (arith, low, number, same, long)
-
-        nothing_at : (k : ℕ) (a : Part I O) → (w : IsWhole it ic ot oc rows k a) → (n : ℕ) → length w.past ≤ n
-            → filter (is_at k n) (list_of rows) ≡ []
-        nothing_at k a w n long =
-            filter_none (is_at k n) (list_of rows) (λ e i. false_if (is_at k n e) (λ t. not_there k a w n long e i (at_place k n e t)))
-
-        up_case : (k : ℕ) (a : Part I O) → (w : IsWhole it ic ot oc rows k a) → (n : ℕ)
-            → (length w.past ≤ n → history (list_of rows) k (length w.past) ≡ history (list_of rows) k n)
-            → (length w.past < suc n) ⊎ (length w.past ≡ suc n) → history (list_of rows) k (length w.past) ≡ history (list_of rows) k (suc n)
-        up_case k a w n rest (inl low) =
-            let within : length w.past ≤ n = omega (arith, low) in
-            rest within ∙ ap (λ (xs : List Entry). xs ++ history (list_of rows) k n) (sym (nothing_at k a w n within))
-        up_case k a w n rest (inr q) = ap (λ (m : ℕ). history (list_of rows) k m) q
-
-        up_to : (k : ℕ) (a : Part I O) → (w : IsWhole it ic ot oc rows k a) → (n : ℕ) → length w.past ≤ n
-            → history (list_of rows) k (length w.past) ≡ history (list_of rows) k n
-        up_to k a w zero low = let q : length w.past ≡ zero = omega (arith, low) in ap (λ (m : ℕ). history (list_of rows) k m) q
-        up_to k a w (suc n) low = up_case k a w n (up_to k a w n) (le_or_eq (length w.past) n low)
+    whole_past k a w n above = own_whole k a w n above
 
     -- what a place holds in the end is what its whole history leaves
     pub closed_stands : (k : ℕ) (a : Part I O) → slice_get starts k ≡ Some a → (w : IsWhole it ic ot oc rows k a) → (n : ℕ) → IsAbove (list_of rows) k n

@@ -50,7 +50,7 @@ told_filled config l e fits =
     ap (λ (v : Event). record { place = e.place; number = e.number; moment = e.moment; board = e.board; event = v })
     (told_filled_by config l e.place e.number e.moment e.event fits)
 
-mapped_twice : {A B C : Type 0} (f : B → C) (g : A → B) (xs : List A) → map f (map g xs) ≡ map (λ (x : A). f (g x)) xs
+pub mapped_twice : {A B C : Type 0} (f : B → C) (g : A → B) (xs : List A) → map f (map g xs) ≡ map (λ (x : A). f (g x)) xs
 mapped_twice f g [] = refl
 mapped_twice {C = C} f g (x ∷ xs) = ap (λ (ys : List C). f (g x) ∷ ys) (mapped_twice f g xs)
 

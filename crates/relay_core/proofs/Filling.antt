@@ -166,7 +166,7 @@ answer_told config h r does answered =
     ∙ answer_case config h r.packet r.sent_ok (deed config h r.packet r.sent_ok).sending refl
     (subst (λ (d : Deed). IsSendAnswered d.sending r.sent_ok) does answered)
 
-refill_event : (config : Config) (h : List CellEntry) (moment : ℕ) (c : CellEvent) → CellFitsAt config h moment c → fill_cell config h (logged_cell c) ≡ c
+pub refill_event : (config : Config) (h : List CellEntry) (moment : ℕ) (c : CellEvent) → CellFitsAt config h moment c → fill_cell config h (logged_cell c) ≡ c
 refill_event config h moment (Prepare call legs keys dropped) fits = refl
 refill_event config h moment (Commit signal) fits = refl
 refill_event config h moment (Relay r) fits =

@@ -12,8 +12,8 @@ use Rattle.rtp_packet.specs.declared.head.Half.TheVariants.{Rtp, Rtcp}
 use Rattle.turn_table.specs.declared.machine.Entry as table
 use Rattle.turn_table.specs.Histories.{Leaves}
 use Rattle.histories.specs.Words.{In, here, there, has}
-use Rattle.histories.proofs.Lists.{in_append, filtered}
-use Rattle.port_pool.specs.Ports.{AreOfPair, port_address, rtcp_address}
+use Rattle.histories.proofs.Lists.{in_append, filtered, picked}
+use Rattle.port_pool.specs.Ports.{AreOfPair, port_address}
 use Rattle.port_pool.specs.declared.pairs.Lease.{Lease}
 use Rattle.port_pool.specs.declared.holder.Holder.{Holder}
 use Rattle.port_pool.specs.declared.signal.SectionSignal.{SectionSignal}
@@ -25,43 +25,49 @@ use Rattle.call_cell.specs.declared.cell.Cell as cell
 use Rattle.call_cell.specs.declared.outcome.Outcome.{Outcome}
 use Rattle.call_cell.specs.Cells.{CellEvent, CellEntry, Sending, Receipt, Prepare, Commit, Relay, Expire, Read, End, keys_of, legs, since_end}
 use Rattle.call_cell.specs.Deeds.{deed, found, opposite_of, is_leaving}
-use Rattle.call_cell.specs.Parts.{SendsBy}
+use Rattle.call_cell.specs.Parts.{SendsBy, end_of, other_half}
 use Rattle.call_cell.specs.LegHistories.{EndsFor, LegsStandFor, sent_ok}
 use Rattle.call_cell.specs.CellHistories.{CellFor, CellRelays}
 use Rattle.call_cell.specs.Preparations.{added, CellPrepares}
 use Rattle.call_cell.specs.Commits.{stays_by, CellCommits}
 use Rattle.call_cell.specs.CellEnds.{parts_of}
+use Rattle.call_cell.proofs.EndsThere.{same_ends, parts_have}
 use Rattle.call_cell.proofs.Few.{in_at, each_in}
 use Rattle.relay_core.specs.declared.part.Part.{Part}
 use Rattle.relay_core.specs.declared.part.Part.TheVariants as part
 use Rattle.relay_core.specs.Entries.{Event, Board, Cell, Box, Entry, cell_at, cell_entry}
 use Rattle.relay_core.specs.Records.{Made, entry_of}
 use Rattle.relay_core.specs.Steps.{AreOpened, AreNew, CellStepsBy, CellSteps, Relates}
-use Rattle.relay_core.specs.PlaceHistories.{BringsNewKeys, CellStands, Stands, IsCellPart, IsBoardPart, LegsHome, GoneHome, CellHome}
+use Rattle.relay_core.specs.PlaceHistories.{BringsNewKeys, CellStands, Stands, IsCellPart, IsBoardPart, AreHome, LegsHome, GoneHome, CellHome}
 use Rattle.relay_core.proofs.OutsTold.{partner, filter_mapped, nothing_in, holder_of, legs_relayed}
 use Rattle.relay_core.proofs.Stays.{onto, Steps, brings_onto, stands_onto, cell_stays, new_recorded}
 
 module _ {O : Type 0} (log : O → EndLog OutCall) (faults : O → ℕ) where
   -- the leg has the out ends of its pair
   abbrev IsHome : Config → Leg O → Type 0
-  IsHome config leg = AreOfPair log (port_address config leg.holder.pair Rtp) leg.sending.rtp leg.sending.rtcp
+  IsHome config leg = AreHome log (port_address config leg.holder.pair Rtp) leg.sending.ends
 
   -- A relay.
 
   -- by what a relay does to the out ends of a leg, they are of the same ports
-  sent_home : (half : Half) (to : Addr) (bytes : List ℕ) (ok : Bool) (at : Addr) (old new : parts.Sending O) → SendsBy log faults half to bytes ok old new
-      → AreOfPair log at old.rtp old.rtcp → AreOfPair log at new.rtp new.rtcp
-  sent_home Rtp to bytes ok at old new s home =
-      record { rtp_at = s.gains.same ∙ home.rtp_at; rtcp_at = ap (λ (e : O). (log e).at) s.other ∙ home.rtcp_at }
-  sent_home Rtcp to bytes ok at old new s home =
-      record { rtp_at = ap (λ (e : O). (log e).at) s.other ∙ home.rtp_at; rtcp_at = s.gains.same ∙ home.rtcp_at }
+  pair_home : (half : Half) (at : Addr) (before after : O × O) → (log (end_of half after)).at ≡ (log (end_of half before)).at
+      → end_of (other_half half) after ≡ end_of (other_half half) before → AreOfPair log at before.0 before.1 → AreOfPair log at after.0 after.1
+  pair_home Rtp at before after same other home =
+      record { rtp_at = same ∙ home.rtp_at; rtcp_at = ap (λ (e : O). (log e).at) other ∙ home.rtcp_at }
+  pair_home Rtcp at before after same other home =
+      record { rtp_at = ap (λ (e : O). (log e).at) other ∙ home.rtp_at; rtcp_at = same ∙ home.rtcp_at }
 
-  kept_home : (at : Addr) (old new : parts.Sending O) → (new.rtp ≡ old.rtp) × (new.rtcp ≡ old.rtcp) → AreOfPair log at old.rtp old.rtcp → AreOfPair log at new.rtp new.rtcp
-  kept_home at old new same home =
-      record { rtp_at = ap (λ (e : O). (log e).at) same.0 ∙ home.rtp_at; rtcp_at = ap (λ (e : O). (log e).at) same.1 ∙ home.rtcp_at }
+  sent_home : (half : Half) (to : Addr) (bytes : List ℕ) (ok : Bool) (at : Addr) (old new : parts.Sending O) → SendsBy log faults half to bytes ok old new
+      → AreHome log at old.ends → AreHome log at new.ends
+  sent_home half to bytes ok at old new s home =
+      subst (λ (o : Option (O × O)). AreHome log at o) (sym s.has)
+      (pair_home half at s.before s.after s.gains.same s.other (subst (λ (o : Option (O × O)). AreHome log at o) s.had home))
+
+  kept_home : (at : Addr) (old new : parts.Sending O) → new.ends ≡ old.ends → AreHome log at old.ends → AreHome log at new.ends
+  kept_home at old new same home = subst (λ (o : Option (O × O)). AreHome log at o) (sym same) home
 
   ends_home : (leaves : Bool) (sending : Option Sending) (ok : Bool) (at : Addr) (old new : parts.Sending O) → EndsFor log faults leaves sending ok old new
-      → AreOfPair log at old.rtp old.rtcp → AreOfPair log at new.rtp new.rtcp
+      → AreHome log at old.ends → AreHome log at new.ends
   ends_home true None ok at old new e home = kept_home at old new e home
   ends_home false None ok at old new e home = kept_home at old new e home
   ends_home false (Some w) ok at old new e home = kept_home at old new e home
@@ -90,20 +96,19 @@ module _ {O : Type 0} (log : O → EndLog OutCall) (faults : O → ℕ) where
       ∙ get_or-map holder_of old.legs.items a.at leg leg.holder was in
       let d = deed config (since_end h) p (sent_ok result) in
       let y : Leg O = get_or new.legs.items a.at leg in
-      let home : AreOfPair log (port_address config x.holder.pair Rtp) y.sending.rtp y.sending.rtcp
+      let home : AreHome log (port_address config x.holder.pair Rtp) y.sending.ends
       = ends_home (is_leaving (opposite_of (since_end h) (found (since_end h) p)) x.holder) d.sending (sent_ok result) (port_address config x.holder.pair Rtp)
       x.sending y.sending (relays.ends a.at leg was) (before x (at_in_legs old.legs.items a.at leg was)) in
-      subst (λ (l : Leg O). AreOfPair log (port_address config leg.holder.pair Rtp) l.sending.rtp l.sending.rtcp) (a.is leg)
-      (subst (λ (k : Holder). AreOfPair log (port_address config k.pair Rtp) y.sending.rtp y.sending.rtcp) (sym holder) home)
+      subst (λ (l : Leg O). AreHome log (port_address config leg.holder.pair Rtp) l.sending.ends) (a.is leg)
+      (subst (λ (k : Holder). AreHome log (port_address config k.pair Rtp) y.sending.ends) (sym holder) home)
 
   -- Legs that stay, and legs that go.
 
   -- a leg that is a form of one that has the out ends of its pair
   form_home : (config : Config) (leg other : Leg O) → leg.holder ≡ other.holder → parts_of leg ≡ parts_of other → IsHome config other → IsHome config leg
-  form_home config leg other holder parts home = record {
-    rtp_at = ap (λ (p : Lease × O × O). (log p.1).at) parts ∙ home.rtp_at ∙ ap (λ (k : Holder). port_address config k.pair Rtp) (sym holder);
-    rtcp_at = ap (λ (p : Lease × O × O). (log p.2).at) parts ∙ home.rtcp_at ∙ ap (λ (k : Holder). rtcp_address (port_address config k.pair Rtp)) (sym holder);
-  }
+  form_home config leg other holder parts home =
+      subst (λ (k : Holder). AreHome log (port_address config k.pair Rtp) leg.sending.ends) (sym holder)
+      (subst (λ (o : Option (O × O)). AreHome log (port_address config other.holder.pair Rtp) o) (sym (same_ends leg other parts)) home)
 
   commit_home : (config : Config) (old new : cell.Cell O) (h : List CellEntry) (signal : List SectionSignal) (now : ℕ) (gone : List (Lease × O × O)) → CellFor config old h
       → CellCommits config old new h signal now gone → LegsHome log config old.legs.items → LegsHome log config new.legs.items
@@ -136,8 +141,9 @@ module _ {O : Type 0} (log : O → EndLog OutCall) (faults : O → ℕ) where
       either other (inl j) = before other (filtered (λ (l : Leg O). not (has dropped l.holder.section)) old.legs.items j).0
       either other (inr j) =
           let o = opened other j in
-          subst (λ (c : Config). AreOfPair log (port_address c other.holder.pair Rtp) other.sending.rtp other.sending.rtcp) for.config_is
-          (record { rtp_at = o.rtp.at_is; rtcp_at = o.rtcp.at_is })
+          subst (λ (c : Config). AreHome log (port_address c other.holder.pair Rtp) other.sending.ends) for.config_is
+          (subst (λ (e : Option (O × O)). AreHome log (port_address old.config other.holder.pair Rtp) e) (sym o.ends_are)
+          (record { rtp_at = o.rtp.at_is; rtcp_at = o.rtcp.at_is }))
 
   pub no_legs_home : (config : Config) (new : cell.Cell O) → LegsStandFor config [] new.legs.items → LegsHome log config new.legs.items
   no_legs_home config new for leg i =
@@ -146,19 +152,20 @@ module _ {O : Type 0} (log : O → EndLog OutCall) (faults : O → ℕ) where
 
   -- what goes has the out ends of the pairs that are leased
   pub gone_home : (config : Config) (cell : cell.Cell O) (h : List CellEntry) (those : List (Leg O)) (gone : List (Lease × O × O)) → CellFor config cell h
-      → LegsHome log config cell.legs.items → ((leg : Leg O) → In leg those → In leg cell.legs.items) → gone ≡ map (λ (leg : Leg O). parts_of leg) those
+      → LegsHome log config cell.legs.items → ((leg : Leg O) → In leg those → In leg cell.legs.items) → gone ≡ filter_map (λ (leg : Leg O). parts_of leg) those
       → GoneHome log config gone
   gone_home config cell h those gone for home within went =
       subst (λ (g : List (Lease × O × O)). GoneHome log config g) (sym went)
       (each those (λ leg i. home leg (within leg i)) (λ leg i. (each_in config (since_end h) cell.legs.items leg for.legs_for (within leg i)).pair))
     where
       each : (those : List (Leg O)) → LegsHome log config those → ((leg : Leg O) → In leg those → leg.lease.pair ≡ leg.holder.pair)
-          → GoneHome log config (map (λ (leg : Leg O). parts_of leg) those)
-      each [] home pair went i = absurd (elim i [ ])
-      each (leg ∷ those) home pair went (here e) =
-          subst (λ (w : Lease × O × O). AreOfPair log (port_address config w.0.pair Rtp) w.1 w.2) (sym e)
-          (subst (λ (n : ℕ). AreOfPair log (port_address config n Rtp) leg.sending.rtp leg.sending.rtcp) (sym (pair leg (here refl))) (home leg (here refl)))
-      each (leg ∷ those) home pair went (there i) = each those (λ l j. home l (there j)) (λ l j. pair l (there j)) went i
+          → GoneHome log config (filter_map (λ (leg : Leg O). parts_of leg) those)
+      each those home pair went i =
+          let m = picked (λ (leg : Leg O). parts_of leg) those i in
+          let have = parts_have m.from.lease m.from.sending.ends went m.makes in
+          subst (λ (o : Option (O × O)). AreHome log (port_address config went.0.pair Rtp) o) have.0
+          (subst (λ (n : ℕ). AreHome log (port_address config n Rtp) m.from.sending.ends)
+          (sym (pair m.from m.is_in) ∙ ap (λ (l : Lease). l.pair) have.1) (home m.from m.is_in))
 
   -- Any event of a cell.
 
@@ -169,9 +176,9 @@ module _ {O : Type 0} (log : O → EndLog OutCall) (faults : O → ℕ) where
   cell_home_by config old new made (Commit signal) h fresh step for before =
       commit_home config old new h signal made.handed step.gone for (step.steps config h for).1 before
   cell_home_by config old new made (Relay x) h fresh step for before =
-      relay_home config old new h x.packet made.handed step.buffer x.deed.outcome for (step.steps config h for).1 before
+      relay_home config old new h x.packet made.handed step.buffer x.deed.outcome for (step.steps config h x.packet.take for).1 before
   cell_home_by config old new made (Expire due) h fresh step for before =
-      λ leg i. before leg (subst (λ (c : cell.Cell O). In leg c.legs.items) (step config h for).1.rest i)
+      λ leg i. before leg (subst (λ (c : cell.Cell O). In leg c.legs.items) (step.steps config h for).1.rest i)
   cell_home_by config old new made (Read reports) h fresh step for before = subst (λ (c : cell.Cell O). LegsHome log config c.legs.items) (sym step.same) before
   cell_home_by config old new made End h fresh step for before =
       no_legs_home config new (step.steps config h for).1.stands.legs_for

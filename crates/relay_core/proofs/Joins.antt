@@ -110,7 +110,7 @@ row_append (z ∷ xs) ys (table_lists.here q) = inl (table_lists.here q)
 row_append (z ∷ xs) ys (table_lists.there i) =
     elim (row_append xs ys i) [ inl j ↦ inl (table_lists.there j) | inr j ↦ inr j ]
 
-lane_handed : (v : Event) → IsOfLane v → is_handed_boards v ≡ false
+pub lane_handed : (v : Event) → IsOfLane v → is_handed_boards v ≡ false
 lane_handed (Board b) h = absurd h
 lane_handed (Cell (Prepare call legs keys dropped)) h = absurd h
 lane_handed (Cell (Commit signal)) h = absurd h
@@ -155,7 +155,7 @@ module _ {T : Type 0} where
   handed_joined config rows others o lanes numbered handed row i t b j p q =
       handed_case config rows others o lanes numbered handed row t b p q (row_append rows others i) (row_append rows others j)
 
-  lane_entries : (others : List (table.Entry Made T)) → AreOfLane others → (e : Entry) → In e (list_of others) → IsOfLane e.event
+  pub lane_entries : (others : List (table.Entry Made T)) → AreOfLane others → (e : Entry) → In e (list_of others) → IsOfLane e.event
   lane_entries [] lanes e i = elim i [ ]
   lane_entries (r ∷ others) lanes e (here q) = subst (λ (x : Entry). IsOfLane x.event) (sym q) (lanes r (table_lists.here refl))
   lane_entries (r ∷ others) lanes e (there i) = lane_entries others (λ row j. lanes row (table_lists.there j)) e i

@@ -57,6 +57,14 @@ pub mod OutsTold
 pub mod Homes
 pub mod GivenHomes
 pub mod Closed
+pub mod Logged
+pub mod Numbers
+pub mod Later
+pub mod LaterSteps
+pub mod Earlier
+pub mod Continuing
+pub mod Firsts
+pub mod LaterJoins
 pub mod Whole
 pub mod Closings
 pub mod Partings

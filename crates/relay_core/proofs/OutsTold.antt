@@ -1,6 +1,7 @@
 -- What the out ends of legs told when the legs went from their cells is what the histories of these cells say that they sent.
 use Rattle.std.proofs.Common.{◌≡◌, ◌∙◌, sym, ap, subst, refl, ℕ, zero, suc, ◌<◌, ◌⊎◌, inl, inr, List, [], ◌∷◌, ◌++◌, Bool, true, false, cond, not, Option, Some, None, map, length, filter, arith, get_or, append-nil}
-use Rattle.std.specs.List.{AllZip, list_any}
+use Rattle.std.specs.Prelude.{IsSome}
+use Rattle.std.specs.List.{AllZip, list_any, cons_option, filter_map}
 use Rattle.std.proofs.lemmas.List.{get_or-map, map-append, length-map}
 use Rattle.call_cell.specs.Cells.{keys_of}
 use Rattle.call_cell.proofs.Placing.{same_itself}
@@ -9,7 +10,7 @@ use Rattle.relay_outside.specs.declared.ports.OutCall.{OutCall}
 use Rattle.relay_outside.specs.declared.ports.OutCall.TheVariants as out
 use Rattle.relay_outside.specs.declared.address.Addr.{Addr}
 use Rattle.relay_outside.specs.declared.settings.Config.{Config}
-use Rattle.relay_outside.specs.DeviceLogs.{EndLog, StartsEmpty, WhereLogged}
+use Rattle.relay_outside.specs.DeviceLogs.{EndLog, EndGains, StartsEmpty, WhereLogged}
 use Rattle.rtp_packet.specs.declared.head.Half.{Half}
 use Rattle.rtp_packet.specs.declared.head.Half.TheVariants.{Rtp, Rtcp}
 use Rattle.srtp_sources.specs.Notes.{is_half}
@@ -26,12 +27,13 @@ use Rattle.call_cell.specs.declared.cell.Cell as cell
 use Rattle.call_cell.specs.declared.outcome.Outcome.{Outcome}
 use Rattle.call_cell.specs.Cells.{CellEvent, CellEntry, Sending, Receipt, Relayed, Prepare, Commit, Relay, Expire, Read, End, legs, since_end}
 use Rattle.call_cell.specs.Deeds.{deed, found, opposite_of, is_leaving}
-use Rattle.call_cell.specs.Parts.{ends_of, SendsBy}
+use Rattle.call_cell.specs.Parts.{end_of, other_half, SendsBy}
 use Rattle.call_cell.specs.LegHistories.{EndsFor, LegsStandFor, sent_ok}
 use Rattle.call_cell.specs.CellHistories.{CellFor, CellRelays, relayed_at}
 use Rattle.call_cell.specs.Preparations.{added, CellPrepares}
 use Rattle.call_cell.specs.Commits.{stays_by, CellCommits}
-use Rattle.call_cell.specs.CellEnds.{parts_of}
+use Rattle.call_cell.specs.CellEnds.{parts_of, parts_with}
+use Rattle.call_cell.proofs.EndsThere.{is_there, same_ends}
 use Rattle.call_cell.proofs.Few.{in_at, pairs_of, each_in}
 use Rattle.relay_core.specs.Records.{LegLeft}
 use Rattle.relay_core.specs.Steps.{legs_left, IsOpened, AreOpened}
@@ -136,33 +138,45 @@ module _ {O : Type 0} where
       (subst (λ (x : Holder). same_leg (get_or (map holder_of those) i d) x ≡ true) (get_or-map holder_of those j leg d b) same))
 
 module _ {O : Type 0} (log : O → EndLog OutCall) (faults : O → ℕ) where
+  -- what the end of a half logged, where there are ends
+  abbrev pub calls_by : Half → Option (O × O) → Option (List OutCall)
+  calls_by half None = None
+  calls_by half (Some ends) = (log (end_of half ends)).calls
+
   -- each leg's out ends told what was sent by them since the leg was added
   abbrev pub AreTold : List (Leg O) → List CellEntry → Type 0
-  AreTold those h = (leg : Leg O) → In leg those → (half : Half) → WhereLogged (log (ends_of half leg.sending)).calls (λ calls. calls ≡ sends_since leg.holder half h)
+  AreTold those h = (leg : Leg O) → In leg those → (half : Half) → WhereLogged (calls_by half leg.sending.ends) (λ calls. calls ≡ sends_since leg.holder half h)
 
   -- the leg that another is a form of has the same out ends
-  pub end_told : (leg other : Leg O) → parts_of leg ≡ parts_of other → (half : Half) → log (ends_of half leg.sending) ≡ log (ends_of half other.sending)
-  end_told leg other q Rtp = ap (λ (p : Lease × O × O). log p.1) q
-  end_told leg other q Rtcp = ap (λ (p : Lease × O × O). log p.2) q
+  pub end_told : (leg other : Leg O) → parts_of leg ≡ parts_of other → (half : Half) → calls_by half leg.sending.ends ≡ calls_by half other.sending.ends
+  end_told leg other q half = ap (calls_by half) (same_ends leg other q)
 
   abbrev calls_of : O → Option (List OutCall)
   calls_of end = (log end).calls
 
   -- A relay.
 
-  sends_grew : (half other : Half) (to : Addr) (bytes : List ℕ) (ok : Bool) (old new : parts.Sending O) → SendsBy log faults other to bytes ok old new
-      → Grew (log (ends_of half old)).calls (log (ends_of half new)).calls (cond (is_half half other) (Some (out.Send to bytes ok)) None)
-  sends_grew Rtp Rtp to bytes ok old new s = gains_grew (log old.rtp).calls (log new.rtp).calls (out.Send to bytes ok) s.gains.gains
-  sends_grew Rtp Rtcp to bytes ok old new s = same_grew (log old.rtp).calls (log new.rtp).calls (ap calls_of s.other)
-  sends_grew Rtcp Rtp to bytes ok old new s = same_grew (log old.rtcp).calls (log new.rtcp).calls (ap calls_of s.other)
-  sends_grew Rtcp Rtcp to bytes ok old new s = gains_grew (log old.rtcp).calls (log new.rtcp).calls (out.Send to bytes ok) s.gains.gains
+  pair_grew : (half other : Half) (to : Addr) (bytes : List ℕ) (ok : Bool) (before after : O × O) → EndGains (log (end_of other before)) (log (end_of other after)) (out.Send to bytes ok)
+      → end_of (other_half other) after ≡ end_of (other_half other) before
+      → Grew (log (end_of half before)).calls (log (end_of half after)).calls (cond (is_half half other) (Some (out.Send to bytes ok)) None)
+  pair_grew Rtp Rtp to bytes ok before after gains same = gains_grew (log before.0).calls (log after.0).calls (out.Send to bytes ok) gains.gains
+  pair_grew Rtp Rtcp to bytes ok before after gains same = same_grew (log before.0).calls (log after.0).calls (ap calls_of same)
+  pair_grew Rtcp Rtp to bytes ok before after gains same = same_grew (log before.1).calls (log after.1).calls (ap calls_of same)
+  pair_grew Rtcp Rtcp to bytes ok before after gains same = gains_grew (log before.1).calls (log after.1).calls (out.Send to bytes ok) gains.gains
 
-  kept_grew : (half : Half) (old new : parts.Sending O) → (new.rtp ≡ old.rtp) × (new.rtcp ≡ old.rtcp) → Grew (log (ends_of half old)).calls (log (ends_of half new)).calls None
-  kept_grew Rtp old new same = same_grew (log old.rtp).calls (log new.rtp).calls (ap calls_of same.0)
-  kept_grew Rtcp old new same = same_grew (log old.rtcp).calls (log new.rtcp).calls (ap calls_of same.1)
+  sends_grew : (half other : Half) (to : Addr) (bytes : List ℕ) (ok : Bool) (old new : parts.Sending O) → SendsBy log faults other to bytes ok old new
+      → Grew (calls_by half old.ends) (calls_by half new.ends) (cond (is_half half other) (Some (out.Send to bytes ok)) None)
+  sends_grew half other to bytes ok old new s =
+      let call : Option OutCall = cond (is_half half other) (Some (out.Send to bytes ok)) None in
+      subst (λ (o : Option (O × O)). Grew (calls_by half o) (calls_by half new.ends) call) (sym s.had)
+      (subst (λ (o : Option (O × O)). Grew (calls_by half (Some s.before)) (calls_by half o) call) (sym s.has)
+      (pair_grew half other to bytes ok s.before s.after s.gains s.other))
+
+  kept_grew : (half : Half) (old new : parts.Sending O) → new.ends ≡ old.ends → Grew (calls_by half old.ends) (calls_by half new.ends) None
+  kept_grew half old new same = same_grew (calls_by half old.ends) (calls_by half new.ends) (ap (calls_by half) same)
 
   ends_grew : (half : Half) (leaves : Bool) (sending : Option Sending) (ok : Bool) (old new : parts.Sending O) → EndsFor log faults leaves sending ok old new
-      → Grew (log (ends_of half old)).calls (log (ends_of half new)).calls (cond leaves (out_call_of half ok sending) None)
+      → Grew (calls_by half old.ends) (calls_by half new.ends) (cond leaves (out_call_of half ok sending) None)
   ends_grew half true None ok old new e = kept_grew half old new e
   ends_grew half false None ok old new e = kept_grew half old new e
   ends_grew half false (Some w) ok old new e = kept_grew half old new e
@@ -196,9 +210,9 @@ module _ {O : Type 0} (log : O → EndLog OutCall) (faults : O → ℕ) where
       let d = deed config (since_end h) p (sent_ok result) in
       let grew = ends_grew half (is_leaving (opposite_of (since_end h) (found (since_end h) p)) x.holder) d.sending (sent_ok result) x.sending
       (get_or new.legs.items a.at leg).sending (relays.ends a.at leg was) in
-      subst (λ (l : Leg O). WhereLogged (log (ends_of half l.sending)).calls (λ calls. calls ≡ sends_since leg.holder half (relayed_at config h p now result ∷ since_end h))) (a.is leg)
-      (subst (λ (k : Holder). WhereLogged (log (ends_of half (get_or new.legs.items a.at leg).sending)).calls (λ calls. calls ≡ sends_since k half (relayed_at config h p now result ∷ since_end h))) (sym holder)
-      (grew_told (log (ends_of half x.sending)).calls (log (ends_of half (get_or new.legs.items a.at leg).sending)).calls
+      subst (λ (l : Leg O). WhereLogged (calls_by half l.sending.ends) (λ calls. calls ≡ sends_since leg.holder half (relayed_at config h p now result ∷ since_end h))) (a.is leg)
+      (subst (λ (k : Holder). WhereLogged (calls_by half (get_or new.legs.items a.at leg).sending.ends) (λ calls. calls ≡ sends_since k half (relayed_at config h p now result ∷ since_end h))) (sym holder)
+      (grew_told (calls_by half x.sending.ends) (calls_by half (get_or new.legs.items a.at leg).sending.ends)
       (cond (is_leaving (opposite_of (since_end h) (found (since_end h) p)) x.holder) (out_call_of half (sent_ok result) d.sending) None)
       (sends_since x.holder half (since_end h)) (before x (at_in_legs old.legs.items a.at leg was) half) grew))
     where
@@ -211,40 +225,49 @@ module _ {O : Type 0} (log : O → EndLog OutCall) (faults : O → ℕ) where
 
   -- a leg that is a form of one that was told, after an event that adds and sends nothing for it
   stays_told : (leg other : Leg O) (half : Half) (h : List CellEntry) (all : List OutCall) → leg.holder ≡ other.holder → parts_of leg ≡ parts_of other
-      → WhereLogged (log (ends_of half other.sending)).calls (λ calls. calls ≡ sends_since other.holder half h) → all ≡ sends_since leg.holder half h
-      → WhereLogged (log (ends_of half leg.sending)).calls (λ calls. calls ≡ all)
+      → WhereLogged (calls_by half other.sending.ends) (λ calls. calls ≡ sends_since other.holder half h) → all ≡ sends_since leg.holder half h
+      → WhereLogged (calls_by half leg.sending.ends) (λ calls. calls ≡ all)
   stays_told leg other half h all holder parts those is =
-      subst (λ (o : Option (List OutCall)). WhereLogged o (λ calls. calls ≡ all)) (sym (ap (λ (t : EndLog OutCall). t.calls) (end_told leg other parts half)))
-      (subst (λ (cs : List OutCall). WhereLogged (log (ends_of half other.sending)).calls (λ calls. calls ≡ cs)) (ap (λ (k : Holder). sends_since k half h) (sym holder) ∙ sym is) those)
+      subst (λ (o : Option (List OutCall)). WhereLogged o (λ calls. calls ≡ all)) (sym (end_told leg other parts half))
+      (subst (λ (cs : List OutCall). WhereLogged (calls_by half other.sending.ends) (λ calls. calls ≡ cs)) (ap (λ (k : Holder). sends_since k half h) (sym holder) ∙ sym is) those)
 
-  went_told : (config : Config) (h : List CellEntry) (those : List (Leg O)) → ((leg : Leg O) → In leg those → (leg.lease.pair ≡ leg.holder.pair) × (leg.lease.generation ≡ leg.holder.generation))
-      → AreTold those h → AllZip (HasLogged h) (legs_left log (map (λ (leg : Leg O). parts_of leg) those)) (map holder_of those)
-  went_told config h [] leases those = tt
-  went_told config h (leg ∷ more) leases those = (
-    record {
-      pair = (leases leg (here refl)).0;
-      generation = (leases leg (here refl)).1;
-      sends = λ half. each half (those leg (here refl) half);
-    },
-    went_told config h more (λ l i. leases l (there i)) (λ l i. those l (there i)),
-  )
+  -- the leg has the lease of its holder, and its ends
+  pub record HasParts (leg : Leg O) : Type 0 where
+    pub pair : leg.lease.pair ≡ leg.holder.pair
+    pub generation : leg.lease.generation ≡ leg.holder.generation
+    pub ends : IsSome leg.sending.ends
+
+  went_told : (config : Config) (h : List CellEntry) (those : List (Leg O)) → ((leg : Leg O) → In leg those → HasParts leg)
+      → AreTold those h → AllZip (HasLogged h) (legs_left log (filter_map (λ (leg : Leg O). parts_of leg) those)) (map holder_of those)
+  went_told config h [] have those = tt
+  went_told config h (leg ∷ more) have those =
+      let has = have leg (here refl) in
+      let t = is_there leg.sending.ends has.ends in
+      subst (λ (o : Option (O × O)). AllZip (HasLogged h) (legs_left log (cons_option (parts_with leg.lease o) (filter_map (λ (l : Leg O). parts_of l) more))) (leg.holder ∷ map holder_of more)) (sym t.1) (
+        record {
+          pair = has.pair;
+          generation = has.generation;
+          sends = λ half. each half t.0 (subst (λ (o : Option (O × O)). WhereLogged (calls_by half o) (λ calls. calls ≡ sends_since leg.holder half h)) t.1 (those leg (here refl) half));
+        },
+        went_told config h more (λ l i. have l (there i)) (λ l i. those l (there i)),
+      )
     where
-      each : (half : Half) → WhereLogged (log (ends_of half leg.sending)).calls (λ calls. calls ≡ sends_since leg.holder half h)
-          → WhereLogged (out_left half (record { lease = leg.lease; rtp = (log leg.sending.rtp).calls; rtcp = (log leg.sending.rtcp).calls })) (λ calls. calls ≡ sends_since leg.holder half h)
-      each Rtp t = t
-      each Rtcp t = t
+      each : (half : Half) (ends : O × O) → WhereLogged (log (end_of half ends)).calls (λ calls. calls ≡ sends_since leg.holder half h)
+          → WhereLogged (out_left half (record { lease = leg.lease; rtp = (log ends.0).calls; rtcp = (log ends.1).calls })) (λ calls. calls ≡ sends_since leg.holder half h)
+      each Rtp ends t = t
+      each Rtcp ends t = t
 
   -- those that pass, of the legs of a cell
   gone_told : (config : Config) (cell : cell.Cell O) (h : List CellEntry) (p : Holder → Bool) (gone : List (Lease × O × O)) (left : List LegLeft) → CellFor config cell h
-      → AreTold cell.legs.items (since_end h) → gone ≡ map (λ (leg : Leg O). parts_of leg) (filter (λ (leg : Leg O). p leg.holder) cell.legs.items) → left ≡ legs_left log gone
+      → AreTold cell.legs.items (since_end h) → gone ≡ filter_map (λ (leg : Leg O). parts_of leg) (filter (λ (leg : Leg O). p leg.holder) cell.legs.items) → left ≡ legs_left log gone
       → AllZip (HasLogged (since_end h)) left (filter p (legs (since_end h)))
   gone_told config cell h p gone left for those went is =
       let going : List (Leg O) = filter (λ (leg : Leg O). p leg.holder) cell.legs.items in
       subst (λ (ls : List LegLeft). AllZip (HasLogged (since_end h)) ls (filter p (legs (since_end h)))) (sym (is ∙ ap (legs_left log) went))
-      (subst (λ (hs : List Holder). AllZip (HasLogged (since_end h)) (legs_left log (map (λ (leg : Leg O). parts_of leg) going)) hs)
+      (subst (λ (hs : List Holder). AllZip (HasLogged (since_end h)) (legs_left log (filter_map (λ (leg : Leg O). parts_of leg) going)) hs)
       (sym (filter_mapped p holder_of cell.legs.items) ∙ ap (filter p) for.legs_for.holders)
       (went_told config (since_end h) going
-      (λ leg i. let f = each_in config (since_end h) cell.legs.items leg for.legs_for (filtered (λ (l : Leg O). p l.holder) cell.legs.items i).0 in (f.pair, f.generation))
+      (λ leg i. let f = each_in config (since_end h) cell.legs.items leg for.legs_for (filtered (λ (l : Leg O). p l.holder) cell.legs.items i).0 in record { pair = f.pair; generation = f.generation; ends = f.sending.ends })
       (λ leg i half. those leg (filtered (λ (l : Leg O). p l.holder) cell.legs.items i).0 half)))
 
   -- An answer.
@@ -264,9 +287,9 @@ module _ {O : Type 0} (log : O → EndLog OutCall) (faults : O → ℕ) where
 
   -- An offer.
 
-  fresh : (half : Half) (config : Config) (leg : Leg O) → IsOpened log config leg → StartsEmpty (log (ends_of half leg.sending)).calls
-  fresh Rtp config leg u = u.rtp.uncalled
-  fresh Rtcp config leg u = u.rtcp.uncalled
+  fresh : (half : Half) (config : Config) (leg : Leg O) → IsOpened log config leg → StartsEmpty (calls_by half leg.sending.ends)
+  fresh Rtp config leg u = subst (λ (o : Option (O × O)). StartsEmpty (calls_by Rtp o)) (sym u.ends_are) u.rtp.uncalled
+  fresh Rtcp config leg u = subst (λ (o : Option (O × O)). StartsEmpty (calls_by Rtcp o)) (sym u.ends_are) u.rtcp.uncalled
 
   prepare_told : (config : Config) (old new : cell.Cell O) (h : List CellEntry) (signal : prepared.Prepare O) (call : ℕ) (keys : List NewKey) (dropped : List ℕ) (now : ℕ)
       (gone : List (Lease × O × O)) (moment : ℕ) → CellFor config old h → CellPrepares config old new h signal call keys dropped now gone → AreOpened log old.config signal
@@ -293,7 +316,7 @@ module _ {O : Type 0} (log : O → EndLog OutCall) (faults : O → ℕ) where
       by_case : (p : Partner holder_of (λ (l : Leg O). parts_of l) leg (filter (λ (l : Leg O). not (has dropped l.holder.section)) old.legs.items ++ signal.legs.items))
           → In p.other (filter (λ (l : Leg O). not (has dropped l.holder.section)) old.legs.items) ⊎ In p.other signal.legs.items
           → (In p.other (filter (λ (l : Leg O). not (has dropped l.holder.section)) old.legs.items) → (n : Holder) → In n (added signal) → same_leg p.other.holder n ≡ true → ⊥)
-          → WhereLogged (log (ends_of half leg.sending)).calls (λ calls. calls ≡ sends_since leg.holder half ((record { moment = moment; event = Prepare call (added signal) keys dropped }) ∷ since_end h))
+          → WhereLogged (calls_by half leg.sending.ends) (λ calls. calls ≡ sends_since leg.holder half ((record { moment = moment; event = Prepare call (added signal) keys dropped }) ∷ since_end h))
       by_case p (inl j) apart =
           let none : list_any (same_leg leg.holder) (added signal) ≡ false
           = any_false (same_leg leg.holder) (added signal) (λ n k same. apart j n k (subst (λ (x : Holder). same_leg x n ≡ true) p.one same)) in
@@ -305,10 +328,10 @@ module _ {O : Type 0} (log : O → EndLog OutCall) (faults : O → ℕ) where
           = any_true (same_leg leg.holder) p.other.holder (added signal) (maps holder_of signal.legs.items j)
           (subst (λ (x : Holder). same_leg leg.holder x ≡ true) p.one (same_itself leg.holder)) in
           subst (λ (o : Option (List OutCall)). WhereLogged o (λ calls. calls ≡ sends_since leg.holder half ((record { moment = moment; event = Prepare call (added signal) keys dropped }) ∷ since_end h)))
-          (sym (ap (λ (t : EndLog OutCall). t.calls) (end_told leg p.other p.two half)))
-          (subst (λ (cs : List OutCall). WhereLogged (log (ends_of half p.other.sending)).calls (λ calls. calls ≡ cs))
+          (sym (end_told leg p.other p.two half))
+          (subst (λ (cs : List OutCall). WhereLogged (calls_by half p.other.sending.ends) (λ calls. calls ≡ cs))
           (sym (ap (λ (t : Bool). cond t [] (sends_since leg.holder half (since_end h))) new_one))
-          (starts_empty (log (ends_of half p.other.sending)).calls (fresh half old.config p.other (opened p.other j))))
+          (starts_empty (calls_by half p.other.sending.ends) (fresh half old.config p.other (opened p.other j))))
 
   -- Any event of a cell.
 
@@ -339,7 +362,7 @@ module _ {O : Type 0} (log : O → EndLog OutCall) (faults : O → ℕ) where
         going = λ t. gone_told config old h (λ (l : Holder). is_rejected signal l.section) step.gone made.left.legs for before s.1.went step.left_are;
       }
   cell_tells config old new made (Relay x) h moment fresh step for before =
-      let s = step.steps config h for in
+      let s = step.steps config h x.packet.take for in
       let ok : sent_ok x.deed.outcome ≡ x.sent_ok = sym (ap (λ (r : Relayed). r.sent_ok) step.is_told) in
       record {
         after = subst (λ (b : Bool). AreTold new.legs.items ((record { moment = moment; event = Relay (record { packet = x.packet; sent_ok = b; deed = deed config (since_end h) x.packet b }) }) ∷ since_end h)) ok
@@ -347,7 +370,7 @@ module _ {O : Type 0} (log : O → EndLog OutCall) (faults : O → ℕ) where
         going = λ t. absurd (let k : false ≡ true = t in cc);
       }
   cell_tells config old new made (Expire due) h moment fresh step for before =
-      let s = step config h for in
+      let s = step.steps config h for in
       record {
         after = λ leg i half. before leg (subst (λ (c : cell.Cell O). In leg c.legs.items) s.1.rest i) half;
         going = λ t. absurd (let k : false ≡ true = t in cc);
@@ -363,5 +386,5 @@ module _ {O : Type 0} (log : O → EndLog OutCall) (faults : O → ℕ) where
         after = no_legs_told config new [] s.1.stands.legs_for;
         going = λ t. subst (λ (hs : List Holder). AllZip (HasLogged (since_end h)) made.left.legs hs) (all_kept (legs (since_end h)))
             (gone_told config old h (λ (l : Holder). true) step.gone made.left.legs for before
-            (s.1.went ∙ ap (map (λ (leg : Leg O). parts_of leg)) (sym (all_kept old.legs.items))) step.left_are);
+            (s.1.went ∙ ap (filter_map (λ (leg : Leg O). parts_of leg)) (sym (all_kept old.legs.items))) step.left_are);
       }

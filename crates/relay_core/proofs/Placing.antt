@@ -171,8 +171,8 @@ cell_timed : {O : Type 0} (ot : O → EndLog OutCall) (oc : O → ℕ) (config :
 cell_timed ot oc config old new made (Prepare call legs keys dropped) recorded fresh step for =
     (step.steps config for.history for.stands (new_recorded for.history recorded keys for.is_recorded fresh)).0
 cell_timed ot oc config old new made (Commit signal) recorded fresh step for = (step.steps config for.history for.stands).0
-cell_timed ot oc config old new made (Relay x) recorded fresh step for = (step.steps config for.history for.stands).0
-cell_timed ot oc config old new made (Expire due) recorded fresh step for = (step config for.history for.stands).0
+cell_timed ot oc config old new made (Relay x) recorded fresh step for = (step.steps config for.history x.packet.take for.stands).0
+cell_timed ot oc config old new made (Expire due) recorded fresh step for = (step.steps config for.history for.stands).0
 cell_timed ot oc config old new made (Read reports) recorded fresh step for = (step.steps config for.history for.stands).0
 cell_timed ot oc config old new made End recorded fresh step for = (step.steps config for.history for.stands).0
 

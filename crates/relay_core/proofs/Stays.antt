@@ -170,7 +170,7 @@ after_cell_by ot oc config old new made (Commit signal) recorded fresh step for 
     let s = step.steps config for.history for.stands in
     one_more config new for.history recorded _ _ for.is_recorded for.fitting s.1.fits s.1.stands (at_same _ _ (Commit signal) (sym s.0) refl)
 after_cell_by ot oc config old new made (Relay x) recorded fresh step for =
-    let s = step.steps config for.history for.stands in
+    let s = step.steps config for.history x.packet.take for.stands in
     let d = deed config (since_end for.history) x.packet (sent_ok x.deed.outcome) in
     let shown : logged_relay x.packet d.outcome ≡ x = ap (λ (o : Outcome). logged_relay x.packet o) (sym s.1.outcome) ∙ sym step.is_told in
     one_more config new for.history recorded (relayed_at config for.history x.packet made.handed x.deed.outcome) (record { moment = made.moment; event = Relay x })
@@ -178,7 +178,7 @@ after_cell_by ot oc config old new made (Relay x) recorded fresh step for =
     (ap (λ (m : ℕ). record { moment = m; event = Relay (logged_relay x.packet d.outcome) }) (sym s.0)
     ∙ ap (λ (r : Relayed). record { moment = made.moment; event = Relay r }) shown)
 after_cell_by ot oc config old new made (Expire due) recorded fresh step for =
-    let s = step config for.history for.stands in
+    let s = step.steps config for.history for.stands in
     one_more config new for.history recorded _ _ for.is_recorded for.fitting s.1.fits s.1.stands (at_same _ _ (Expire due) (sym s.0) refl)
 after_cell_by ot oc config old new made (Read reports) recorded fresh step for =
     let s = step.steps config for.history for.stands in

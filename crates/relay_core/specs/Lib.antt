@@ -14,3 +14,4 @@ pub mod Turns
 pub mod NestedMoments
 pub mod RowMoments
 pub mod Joins
+pub mod Continued

@@ -62,14 +62,14 @@ module _ {I O : Type 0} where
   IsBoxPart cells (part.Pair box) = cells_of box ≡ cells
   IsBoxPart cells _ = ⊥
 
--- the ends of a box, where it is open, were opened for its ports
-abbrev pub AreHome : {I : Type 0} → (I → EndLog InCall) → Addr → Option (I × I) → Type 0
+-- the ends of a box or of a leg, where there are some, were opened for its ports
+abbrev pub AreHome : {E C : Type 0} → (E → EndLog C) → Addr → Option (E × E) → Type 0
 AreHome log at None = Unit {0}
 AreHome log at (Some ends) = AreOfPair log at ends.0 ends.1
 
 -- the out ends of each of these legs were opened for the ports of the leg's pair
 abbrev pub LegsHome : {O : Type 0} → (O → EndLog OutCall) → Config → List (Leg O) → Type 0
-LegsHome {O} log config those = (leg : Leg O) → In leg those → AreOfPair log (port_address config leg.holder.pair Rtp) leg.sending.rtp leg.sending.rtcp
+LegsHome {O} log config those = (leg : Leg O) → In leg those → AreHome log (port_address config leg.holder.pair Rtp) leg.sending.ends
 
 -- the same of legs that went from a cell, by their leases
 abbrev pub GoneHome : {O : Type 0} → (O → EndLog OutCall) → Config → List (Lease × O × O) → Type 0

@@ -21,7 +21,7 @@ use Rattle.port_pool.specs.Takes.{EndsTaken}
 use Rattle.call_cell.specs.declared.leg.Leg.{Leg}
 use Rattle.call_cell.specs.declared.prepare.Prepare as prepared
 use Rattle.call_cell.specs.declared.cell.Cell as cell
-use Rattle.call_cell.specs.Cells.{CellEvent, CellEntry, Prepare, Commit, Relay, Expire, Read, End, Relayed, since_end, key_numbered}
+use Rattle.call_cell.specs.Cells.{CellEvent, CellEntry, Prepare, Commit, Relay, Expire, Read, End, Receipt, Relayed, since_end, key_numbered}
 use Rattle.call_cell.specs.CellHistories.{CellFor, CellRelays}
 use Rattle.call_cell.specs.CellHistories as cells
 use Rattle.call_cell.specs.Preparations.{CellPrepares, added}
@@ -29,6 +29,7 @@ use Rattle.call_cell.specs.Commits.{CellCommits}
 use Rattle.call_cell.specs.Expiries.{CellExpires}
 use Rattle.call_cell.specs.LegReports.{CellReads}
 use Rattle.call_cell.specs.CellEnds.{CellEnds}
+use Rattle.call_cell.specs.Shapes.{cell_shape, cell_leg_shapes, offered_shape, answered_shape, ended_shape, IsSmall}
 use Rattle.call_board.specs.declared.board.Board as board
 use Rattle.call_board.specs.Acts.{BoardEvent, BoardEntry}
 use Rattle.call_board.specs.Boards.{BoardFor}
@@ -102,21 +103,30 @@ AreNew h keys = (key : NewKey) → In key keys → key_numbered (since_end h) ke
 abbrev pub HasMoment : Made → CellEvent → List CellEntry → Type 0
 HasMoment made event h = made.moment ≡ moment_of (Cell event) made.handed (cells.cell_last_moment h)
 
--- a relay of this packet with this outcome, whatever the buffer holds after it
+-- a receipt whose take has that number
+abbrev pub with_take : ℕ → Receipt → Receipt
+with_take take p = record { take = take; half = p.half; source = p.source; bytes = p.bytes; holder = p.holder }
+
+-- What a step makes of the cell's shape is said of each cell, and all else for every history that the cell stands for.
+
+-- a relay of this packet with this outcome, whichever number its take has, and whatever the buffer holds after it
 pub record CellRelayed {O : Type 0} (log : O → EndLog OutCall) (faults : O → ℕ) (old : cell.Cell O) (made : Made) (x : Relayed) (new : cell.Cell O) : Type 0 where
   pub is_told : x ≡ logged_relay x.packet x.deed.outcome
+  pub shape : cell_shape new ≡ cell_shape old
   pub buffer : List ℕ
-  pub steps : (config : Config) (h : List CellEntry) → CellFor config old h
-      → HasMoment made (Relay x) h × CellRelays log faults config old new h x.packet made.handed buffer x.deed.outcome
+  pub steps : (config : Config) (h : List CellEntry) (take : ℕ) → CellFor config old h
+      → HasMoment made (Relay x) h × CellRelays log faults config old new h (with_take take x.packet) made.handed buffer x.deed.outcome
 
 -- legs that go, by what their out ends tell
 abbrev pub legs_left : {O : Type 0} → (O → EndLog OutCall) → List (Lease × O × O) → List LegLeft
 legs_left log gone = map (λ leg. record { lease = leg.0; rtp = (log leg.1).calls; rtcp = (log leg.2).calls }) gone
 
--- the out ends of a leg were opened for the ports of its pair, and not called since
+-- the leg has its out ends, which were opened for the ports of its pair, and not called since
 pub record IsOpened {O : Type 0} (log : O → EndLog OutCall) (config : Config) (leg : Leg O) : Type 0 where
-  pub rtp : IsOpenedFor (port_address config leg.holder.pair Rtp) (log leg.sending.rtp)
-  pub rtcp : IsOpenedFor (port_address config leg.holder.pair Rtcp) (log leg.sending.rtcp)
+  pub ends : O × O
+  pub ends_are : leg.sending.ends ≡ Some ends
+  pub rtp : IsOpenedFor (port_address config leg.holder.pair Rtp) (log ends.0)
+  pub rtcp : IsOpenedFor (port_address config leg.holder.pair Rtcp) (log ends.1)
 
 -- the same of all that an offer adds
 abbrev pub AreOpened : {O : Type 0} → (O → EndLog OutCall) → Config → prepared.Prepare O → Type 0
@@ -125,6 +135,7 @@ AreOpened {O} log config signal = (leg : Leg O) → In leg signal.legs.items →
 pub record CellPrepared {O : Type 0} (log : O → EndLog OutCall) (old : cell.Cell O) (made : Made) (call : ℕ) (legs : List Holder) (keys : List NewKey) (dropped : List ℕ) (new : cell.Cell O) : Type 0 where
   pub signal : prepared.Prepare O
   pub legs_are : added signal ≡ legs
+  pub shape : cell_shape new ≡ offered_shape signal.dropped (cell_leg_shapes signal.legs.items) keys call (cell_shape old)
   pub opened : AreOpened log old.config signal
   pub gone : List (Lease × O × O)
   pub left_are : made.left.legs ≡ legs_left log gone
@@ -132,15 +143,22 @@ pub record CellPrepared {O : Type 0} (log : O → EndLog OutCall) (old : cell.Ce
       → HasMoment made (Prepare call legs keys dropped) h × CellPrepares config old new h signal call keys dropped made.handed gone
 
 pub record CellCommitted {O : Type 0} (log : O → EndLog OutCall) (old : cell.Cell O) (made : Made) (signal : List SectionSignal) (new : cell.Cell O) : Type 0 where
+  pub shape : IsSmall (cell_leg_shapes old.legs.items) → cell_shape new ≡ answered_shape signal (cell_shape old)
   pub gone : List (Lease × O × O)
   pub left_are : made.left.legs ≡ legs_left log gone
   pub steps : (config : Config) (h : List CellEntry) → CellFor config old h
       → HasMoment made (Commit signal) h × CellCommits config old new h signal made.handed gone
 
 pub record CellEnded {O : Type 0} (log : O → EndLog OutCall) (old : cell.Cell O) (made : Made) (new : cell.Cell O) : Type 0 where
+  pub shape : IsSmall (cell_leg_shapes old.legs.items) → cell_shape new ≡ ended_shape
   pub gone : List (Lease × O × O)
   pub left_are : made.left.legs ≡ legs_left log gone
   pub steps : (config : Config) (h : List CellEntry) → CellFor config old h → HasMoment made End h × CellEnds config old new h gone
+
+-- the cell was asked whether its call is due
+pub record CellAsked {O : Type 0} (old : cell.Cell O) (made : Made) (due : Bool) (new : cell.Cell O) : Type 0 where
+  pub shape : cell_shape new ≡ cell_shape old
+  pub steps : (config : Config) (h : List CellEntry) → CellFor config old h → HasMoment made (Expire due) h × CellExpires config old new h made.handed due
 
 -- the cell told of its legs, and nothing changed
 pub record CellRead {O : Type 0} (old : cell.Cell O) (made : Made) (all_reports : List LegReport) (new : cell.Cell O) : Type 0 where
@@ -151,8 +169,7 @@ abbrev pub CellStepsBy : {O : Type 0} → (O → EndLog OutCall) → (O → ℕ)
 CellStepsBy log faults old made (Prepare call legs keys dropped) new = CellPrepared log old made call legs keys dropped new
 CellStepsBy log faults old made (Commit signal) new = CellCommitted log old made signal new
 CellStepsBy log faults old made (Relay x) new = CellRelayed log faults old made x new
-CellStepsBy log faults old made (Expire due) new =
-    (config : Config) (h : List CellEntry) → CellFor config old h → HasMoment made (Expire due) h × CellExpires config old new h made.handed due
+CellStepsBy log faults old made (Expire due) new = CellAsked old made due new
 CellStepsBy log faults old made (Read reports) new = CellRead old made reports new
 CellStepsBy log faults old made End new = CellEnded log old made new
 

@@ -1,4 +1,4 @@
-ghost use Rattle.std.specs.Prelude.{◌++◌, List};
+ghost use Rattle.std.specs.Prelude.{◌≡◌, ◌++◌, [], List};
 ghost use Rattle.relay_outside.specs.declared.settings.Config.{Config};
 ghost use Rattle.turn_table.specs.declared.machine.Entry as table;
 ghost use Rattle.relay_core.specs.Entries.{Entry};
@@ -7,6 +7,7 @@ ghost use Rattle.relay_core.specs.WholeCalls.{CarriesCalls};
 ghost use Rattle.relay_core.specs.Safe.{BoardSafe, Safe, IsIsolated};
 ghost use Rattle.relay_core.specs.Records.{Made};
 ghost use Rattle.relay_core.specs.Joins.{IsLaneRows, IsSound};
+ghost use Rattle.relay_core.specs.Continued.{continued, TakesLater, IsSoundAfter};
 
 /// A legal list is safe, for every configuration and every list: every packet sent is the transform of one received packet,
 /// sent once, to the opposite side's endpoint in that moment's state of the call that held the receiving port at receipt; no
@@ -46,6 +47,15 @@ pub fn a_legal_list_exists()
 
 /// What is known of the main hand's list when the table is closed is known of it with the list of a lane's hand behind it, as
 /// `join_hand` leaves it: so it is known whichever lanes' hands were taken in, and in which order.
+/// The same is known of a list that goes on from an earlier one.
 pub fn joined_lists_are_sound()
-    ensures { (config : Config) (rows others : List (table.Entry Made (Unit {0}))) → IsSound config rows → IsLaneRows config others → IsSound config (rows ++ others) }
+    ensures fresh { (config : Config) (rows others : List (table.Entry Made (Unit {0}))) → IsSound config rows → IsLaneRows config others → IsSound config (rows ++ others) }
+    ensures continued { (config : Config) (before : List Entry) (rows others : List (table.Entry Made (Unit {0}))) → IsSoundAfter config before rows → IsLaneRows config others → IsSoundAfter config before (rows ++ others) }
+{}
+
+/// A list that goes on from nothing is that list itself, so what is said of lists that go on from any list is said of one that
+/// begins with a fresh start. No relay of a list that goes on from another one is of a take of that one.
+pub fn lists_go_on()
+    ensures from_nothing { (config : Config) (l : List Entry) → continued config [] l ≡ l }
+    ensures takes_later { (config : Config) (before l : List Entry) → TakesLater config before l }
 {}

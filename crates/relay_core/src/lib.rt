@@ -8,7 +8,8 @@
 //! `part` is what a place holds, `first_places` what the places hold at first, and `machine` says which steps of the turn table the
 //! events are (`specs/Records.antt`, `Steps.antt`). `table_close` closes the table: the list of the hand that closes it is legal.
 //! `specs/PlaceHistories.antt` says for which history a state stands, `specs/Turns.antt` what a hand's list gains, `specs/Joins.antt`
-//! and `NestedMoments.antt` what holds of the lists of hands that are joined.
+//! and `NestedMoments.antt` what holds of the lists of hands that are joined. `specs/Continued.antt` says what a list is that goes on
+//! from an earlier one, as that of a node does which read what another one had left.
 #![tactic(auto)]
 
 mod first_places;
@@ -19,7 +20,8 @@ mod table_close;
 
 pub use first_places::parts;
 pub use laws::{
-    a_legal_list_exists, cells_are_apart, joined_lists_are_sound, legal_is_safe, orderly_is_safe,
+    a_legal_list_exists, cells_are_apart, joined_lists_are_sound, legal_is_safe, lists_go_on,
+    orderly_is_safe,
 };
 pub use machine::{Happening, Relay, Says, Told};
 pub use part::Part;

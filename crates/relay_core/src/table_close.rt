@@ -10,6 +10,7 @@ ghost use Rattle.relay_core.specs.Records.{as_logged};
 ghost use Rattle.relay_core.specs.ReturnedPairs.{AreReturned};
 ghost use Rattle.relay_core.specs.FirstPlaces.{AreParts};
 ghost use Rattle.relay_core.specs.RowMoments.{AreTimed};
+ghost use Rattle.relay_core.specs.Continued.{AreLeftBy, IsSoundAfter, continued};
 ghost use Rattle.relay_core.specs.EndLogs.{InOrder, InsAreTold, OutsAreTold};
 ghost use Rattle.relay_core.specs.Turns.{Numbered, made_by};
 ghost use Rattle.relay_core.specs.Joins.{IsSound, AreStanding};
@@ -26,6 +27,9 @@ use turn_table::{Hand, Turns};
 /// noted, protected and sent added, it is a legal list, and so a safe one: where the main hand's own entries are
 /// orderly and its nested steps were handed their board entry's moment, and where each hand's relays are of takes of its own.
 ///
+/// Where the places began with what an earlier list had left, the hand's list goes on from that one: both together are a legal
+/// list, which leaves what the places hold now. So a list can go on from that one in turn.
+///
 /// A leg's sends are told by its call, pair and generation, since two legs of one cell may have had the pair one after the
 /// other. Without `AreTimed` a sweep with another clock would meet every clause.
 pub fn close_relay<I: InEnd, O: OutEnd>(
@@ -40,6 +44,7 @@ pub fn close_relay<I: InEnd, O: OutEnd>(
     ensures states { (config : Config) → AreParts config (starts hand) → Orderly config (made_by hand) → AreReturned config (entries hand) → AreStanding config result.items (made_by hand) }
     ensures legal { (config : Config) → AreParts config (starts hand) → IsSound config (entries hand) → (l : List Entry) × (map as_logged l ≡ made_by hand) × Legal config l × Safe config l × OutsAreTold (entries hand) l }
     ensures ins { (config : Config) → AreParts config (starts hand) → IsSound config (entries hand) → InOrder (made_by hand) → InsAreTold config (entries hand) }
+    ensures continued { (config : Config) (before : List Entry) → AreLeftBy config before (starts hand) → IsSoundAfter config before (entries hand) → (l : List Entry) × (map as_logged l ≡ made_by hand) × AreLeftBy config (continued config before l) result.items }
     ensures timed { (config : Config) → AreParts config (starts hand) → IsSound config (entries hand) → AreTimed (entries hand) }
 {
     turns.close(hand)

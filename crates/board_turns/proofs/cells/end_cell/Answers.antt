@@ -32,7 +32,7 @@ returns-clause-ended g c =
     (cell_given g.I.InEnd.log g.I.InEnd.faults g.O.OutEnd.log g.O.OutEnd.faults c.args.main.now.config.now c.args.main.now.turns.now c.args.main.now.hand.now c.args.cell c.cell_place.result
     c.turn-step.result.front _ c.turn-step.result.taken.value c.requires.may c.requires.cell.0 c.requires.cell.1 c.requires.keys c.cell_place.ensures c.turn-step.ensures.turn.0.1
     c.turn-step.ensures.turn.1)
-    (ends_part c.turn-step.result.taken.value c.in-Cell.held c.end.new.self c.end.new.gone (c.turn-step.ensures.turn.0.1 ∙ sym c.state.ensures.value ∙ c.in-Cell.is) c.end.ensures)
+    (ends_part c.turn-step.result.taken.value c.in-Cell.held c.end.new.self c.end.new.gone (c.turn-step.ensures.turn.0.1 ∙ sym c.state.ensures.value ∙ c.in-Cell.is) c.end.ensures.ends)
 
 pub returns-clause-went : goal.returns-clause-went
 returns-clause-went g c = ended_went g.I.InEnd.log g.I.InEnd.faults g.O.OutEnd.log g.O.OutEnd.faults c.args.main.now.config.now c.args.main.now.hand.now c.args.cell c.end.new.gone (returns-clause-ended g c)
@@ -82,7 +82,7 @@ put_step-requires-clause-turn g c =
 pub put_step-requires-clause-step : goal.put_step-requires-clause-step
 put_step-requires-clause-step g c =
     end_relates g.I.InEnd.log g.I.InEnd.faults g.O.OutEnd.log g.O.OutEnd.faults c.turn-step.result.taken.value c.in-Cell.held c.end.new.self c.end.new.gone
-    c.args.main.now.entry_id.number c.args.main.now.entry_id.moment (c.turn-step.ensures.turn.0.1 ∙ sym c.state.ensures.value ∙ c.in-Cell.is) c.end.ensures
+    c.args.main.now.entry_id.number c.args.main.now.entry_id.moment (c.turn-step.ensures.turn.0.1 ∙ sym c.state.ensures.value ∙ c.in-Cell.is) c.end.ensures.shape c.end.ensures.ends
 
 pub returns-clause-nests : goal.returns-clause-nests
 returns-clause-nests g c =

@@ -25,7 +25,7 @@ returns-clause-asked g c =
     (cell_given g.I.InEnd.log g.I.InEnd.faults g.O.OutEnd.log g.O.OutEnd.faults c.args.main.now.config.now c.args.main.now.turns.now c.args.main.now.hand.now c.args.cell c.cell_place.result
     c.turn-step.result.front _ c.turn-step.result.taken.value c.requires.may c.requires.cell.0 c.requires.cell.1 c.requires.keys c.cell_place.ensures c.turn-step.ensures.turn.0.1
     c.turn-step.ensures.turn.1)
-    (expires_part c.turn-step.result.taken.value c.in-Cell.held c.expire-due.new.self c.args.main.now.entry_id.moment c.expire-due.result (c.turn-step.ensures.turn.0.1 ∙ sym c.state.ensures.value ∙ c.in-Cell.is) c.expire-due.ensures)
+    (expires_part c.turn-step.result.taken.value c.in-Cell.held c.expire-due.new.self c.args.main.now.entry_id.moment c.expire-due.result (c.turn-step.ensures.turn.0.1 ∙ sym c.state.ensures.value ∙ c.in-Cell.is) c.expire-due.ensures.expires)
 
 pub cell_place-requires : goal.cell_place-requires
 cell_place-requires g c =
@@ -67,7 +67,7 @@ put_step-requires-clause-turn g c =
 pub put_step-requires-clause-step : goal.put_step-requires-clause-step
 put_step-requires-clause-step g c =
     expire_relates g.I.InEnd.log g.I.InEnd.faults g.O.OutEnd.log g.O.OutEnd.faults c.turn-step.result.taken.value c.in-Cell.held c.expire-due.new.self
-    c.args.main.now.entry_id.number c.args.main.now.entry_id.moment c.expire-due.result (c.turn-step.ensures.turn.0.1 ∙ sym c.state.ensures.value ∙ c.in-Cell.is) c.expire-due.ensures
+    c.args.main.now.entry_id.number c.args.main.now.entry_id.moment c.expire-due.result (c.turn-step.ensures.turn.0.1 ∙ sym c.state.ensures.value ∙ c.in-Cell.is) c.expire-due.ensures.shape c.expire-due.ensures.expires
 
 pub returns-clause-nests : goal.returns-clause-nests
 returns-clause-nests g c =

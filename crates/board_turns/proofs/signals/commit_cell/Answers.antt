@@ -35,7 +35,7 @@ returns-clause-committed g c =
     let above = above_rows _ c.args.cell c.turn-step.result.front is.0.above in
     commits_by g.I.InEnd.log g.I.InEnd.faults g.O.OutEnd.log g.O.OutEnd.faults c.args.main.now.config.now c.args.main.now.hand.now c.args.cell c.turn-step.result.front c.args.signal.now
     c.args.main.now.entry_id.moment c.turn-step.result.taken.value (part.Cell c.commit.new.self) c.commit.new.gone is (c.requires.names c.turn-step.result.front above)
-    (commits_part c.turn-step.result.taken.value c.in-Cell.held c.commit.new.self c.args.signal.now c.args.main.now.entry_id.moment c.commit.new.gone (c.turn-step.ensures.turn.0.1 ∙ sym c.state.ensures.value ∙ c.in-Cell.is) c.commit.ensures)
+    (commits_part c.turn-step.result.taken.value c.in-Cell.held c.commit.new.self c.args.signal.now c.args.main.now.entry_id.moment c.commit.new.gone (c.turn-step.ensures.turn.0.1 ∙ sym c.state.ensures.value ∙ c.in-Cell.is) c.commit.ensures.commits)
 
 pub returns-clause-went : goal.returns-clause-went
 returns-clause-went g c = committed_went g.I.InEnd.log g.I.InEnd.faults g.O.OutEnd.log g.O.OutEnd.faults c.args.main.now.config.now c.args.main.now.hand.now c.args.cell c.args.signal.now c.args.main.now.entry_id.moment c.commit.new.gone (returns-clause-committed g c)
@@ -103,7 +103,7 @@ put_step-requires-clause-step g c =
     let takes = takes_answer c.args.main.now.config.now c.turn-step.result.taken.value own c.args.signal.now c.args.contexts is.1 (c.requires.names c.turn-step.result.front above)
     (space_is c.args.main.now.config.now c.turn-step.result.taken.value (made_by c.args.main.now.hand.now) c.args.cell c.turn-step.result.front c.args.signal.now c.args.contexts is.1 above c.requires.room) in
     commit_relates g.I.InEnd.log g.I.InEnd.faults g.O.OutEnd.log g.O.OutEnd.faults c.turn-step.result.taken.value c.in-Cell.held c.commit.new.self c.args.signal.now c.args.contexts
-    c.args.main.now.entry_id.moment c.commit.new.gone c.args.main.now.entry_id.number (c.turn-step.ensures.turn.0.1 ∙ sym c.state.ensures.value ∙ c.in-Cell.is) takes c.commit.ensures
+    c.args.main.now.entry_id.moment c.commit.new.gone c.args.main.now.entry_id.number (c.turn-step.ensures.turn.0.1 ∙ sym c.state.ensures.value ∙ c.in-Cell.is) takes c.commit.ensures.shape c.commit.ensures.commits
 
 pub returns-clause-nests : goal.returns-clause-nests
 returns-clause-nests g c =

@@ -1,5 +1,6 @@
 use Rattle.turn_table.specs.Hands.{starts, entries}
 use Rattle.relay_core.proofs.Closed.{closed_numbered, sound_legal, sound_timed, closed_parts, whole_of}
+use Rattle.relay_core.proofs.Continuing.{sound_goes_on}
 use Rattle.relay_core.proofs.Closings.{sound_ins}
 use Rattle.relay_core.proofs.Partings.{sound_outs}
 use Rattle.relay_core.proofs.Filling.{filled_in}
@@ -34,3 +35,8 @@ returns-clause-ins g c = λ config are sound ordered.
     sound_ins g.I.InEnd.log g.I.InEnd.faults g.O.OutEnd.log g.O.OutEnd.faults (starts c.args.hand) (entries c.args.hand) c.close.ensures.range
     (whole_of g.I.InEnd.log g.I.InEnd.faults g.O.OutEnd.log g.O.OutEnd.faults (starts c.args.hand) (entries c.args.hand) c.close.result.items c.close.ensures.states)
     config are sound ordered
+
+pub returns-clause-continued : goal.returns-clause-continued
+returns-clause-continued g c = λ config before left sound.
+    sound_goes_on g.I.InEnd.log g.I.InEnd.faults g.O.OutEnd.log g.O.OutEnd.faults config before (starts c.args.hand) (entries c.args.hand) c.close.result.items
+    left c.close.ensures.range c.close.ensures.states c.close.ensures.length sound

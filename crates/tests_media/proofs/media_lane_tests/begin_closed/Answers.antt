@@ -9,5 +9,5 @@ returns c = (
   search rules,
   search rules,
   search rules,
-  subst (HasLaneStarts CONFIG) (sym c.in_ok-start.ensures.1.0) (parts_begin CONFIG c.in_ok-states.states.items c.in_ok-states.ensures),
+  subst (HasLaneStarts CONFIG) (sym c.in_ok-start.ensures.1.0) (parts_begin CONFIG c.in_ok-states.states.items c.in_ok-states.ensures.begins),
 )

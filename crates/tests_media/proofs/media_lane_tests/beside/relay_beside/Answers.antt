@@ -16,5 +16,5 @@ pub put_relay-requires-clause-step : goal.put_relay-requires-clause-step
 put_relay-requires-clause-step g c =
     relates g.I.InEnd.log g.I.InEnd.faults g.O.OutEnd.log g.O.OutEnd.faults _ 3 c.relay_in-outcome.new.buf c.relay_in-outcome.result
     (taken_of c.turn-turn.result) c.relay_in-outcome.new.part
-    (subst (λ x. RelaysPart g.O.OutEnd.log g.O.OutEnd.faults _ 3 x c.relay_in-outcome.new.buf c.relay_in-outcome.result c.relay_in-outcome.new.part)
+    (subst (λ x. RelaysPart g.O.OutEnd.log g.O.OutEnd.faults (record { take = 9; half = _; source = _; bytes = _; holder = _ }) 3 x c.relay_in-outcome.new.buf c.relay_in-outcome.result c.relay_in-outcome.new.part)
     (c.state.ensures.value ∙ sym c.turn-turn.ensures.turn.0.1) c.relay_in-outcome.ensures)
