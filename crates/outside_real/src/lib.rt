@@ -21,7 +21,7 @@ mod sockets;
 mod stop;
 
 pub use address::{addr_of, socket_addr};
-pub use clocks::{SystemClock, SystemTimer};
+pub use clocks::{ClockStart, SystemClock, SystemTimer};
 pub use errors::passes_by_itself;
 pub use keys::ChaChaKeys;
 pub use lines::StdLines;

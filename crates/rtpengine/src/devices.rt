@@ -5,7 +5,8 @@ ghost use Rattle.command_line.specs.Words.{settings, replay_settings, load_setti
 ghost use Rattle.relay_app.specs.Run.{StatusByWords};
 
 use outside_real::{
-    ChaChaKeys, Readiness, StdLines, StdSink, StopPipe, SystemClock, SystemTimer, UdpLink, UdpMaker,
+    ChaChaKeys, ClockStart, Readiness, StdLines, StdSink, StopPipe, SystemClock, SystemTimer,
+    UdpLink, UdpMaker,
 };
 use relay_app::{Status, run};
 use relay_outside::OpenGate;
@@ -58,7 +59,7 @@ fn link<'a, R: Net>(
 
 impl<'a, R: Net + Clock + Print, B: BufRead + Drop> RealDevices<'a, R, B> {
     /// Devices that nothing was asked of yet: sockets, the system's hints of which are readable, its clock, the keys of this seed, this
-    /// input and standard output. The pipe's end ends each wait and the control link.
+    /// input and standard output. Timer and clock count from one reading of it. The pipe's end ends each wait and the control link.
     pub(crate) fn new(
         rt: &'a R,
         readiness: &'a Readiness,
@@ -71,12 +72,13 @@ impl<'a, R: Net + Clock + Print, B: BufRead + Drop> RealDevices<'a, R, B> {
         ensures keys { result.keys ≡ record { seed_words = key_of seed; drawn = 0 } }
         ensures script { result.script ≡ record { bytes = B.remaining input; faults = 0 } }
     {
+        let start = ClockStart::read(rt);
         RealDevices {
             control: link(rt, stop, readiness, threads),
             ports: UdpMaker::new(rt, readiness),
             keys: ChaChaKeys::from_seed(seed),
-            timer: SystemTimer::new(rt),
-            clock: SystemClock::new(rt, readiness),
+            timer: SystemTimer::new(rt, start),
+            clock: SystemClock::new(rt, readiness, start),
             gate: OpenGate::new(),
             script: StdLines::new(input),
             out: StdSink::new(io::writer(rt)),

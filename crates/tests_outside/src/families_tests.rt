@@ -2,7 +2,7 @@
 //! version 6.
 ghost use Rattle.std.specs.Prelude.{◌≡◌};
 
-use outside_real::{Readiness, StopPipe, SystemClock, UdpIn, UdpMaker, UdpOut};
+use outside_real::{ClockStart, Readiness, StopPipe, SystemClock, UdpIn, UdpMaker, UdpOut};
 use relay_outside::{Addr, Clock, InEnd, Ip, LaneShare, OutEnd, PortMaker};
 use std::alloc::Global;
 use std::io::ErrorKind;
@@ -100,7 +100,7 @@ fn both_families_have_a_socket_at_one_port(rt: HostRuntime) {
         return;
     }
     let readiness = hints(rt.alloc());
-    let clock = SystemClock::new(&rt, &readiness);
+    let clock = SystemClock::new(&rt, &readiness, ClockStart::read(&rt));
     let mut maker = UdpMaker::new(&rt, &readiness);
     let (at, other) = (four(PORT + 1), six(PORT + 1));
     let (mut four_in, mut four_out) = open(&rt, &mut maker, at);
@@ -128,7 +128,7 @@ fn a_pair_of_version_6_is_told_for_each_of_its_sockets(rt: HostRuntime) {
         return;
     }
     let readiness = hints(rt.alloc());
-    let clock = SystemClock::new(&rt, &readiness);
+    let clock = SystemClock::new(&rt, &readiness, ClockStart::read(&rt));
     let mut maker = UdpMaker::new(&rt, &readiness);
     let (rtp, rtcp) = (six(PORT + 18), six(PORT + 19));
     let (mut rtp_in, mut rtp_out) = open(&rt, &mut maker, rtp);

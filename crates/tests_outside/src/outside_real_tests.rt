@@ -1,8 +1,8 @@
 ghost use Rattle.std.specs.Prelude.{◌≡◌};
 
 use outside_real::{
-    ChaChaKeys, LinkFault, Readiness, StdLines, StdSink, StopPipe, SystemClock, SystemTimer, UdpIn,
-    UdpLink, UdpMaker, UdpOut, addr_of, passes_by_itself, socket_addr,
+    ChaChaKeys, ClockStart, LinkFault, Readiness, StdLines, StdSink, StopPipe, SystemClock,
+    SystemTimer, UdpIn, UdpLink, UdpMaker, UdpOut, addr_of, passes_by_itself, socket_addr,
 };
 use relay_outside::{
     Addr, Clock, ControlLink, InEnd, Ip, KeySource, LaneShare, LineRead, LineSink, LineSource,
@@ -13,6 +13,7 @@ use std::fs::File;
 use std::io::{self, BufReader, ErrorKind, Read, Write};
 use std::net::Net;
 use std::process::Abort;
+use std::time::Duration;
 
 /// The port of the control socket, and of each port that stands alone.
 const PORT: u16 = 22_391;
@@ -133,7 +134,7 @@ fn a_packet_goes_from_port_to_port(rt: HostRuntime) {
 #[test]
 fn a_take_asks_where_the_system_told_of_a_datagram(rt: HostRuntime) {
     let readiness = hints(rt.alloc());
-    let clock = SystemClock::new(&rt, &readiness);
+    let clock = SystemClock::new(&rt, &readiness, ClockStart::read(&rt));
     let mut maker = UdpMaker::new(&rt, &readiness);
     let at = at_port(98, PORT + 1);
     let (mut receiving, mut sending) = open(&rt, &mut maker, at);
@@ -187,7 +188,7 @@ fn is_idle(clock: &impl Clock, thread: u32) -> bool {
 #[test]
 fn a_thread_is_told_the_pairs_of_its_own_lanes(rt: HostRuntime) {
     let readiness = hints(rt.alloc());
-    let clock = SystemClock::new(&rt, &readiness);
+    let clock = SystemClock::new(&rt, &readiness, ClockStart::read(&rt));
     let mut maker = UdpMaker::new(&rt, &readiness);
     let (first, second) = (at_port(85, PORT + 3), at_port(85, PORT + 4));
     let (mut one_in, mut one_out) = open(&rt, &mut maker, first);
@@ -210,7 +211,7 @@ fn a_thread_is_told_the_pairs_of_its_own_lanes(rt: HostRuntime) {
 #[test]
 fn a_pair_is_told_for_each_of_its_sockets(rt: HostRuntime) {
     let readiness = hints_of(rt.alloc(), 0, StopPipe::none());
-    let clock = SystemClock::new(&rt, &readiness);
+    let clock = SystemClock::new(&rt, &readiness, ClockStart::read(&rt));
     let mut maker = UdpMaker::new(&rt, &readiness);
     let (first, second) = (at_port(86, PORT + 4), at_port(86, PORT + 5));
     let (mut one_in, mut one_out) = open(&rt, &mut maker, first);
@@ -234,7 +235,7 @@ fn a_pair_is_told_for_each_of_its_sockets(rt: HostRuntime) {
 #[test]
 fn sockets_are_told_in_turn_where_they_are_too_many(rt: HostRuntime) {
     let readiness = hints_of(rt.alloc(), 1, StopPipe::none());
-    let clock = SystemClock::new(&rt, &readiness);
+    let clock = SystemClock::new(&rt, &readiness, ClockStart::read(&rt));
     let mut maker = UdpMaker::new(&rt, &readiness);
     let mut ends = Vec::new(rt.alloc());
     for port in PORT..PORT + 70 {
@@ -261,7 +262,7 @@ fn gives_up(clock: &impl Clock, thread: u32) -> bool {
 #[test]
 fn a_thread_without_a_set_is_told_nothing(rt: HostRuntime) {
     let readiness = hints(rt.alloc());
-    let clock = SystemClock::new(&rt, &readiness);
+    let clock = SystemClock::new(&rt, &readiness, ClockStart::read(&rt));
     assert!(rt; gives_up(&clock, 2) && !gives_up(&clock, 1));
 }
 
@@ -274,7 +275,7 @@ fn a_set_that_lacks_something_tells_nothing(rt: HostRuntime) {
     drop(reading);
     // (what is closed can't be watched)
     let readiness = hints_of(rt.alloc(), 1, stop);
-    let clock = SystemClock::new(&rt, &readiness);
+    let clock = SystemClock::new(&rt, &readiness, ClockStart::read(&rt));
     let mut maker = UdpMaker::new(&rt, &readiness);
     let at = at_port(96, PORT);
     let (receiving, mut sending) = open(&rt, &mut maker, at);
@@ -286,7 +287,7 @@ fn a_set_that_lacks_something_tells_nothing(rt: HostRuntime) {
 #[test]
 fn a_command_wakes_the_first_thread(rt: HostRuntime) {
     let readiness = hints(rt.alloc());
-    let clock = SystemClock::new(&rt, &readiness);
+    let clock = SystemClock::new(&rt, &readiness, ClockStart::read(&rt));
     let mut link = UdpLink::watched(&rt, StopPipe::none(), &readiness);
     let mut peer = UdpLink::waiting(&rt, StopPipe::none(), LONG);
     let mut buf = [0; 4];
@@ -347,7 +348,7 @@ fn the_end_of_its_pipe_ends_each_wait(rt: HostRuntime) {
     };
     let stop = StopPipe::of(&reading);
     let readiness = hints_of(rt.alloc(), 2, stop);
-    let clock = SystemClock::new(&rt, &readiness);
+    let clock = SystemClock::new(&rt, &readiness, ClockStart::read(&rt));
     let mut watched = UdpLink::watched(&rt, stop, &readiness);
     let mut waiting = UdpLink::waiting(&rt, stop, 60_000);
     let mut buf = [0; 4];
@@ -395,16 +396,50 @@ fn went_by(from: u64, to: u64) -> bool {
 
 #[test]
 fn the_clocks_go_forward_in_milliseconds(rt: HostRuntime) {
-    let mut timer = SystemTimer::new(&rt);
+    let start = ClockStart::read(&rt);
+    let mut timer = SystemTimer::new(&rt, start);
     let readiness = hints(rt.alloc());
-    let clock = SystemClock::new(&rt, &readiness);
+    let clock = SystemClock::new(&rt, &readiness, start);
     let mut link = UdpLink::waiting(&rt, StopPipe::none(), LOOKED);
     assert!(rt; link.bind(local(95)).is_ok());
     let (first, clock_first) = (timer.now(), clock.now());
-    assert!(rt; first < 60_000 && clock_first < 60_000);
+    assert!(rt; clock_first.abs_diff(first) < 60_000);
     assert!(rt; link.take(&mut [0; 1]) == Ok(Taken::Nothing));
     assert!(rt; link.take(&mut [0; 1]) == Ok(Taken::Nothing));
     assert!(rt; went_by(first, timer.now()) && went_by(clock_first, clock.now()));
+}
+
+/// Clocks that show these seconds.
+#[derive(Drop)]
+struct Shows {
+    wall: u64,
+    steady: u64,
+}
+
+impl std::rt::Clock for Shows {
+    fn monotonic(&self) -> io::Result<Duration> {
+        Ok(Duration::from_secs(self.steady))
+    }
+
+    fn since_1970(&self) -> io::Result<Duration> {
+        Ok(Duration::from_secs(self.wall))
+    }
+}
+
+#[test]
+fn moments_are_the_wall_clock_at_the_start_and_steady_time_since(rt: HostRuntime) {
+    let first = Shows {
+        wall: 1_700_000_000,
+        steady: 50,
+    };
+    let set_back = Shows {
+        wall: 1_699_996_403,
+        steady: 53,
+    };
+    let mut timer = SystemTimer::new(&set_back, ClockStart::read(&first));
+    assert!(rt; timer.now() == 1_700_000_003_000, "a jump changes nothing");
+    let mut second = SystemTimer::new(&set_back, ClockStart::read(&set_back));
+    assert!(rt; second.now() == 1_699_996_403_000, "a start reads it");
 }
 
 /// Linux's errors of reads, by their numbers, and whether each passes by itself.
