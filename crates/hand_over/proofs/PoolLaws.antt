@@ -1,0 +1,47 @@
+-- Pools that are written alike, and that each is spelled.
+use Rattle.std.proofs.Common.{◌≡◌, ℕ, ◌<◌, ◌^◌, ◌∙◌, List, All, map, refl, sym, arith}
+use Rattle.std.specs.Prelude.{codes}
+use Rattle.std.proofs.lemmas.List.{map-id}
+use Rattle.std.proofs.lemmas.List.Elements.{All-weaker}
+use Rattle.ng_bencode.specs.Spells.{spelling, Spells}
+use Rattle.port_pool.specs.declared.saved_pool.PoolSaved.{PoolSaved}
+use Rattle.port_pool.specs.SavedPools.{saved_pairs}
+use Rattle.hand_over.specs.Numbers.{number_tree, list_tree}
+use Rattle.hand_over.specs.PoolTrees.{pool_tree, FitsPoolSaved}
+use Rattle.hand_over.proofs.NumberTrees.{same_number}
+use Rattle.hand_over.proofs.ListTrees.{same_list, same_seen}
+use Rattle.hand_over.proofs.KeyedTrees.{same_three}
+use Rattle.hand_over.proofs.Spelled.{number_spelled, list_spelled}
+
+abbrev IsLong : ℕ → Type 0
+IsLong n = n < 2 ^ 64
+
+abbrev IsWord : ℕ → Type 0
+IsWord n = n < 2 ^ 32
+
+pub same_numbers : (a b : List ℕ) → All IsLong a → All IsLong b → list_tree number_tree a ≡ list_tree number_tree b → a ≡ b
+same_numbers a b fits_a fits_b same =
+    sym (map-id a)
+    ∙ same_seen number_tree (λ (n : ℕ). n) IsLong (λ m n low small e. same_number m n low small e) a b fits_a fits_b (same_list number_tree (list_tree number_tree a) (map number_tree a) b refl same)
+    ∙ map-id b
+
+long : (numbers : List ℕ) → All IsWord numbers → All IsLong numbers
+long numbers words = All-weaker IsWord IsLong (λ n low. omega arith) numbers words
+
+pub same_pools : (a b : PoolSaved) → FitsPoolSaved a → FitsPoolSaved b → a.first_port ≡ b.first_port → a.per_family ≡ b.per_family
+    → pool_tree a ≡ pool_tree b → saved_pairs a ≡ saved_pairs b
+same_pools a b fits_a fits_b first per same =
+    let parts = same_three (pool_tree a) (codes "free4") (codes "free6") (codes "generations")
+    (list_tree number_tree a.free4.items) (list_tree number_tree a.free6.items) (list_tree number_tree a.generations.items)
+    (list_tree number_tree b.free4.items) (list_tree number_tree b.free6.items) (list_tree number_tree b.generations.items) refl same in
+    let free4 = same_numbers a.free4.items b.free4.items (long a.free4.items fits_a.free4) (long b.free4.items fits_b.free4) parts.first in
+    let free6 = same_numbers a.free6.items b.free6.items (long a.free6.items fits_a.free6) (long b.free6.items fits_b.free6) parts.second in
+    let generations = same_numbers a.generations.items b.generations.items fits_a.generations fits_b.generations parts.third in
+    λ i. record { first_port = first i; per_family = per i; free4 = free4 i; free6 = free6 i; generations = generations i }
+
+pub pool_spelled : (saved : PoolSaved) → Spells (spelling (pool_tree saved)) (pool_tree saved)
+pool_spelled saved =
+    let free4 = list_spelled number_tree 0 number_spelled saved.free4.items in
+    let free6 = list_spelled number_tree 0 number_spelled saved.free6.items in
+    let generations = list_spelled number_tree 0 number_spelled saved.generations.items in
+    record { ints = (free4.ints, (free6.ints, (generations.ints, tt))); deep = omega (arith, free4.deep, free6.deep, generations.deep); spelled = refl }
