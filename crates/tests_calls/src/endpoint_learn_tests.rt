@@ -94,3 +94,36 @@ fn a_new_signal(rt: HostRuntime) {
     assert!(rt; learner.endpoint() == at(6004));
     assert!(rt; learner.judge(at(6002)) == Judge::Pass);
 }
+
+#[test]
+fn a_learner_there_and_back(rt: HostRuntime) {
+    for flags in [PLAIN, STRICT, HANDOVER, STRICT_HANDOVER, ASYMMETRIC] {
+        let learner = taught(flags);
+        assert!(rt;
+            Learner::load(&learner.save()) == Some(learner),
+            "{flags:?}"
+        );
+    }
+    let untaught = Learner::new(
+        Addr {
+            ip: Ip::V6([0x20, 1, 0xd, 0xb8, 0, 0, 0, 0, 0, 0, 0, 0, 0, 0, 0, 10]),
+            port: 6000,
+        },
+        STRICT,
+    );
+    let bytes = untaught.save();
+    // 6,000 is 0x1770.
+    assert!(rt; bytes[0] == 6 && bytes[1] == 0x20 && bytes[16] == 10 && bytes[17] == 0x17);
+    assert!(rt; bytes[18] == 0x70 && bytes[19] == 1 && bytes[20] == 0 && bytes[22] == 0);
+    assert!(rt; Learner::load(&bytes) == Some(untaught));
+}
+
+#[test]
+fn bytes_of_no_learner(rt: HostRuntime) {
+    // A version, a byte behind an address of version 4, a flag, and what was learned.
+    for (place, byte) in [(0, 5), (0, 0), (5, 1), (19, 2), (22, 0), (38, 1)] {
+        let mut bytes = taught(STRICT).save();
+        bytes[place] = byte;
+        assert!(rt; Learner::load(&bytes).is_none(), "{place}");
+    }
+}

@@ -383,3 +383,34 @@ fn an_answer_is_heard_by_the_lines_that_were_offered(rt: HostRuntime) {
     let heard = dialog.hear(&sdp);
     assert!(rt; matches!(heard.lines(), [Some(line)] if line.tag == 1));
 }
+
+/// The same dialog, after it was a record.
+fn moved(rt: &impl Abort, dialog: Dialog) -> Dialog {
+    let saved = dialog.into_saved().expect(rt, "a record");
+    let loaded = Dialog::from_saved(saved).expect(rt, "memory");
+    loaded.expect(rt, "a dialog")
+}
+
+#[test]
+fn a_saved_dialog_goes_on_with_its_open_offer(rt: HostRuntime) {
+    let alloc = rt.alloc();
+    let secure = Some(Proto::Savp);
+    let mut dialog = alices_dialog(&rt, alloc);
+    assert!(rt;
+        is_offered(
+            &rt,
+            alloc,
+            &mut dialog,
+            secure,
+            &PORTS,
+            &KEYS,
+            ALICE_SECURED
+        )
+    );
+    let mut dialog = moved(&rt, dialog);
+    assert!(rt; is_answered(&rt, alloc, &mut dialog, BOB_SECURED, BOB_ANSWERED));
+    assert!(rt; is_offered(&rt, alloc, &mut dialog, None, &[], &[], ALICE_AGAIN));
+    let mut dialog = moved(&rt, dialog);
+    assert!(rt; is_answered(&rt, alloc, &mut dialog, BOB_SECURED, BOB_ANSWERED));
+    assert!(rt; dialog.protocol(0, Side::B) == Some(Proto::Savp));
+}

@@ -1,4 +1,4 @@
-use cookie_cache::{CookieCache, kept_is_latest};
+use cookie_cache::{CacheSaved, CookieCache, SavedReply, cache_moves, kept_is_latest};
 use ng_bencode::Text;
 use relay_outside::{Addr, Ip};
 use std::alloc::Global;
@@ -165,4 +165,61 @@ fn a_clock_that_goes_back_stands_still(rt: HostRuntime) {
     assert!(rt; finds(&cache, SOURCE, b"8_c", 0, Some(b"back")));
     assert!(rt; finds(&cache, SOURCE, b"8_c", 120_999, Some(b"back")));
     assert!(rt; finds(&cache, SOURCE, b"8_c", 121_000, None));
+}
+
+#[test]
+fn a_loaded_cache_finds_the_replies_of_the_saved_one(rt: HostRuntime) {
+    cache_moves();
+    let alloc = rt.alloc();
+    let mut cache = new_cache(&rt, alloc);
+    keep(&rt, alloc, &mut cache, SOURCE, b"8_a", b"first", 0);
+    keep(&rt, alloc, &mut cache, LONGER_HOST, b"8_a", b"long", 1);
+    keep(&rt, alloc, &mut cache, SOURCE, b"8_a", b"second", 2);
+    let saved = cache.into_saved().expect(&rt, "memory");
+    assert!(rt; saved.kept.len() == 2 && saved.count == 3 && saved.last_moment == 2);
+    for one in &saved.kept {
+        assert!(rt; one.cookie.as_slice() == b"8_a".as_slice());
+        assert!(rt; one.number == one.moment && (one.source == SOURCE) == (one.number == 2));
+    }
+    let Ok(Some(loaded)) = CookieCache::from_saved(saved) else {
+        panic!(rt; "no cache");
+    };
+    assert!(rt; finds(&loaded, LONGER_HOST, b"8_a", 60_000, Some(b"long")));
+    assert!(rt; finds(&loaded, SOURCE, b"8_a", 60_001, Some(b"second")));
+    assert!(rt; finds(&loaded, SOURCE, b"8_a", 60_002, None));
+}
+
+/// Whether a cache is saved with a reply for this cookie, standing so many times.
+fn is_saved_with(rt: &impl Abort, alloc: Global, cookie: &[u8], times: usize) -> bool {
+    let mut kept = Vec::new(alloc);
+    for _ in 0..times {
+        let Ok(cookie) = Text::copy_of(alloc, cookie) else {
+            panic!(rt; "no memory");
+        };
+        kept.push(SavedReply {
+            source: SOURCE,
+            cookie,
+            number: 0,
+            reply: Text::new(alloc),
+            moment: 0,
+        })
+        .expect(rt, "memory");
+    }
+    let saved = CacheSaved {
+        kept,
+        count: 2,
+        last_moment: 0,
+    };
+    CookieCache::from_saved(saved)
+        .expect(rt, "memory")
+        .is_some()
+}
+
+#[test]
+fn no_cache_has_a_cookie_twice_or_one_without_a_byte(rt: HostRuntime) {
+    let alloc = rt.alloc();
+    assert!(rt; is_saved_with(&rt, alloc, &[7; 255], 1));
+    assert!(rt; !is_saved_with(&rt, alloc, &[7; 255], 2));
+    assert!(rt; !is_saved_with(&rt, alloc, &[7; 256], 1));
+    assert!(rt; !is_saved_with(&rt, alloc, b"", 1));
 }

@@ -91,3 +91,62 @@ fn fresh_indices(rt: HostRuntime) {
 fn memory_of_a_window(rt: HostRuntime) {
     assert!(rt; std::mem::size_of::<Window>() <= 32);
 }
+
+#[test]
+fn a_window_there_and_back(rt: HostRuntime) {
+    let mut window = Window::new();
+    assert!(rt; window.save() == [0; 25]);
+    window.note(1000);
+    window.note(998);
+    let bytes = window.save();
+    // 1,000 is 0x3e8, and bits 0 and 2 are set.
+    assert!(rt; bytes[0] == 1 && bytes[7] == 3 && bytes[8] == 0xe8 && bytes[24] == 5);
+    let Some(loaded) = Window::load(&bytes) else {
+        panic!(rt; "no window is saved so");
+    };
+    none_failed(&rt, "BACK", other_fresh(&loaded, BACK));
+    assert!(rt; loaded.save() == bytes);
+}
+
+/// Indices round two that were noted before a window was saved.
+const BACK: &[(u64, Fresh)] = &[
+    (872, Fresh::TooOld),
+    (997, Fresh::Yes),
+    (998, Fresh::Used),
+    (999, Fresh::Yes),
+    (1000, Fresh::Used),
+];
+
+/// A byte that is none of a window that noted 1,000 and 998, or of one that noted nothing: whether something was noted, its
+/// place and its value.
+const NO_BYTES: &[(bool, usize, u8)] = &[
+    (true, 0, 0),
+    (true, 0, 2),
+    (true, 2, 1),
+    (false, 8, 1),
+    (false, 24, 1),
+];
+
+fn loaded_wrongly() -> Option<usize> {
+    for (number, (noted, place, byte)) in NO_BYTES.iter().enumerate() {
+        let mut window = Window::new();
+        if *noted {
+            window.note(1000);
+            window.note(998);
+        }
+        let mut bytes = window.save();
+        if *place >= 25 {
+            return Some(number);
+        }
+        bytes[*place] = *byte;
+        if Window::load(&bytes).is_some() {
+            return Some(number);
+        }
+    }
+    None
+}
+
+#[test]
+fn bytes_of_no_window(rt: HostRuntime) {
+    none_failed(&rt, "NO_BYTES", loaded_wrongly());
+}

@@ -2,6 +2,7 @@ use crate::cases::none_failed;
 use rtp_packet::rtcp;
 use srtcp_context::{InRtcp, OutRtcp};
 use srtp_keys::{DrawnKey, ProtectFault, UnprotectFault};
+use std::test::Fail;
 
 // The master key and salt of RFC 3711, appendix B.3.
 const MASTER: &[u8; 30] =
@@ -211,5 +212,22 @@ fn memory_of_contexts(rt: HostRuntime) -> std::io::Result<()> {
     let outbound = std::mem::size_of::<OutRtcp>();
     println!(rt; "a context of 32 sources takes {inbound} bytes inbound and {outbound} outbound")?;
     assert!(rt; inbound <= 2_048 && outbound <= 1_024);
+    Ok(())
+}
+
+#[test]
+fn saved_contexts_go_on(rt: HostRuntime) -> Result<(), Fail> {
+    let mut sender = outbound();
+    let mut first = bare(1);
+    assert!(rt; is_protected(&mut sender, &mut first, 8, Ok((22, 0))));
+    let mut sender = OutRtcp::load(&sender.save()).ok_or("a sender is loaded")?;
+    let mut next = bare(1);
+    assert!(rt; is_protected(&mut sender, &mut next, 8, Ok((22, 1))));
+    let mut receiver = InRtcp::new(MASTER);
+    let mut opened = first;
+    assert!(rt; is_unprotected(&mut receiver, &mut opened, 22, Ok(8)));
+    let mut receiver = InRtcp::load(&receiver.save()).ok_or("a receiver is loaded")?;
+    assert!(rt; is_unprotected(&mut receiver, &mut first, 22, Err(UnprotectFault::Replayed)));
+    assert!(rt; is_unprotected(&mut receiver, &mut next, 22, Ok(8)));
     Ok(())
 }

@@ -3,6 +3,8 @@ use rtp_packet::rtp;
 use sdes_lines::Suite;
 use srtp_context::{InRtp, OutRtp};
 use srtp_keys::{DrawnKey, ProtectFault, UnprotectFault};
+use std::process::Abort;
+use std::test::Fail;
 
 // The master key and salt of RFC 3711, appendix B.3.
 const MASTER: &[u8; 30] =
@@ -350,4 +352,47 @@ fn three_cycles_against_whole_lists(rt: HostRuntime) {
         }
     }
     assert!(rt; front > 196_608 && refused > 20);
+}
+
+// A sender that has sent two packets, with a new cycle of sequence numbers between them.
+fn sender_after_a_cycle(rt: &impl Abort) -> OutRtp {
+    let mut context = outbound(Suite::Tag32);
+    assert!(rt; is_protected(&mut context, &mut bare(1, 65_535), 12, Ok((16, 65_535))));
+    assert!(rt; is_protected(&mut context, &mut bare(1, 0), 12, Ok((16, 65_536))));
+    context
+}
+
+#[test]
+fn a_saved_sender_goes_on(rt: HostRuntime) -> Result<(), Fail> {
+    let mut unbroken = sender_after_a_cycle(&rt);
+    let saved = sender_after_a_cycle(&rt).save();
+    let mut loaded = OutRtp::load(&saved).ok_or("a sender is loaded")?;
+    let mut used = bare(1, 65_535);
+    assert!(rt; is_protected(&mut loaded, &mut used, 12, Err(ProtectFault::IndexUsed)));
+    let mut wanted = bare(1, 1);
+    let mut sent = bare(1, 1);
+    assert!(rt; is_protected(&mut unbroken, &mut wanted, 12, Ok((16, 65_537))));
+    assert!(rt; is_protected(&mut loaded, &mut sent, 12, Ok((16, 65_537))));
+    assert!(rt; sent == wanted);
+    Ok(())
+}
+
+#[test]
+fn a_saved_receiver_goes_on(rt: HostRuntime) -> Result<(), Fail> {
+    let mut sender = outbound(Suite::Tag80);
+    let mut context = InRtp::new(MASTER, Suite::Tag80);
+    let mut first = bare(1, 7);
+    assert!(rt; is_protected(&mut sender, &mut first, 12, Ok((22, 7))));
+    let mut next = bare(1, 8);
+    assert!(rt; is_protected(&mut sender, &mut next, 12, Ok((22, 8))));
+    let mut opened = first;
+    assert!(rt; is_unprotected(&mut context, &mut opened, 22, Ok(12)));
+    let saved = context.save();
+    let mut loaded = InRtp::load(&saved).ok_or("a receiver is loaded")?;
+    assert!(rt; is_unprotected(&mut loaded, &mut first, 22, Err(UnprotectFault::Replayed)));
+    assert!(rt; is_unprotected(&mut loaded, &mut next, 22, Ok(12)));
+    let mut other = saved;
+    other[50] = 5;
+    assert!(rt; InRtp::load(&other).is_none());
+    Ok(())
 }

@@ -4,6 +4,7 @@ use crate::cases::none_failed;
 use replay_window::{Fresh, Near};
 use srtp_keys::UnprotectFault;
 use srtp_sources::{Sources, packet_counter};
+use std::test::Fail;
 
 // The counter of RFC 3711, appendix B.2, and the same salt with an SSRC and an index, added up by hand.
 #[test]
@@ -59,6 +60,27 @@ fn sources_come_in_and_none_goes(rt: HostRuntime) {
     assert!(rt; take(&mut sources, 7, 65_536) == Err(UnprotectFault::Replayed));
     assert!(rt; take(&mut sources, 7, 65_408) == Err(UnprotectFault::TooOld));
     assert!(rt; take(&mut sources, 8, 65_408) == Ok(()));
+}
+
+#[test]
+fn a_full_table_is_saved(rt: HostRuntime) -> Result<(), Fail> {
+    let mut sources = Sources::new();
+    none_failed(&rt, "the sources that come in", not_taken(&mut sources));
+    let saved = sources.save();
+    let mut loaded = Sources::load(&saved).ok_or("a table is loaded")?;
+    none_failed(&rt, "the sources that stay", not_noted(&loaded));
+    assert!(rt; take(&mut loaded, 32, 7) == Err(UnprotectFault::TooManySources));
+    Ok(())
+}
+
+#[test]
+fn saved_tables_have_32_sources_at_most(rt: HostRuntime) {
+    let mut saved = Sources::new().save();
+    saved[0] = 33;
+    assert!(rt; Sources::load(&saved).is_none());
+    saved[0] = 0;
+    saved[129] = 2;
+    assert!(rt; Sources::load(&saved).is_none());
 }
 
 #[test]

@@ -1,6 +1,7 @@
 use crate::two_pairs::{two_pairs, two_pairs_each};
-use port_pool::{Lease, Leases, Pool};
+use port_pool::{Lease, Leases, Pool, PoolSaved};
 use relay_outside::Family;
+use std::alloc::{AllocError, Global};
 
 /// The pair, the family, the port and the generation of a lease.
 fn log(lease: &Lease) -> (u32, Family, u16, u64) {
@@ -147,4 +148,77 @@ fn leases_come_out_in_the_order_in_which_they_were_made(rt: HostRuntime) {
     assert!(rt; popped(&mut leases) == Some(0));
     assert!(rt; popped(&mut leases) == Some(1));
     assert!(rt; popped(&mut leases).is_none());
+}
+
+#[test]
+fn a_lease_there_and_back(rt: HostRuntime) {
+    let mut pool = two_pairs_each(&rt, rt.alloc());
+    let Some(lease) = pool.lease(Family::V6) else {
+        panic!(rt; "two pairs are free");
+    };
+    let was = log(&lease);
+    let mut bytes = lease.save();
+    // 30,000 is 0x7530.
+    assert!(rt; bytes == [0, 0, 0, 2, 6, 0x75, 0x30, 0, 0, 0, 0, 0, 0, 0, 1]);
+    let Some(loaded) = Lease::load(&bytes) else {
+        panic!(rt; "a lease is saved so");
+    };
+    assert!(rt; log(&loaded) == was);
+    bytes[4] = 5;
+    assert!(rt; Lease::load(&bytes).is_none());
+}
+
+/// A pool of four pairs, two of each family, of which these are free.
+fn saved(alloc: Global, free4: &[u32], free6: &[u32]) -> Result<PoolSaved, AllocError> {
+    Ok(PoolSaved {
+        first_port: 30_000,
+        per_family: 2,
+        free4: Vec::from_slice(alloc, free4)?,
+        free6: Vec::from_slice(alloc, free6)?,
+        generations: Vec::from_elem(alloc, 1, 4)?,
+    })
+}
+
+#[test]
+fn a_pool_there_and_back(rt: HostRuntime) {
+    let mut pool = two_pairs_each(&rt, rt.alloc());
+    let (Some(first), Some(second)) = (pool.lease(Family::V4), pool.lease(Family::V4)) else {
+        panic!(rt; "two pairs are free");
+    };
+    pool.give_back(second);
+    pool.give_back(first);
+    let record = pool.into_saved().expect(&rt, "memory");
+    assert!(rt; record.first_port == 30_000 && record.per_family == 2);
+    assert!(rt; record.free4.as_slice() == [1, 0].as_slice());
+    assert!(rt; record.free6.as_slice() == [2, 3].as_slice());
+    assert!(rt; record.generations.as_slice() == [1, 1, 0, 0].as_slice());
+    let Some(mut loaded) = Pool::from_saved(rt.alloc(), record).expect(&rt, "memory") else {
+        panic!(rt; "a pool is saved so");
+    };
+    let Some(again) = loaded.lease(Family::V4) else {
+        panic!(rt; "two pairs are free");
+    };
+    assert!(rt; log(&again) == (1, Family::V4, 30_002, 2));
+}
+
+#[test]
+fn records_of_no_pool(rt: HostRuntime) {
+    let table: [(&[u32], &[u32], bool); 7] = [
+        (&[], &[], true),
+        (&[1, 0], &[3, 2], true),
+        (&[1, 1], &[2], false),
+        (&[2], &[3], false),
+        (&[0], &[1], false),
+        (&[0], &[4], false),
+        (&[0], &[3, 2, 3], false),
+    ];
+    for (free4, free6, wanted) in table {
+        let record = saved(rt.alloc(), free4, free6).expect(&rt, "memory");
+        assert!(rt;
+            record.is_pool(rt.alloc()).expect(&rt, "memory") == wanted,
+            "{free4:?} {free6:?}"
+        );
+        let loaded = Pool::from_saved(rt.alloc(), record).expect(&rt, "memory");
+        assert!(rt; loaded.is_some() == wanted, "{free4:?} {free6:?}");
+    }
 }
