@@ -20,9 +20,9 @@ may_nest config turns hand between = record {
 
 pub returns-clause-between : goal.returns-clause-between
 returns-clause-between c =
-    first_between _ c.in-Ok-start.turns c.in-Ok-start.hand c.in-Ok.states.items c.in-Ok-start.ensures.0 c.in-Ok-start.ensures.1 c.in-Ok.ensures
+    first_between _ c.in-Ok-start.turns c.in-Ok-start.hand c.in-Ok.states.items c.in-Ok-start.ensures.0 c.in-Ok-start.ensures.1 c.in-Ok.ensures.begins
 
 pub returns-clause-may : goal.returns-clause-may
 returns-clause-may c =
     may_nest _ c.in-Ok-start.turns c.in-Ok-start.hand
-    (first_between _ c.in-Ok-start.turns c.in-Ok-start.hand c.in-Ok.states.items c.in-Ok-start.ensures.0 c.in-Ok-start.ensures.1 c.in-Ok.ensures)
+    (first_between _ c.in-Ok-start.turns c.in-Ok-start.hand c.in-Ok.states.items c.in-Ok-start.ensures.0 c.in-Ok-start.ensures.1 c.in-Ok.ensures.begins)
