@@ -25,7 +25,7 @@ use Rattle.offer_answer.specs.Plan.{demand}
 use Rattle.offer_answer.proofs.Members.{kept, in-append}
 use Rattle.offer_answer.proofs.Numbers.{Ordered, numbers-rise, in-numbers, in-filter, filter-ordered, append-ordered, in-flat_map, flat_map-ordered, in-map, map-ordered}
 
-other-side_differs : (side : Side) → other_side side ≡ side → ⊥
+pub other-side_differs : (side : Side) → other_side side ≡ side → ⊥
 other-side_differs A e = cc
 other-side_differs B e = cc
 
@@ -74,7 +74,7 @@ in-missing_keys rounds section side suites k i =
     let c = in-map (key_place_of section side) (filter (λ suite. is_none (leg_key rounds section side suite)) suites) k i in
     record { of_section = ap (λ (l : KeyPlace). l.section) c.2; of_side = ap (λ (l : KeyPlace). l.side) c.2 }
 
-abbrev Differ : Suite → Suite → Type 0
+abbrev pub Differ : Suite → Suite → Type 0
 Differ s t = s ≡ t → ⊥
 
 missing_keys-apart : (rounds : List Round) (section : ℕ) (side : Side) (suites : List Suite) → Ordered Differ suites →
@@ -84,7 +84,7 @@ missing_keys-apart rounds section side suites o =
     (filter-ordered Differ (λ suite. is_none (leg_key rounds section side suite)) suites o)
     (λ s t differ e f g. differ g)
 
-suite_of-apart : (line : Option CryptoLine) → Ordered Differ (suite_of line)
+pub suite_of-apart : (line : Option CryptoLine) → Ordered Differ (suite_of line)
 suite_of-apart None = tt
 suite_of-apart (Some line) = ((λ s i. elim i [ ]), tt)
 

@@ -29,3 +29,5 @@ pub mod AlikePlans
 pub mod SavedDialogs
 pub mod Shapes
 pub mod AnswerShapes
+pub mod Places
+pub mod PlacesKept

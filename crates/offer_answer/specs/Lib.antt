@@ -23,3 +23,4 @@ pub mod Plans
 pub mod SavedDialogs
 pub mod Shapes
 pub mod AnswerShapes
+pub mod OfferPlaces

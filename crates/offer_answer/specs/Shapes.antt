@@ -1,8 +1,8 @@
 -- What a dialog keeps of its call's legs that the call's cell keeps too, and what an offer makes of it. This is said of each dialog,
 -- also of one that stands for no rounds.
-use Rattle.std.specs.Prelude.{◌≡◌, ◌<◌, ◌==◌, ◌&&◌, ◌||◌, ℕ, Bool, false, not, List, Option, None, if◌then◌else◌, filter, map, unwrap_or, option_map, slice_get, slice_index_or}
+use Rattle.std.specs.Prelude.{◌≡◌, ◌<◌, ◌==◌, ◌&&◌, ◌||◌, ℕ, Bool, false, not, List, Option, None, Some, if◌then◌else◌, filter, map, unwrap_or, option_map, slice_get, slice_index_or}
 use Rattle.std.specs.List.{list_any}
-use Rattle.histories.specs.Words.{or_else}
+use Rattle.histories.specs.Words.{or_else, numbers}
 use Rattle.sdes_lines.specs.declared.crypto_line.Suite.{Suite}
 use Rattle.sdes_lines.specs.declared.crypto_line.Suite.TheVariants.{Tag80, Tag32}
 use Rattle.sdp_text.specs.Descriptions.{sections_in}
@@ -10,7 +10,7 @@ use Rattle.port_pool.specs.declared.holder.Side.{Side}
 use Rattle.port_pool.specs.declared.holder.Side.TheVariants.{A, B}
 use Rattle.port_pool.specs.Signals.{NewKey}
 use Rattle.offer_answer.specs.Rounds.{NewLeg, KeyPlace}
-use Rattle.offer_answer.specs.Sections.{no_section, is_active}
+use Rattle.offer_answer.specs.Sections.{most_sections, no_section, is_active}
 use Rattle.offer_answer.specs.Keys.{is_for, key_among}
 use Rattle.offer_answer.specs.Texts.{new_port}
 use Rattle.offer_answer.specs.Dialogs.{no_state}
@@ -144,3 +144,20 @@ pub record SamePlaces (old new : Plan) : Type 0 where
   pub pairs_are : legs_demanded new ≡ legs_demanded old
   pub keys_are : keys_demanded new ≡ keys_demanded old
   pub drops_are : new.dropped ≡ old.dropped
+
+-- The dialog's eight sections, and how many sections its offers have.
+pub record DialogShape : Type 0 where
+  pub sections : List SectionShape
+  pub offered_count : ℕ
+  pub committed_count : ℕ
+
+-- how many sections the last accepted offer has, 0 before the first
+abbrev pub offered_count : Dialog → ℕ
+offered_count dialog = elim dialog.last_offer [ None ↦ 0 | Some last ↦ last.count ]
+
+abbrev pub dialog_shape : Dialog → DialogShape
+dialog_shape dialog = record {
+  sections = map (shape_of dialog) (numbers 0 most_sections);
+  offered_count = offered_count dialog;
+  committed_count = dialog.committed_count;
+}

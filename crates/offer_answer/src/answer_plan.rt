@@ -1,9 +1,10 @@
 //! How an answer is judged, and what it commits.
 
-ghost use Rattle.std.specs.Prelude.{◌≡◌, ◌&&◌, ◌==◌, List, Some, None, IfOk, IfErr};
+ghost use Rattle.std.specs.Prelude.{◌≡◌, ◌≤◌, ◌&&◌, ◌==◌, List, length, true, Some, None, IfNone, IfOk, IfErr};
 ghost use Rattle.std.specs.List.{list_any};
 ghost use Rattle.std.specs.Str.{bytes_eq};
 ghost use Rattle.relay_outside.specs.declared.settings.Config.{Config};
+ghost use Rattle.sdp_text.specs.Descriptions.{sections_in};
 ghost use Rattle.offer_answer.specs.Rounds.{Round, AnswerAsk};
 ghost use Rattle.offer_answer.specs.Sides.{MadeOffer, is_some_sides, last_offer};
 ghost use Rattle.offer_answer.specs.Sections.{section_count, all_sections, active_sections};
@@ -15,6 +16,7 @@ ghost use Rattle.offer_answer.specs.Offers.{fault_code, plan_code};
 ghost use Rattle.offer_answer.specs.Plans.{AnswerAnswered};
 ghost use Rattle.offer_answer.specs.Widths.{WritesFrom};
 ghost use Rattle.offer_answer.specs.AnswerShapes.{AnswerShapes};
+ghost use Rattle.offer_answer.specs.OfferPlaces.{AnswerCounts, AnswersSections};
 ghost use Rattle.offer_answer.specs.Answers.{IsLast, ReadsAnswer, AsksAnswer};
 
 use crate::answer_text::answer_sections;
@@ -66,8 +68,9 @@ fn is_offerers(last: &LastOffer, from_tag: &[u8]) -> bool
 
 /// Whether the answer has as many sections as the last offer.
 fn has_as_many(last: &LastOffer, sdp: &Sdp) -> bool
-    ensures { (rounds : List Round) (offer : MadeOffer) (ask : AnswerAsk) → LastFor offer last.now → ReadsAnswer sdp.now rounds ask →
+    ensures counted { (rounds : List Round) (offer : MadeOffer) (ask : AnswerAsk) → LastFor offer last.now → ReadsAnswer sdp.now rounds ask →
         result ≡ (section_count ask.sdp == section_count offer.ask.sdp) }
+    ensures same { result ≡ true → AnswersSections last.now sdp.now }
 {
     sdp.section_count() == last.count
 }
@@ -111,9 +114,10 @@ fn fault_of_answer_to(
     options: &Options,
     sdp: &Sdp,
 ) -> Option<OaFault>
-    ensures { (config : Config) (rounds : List Round) (offer : MadeOffer) (ask : AnswerAsk) → DialogFor config dialog.now rounds →
+    ensures fault { (config : Config) (rounds : List Round) (offer : MadeOffer) (ask : AnswerAsk) → DialogFor config dialog.now rounds →
         IsLast rounds offer last.now → ask.from_tag ≡ from_tag.now → options.now ≡ ask.options → ReadsAnswer sdp.now rounds ask →
         fault_of_answer_to rounds offer ask ≡ fault_code result }
+    ensures same { IfNone result (AnswersSections last.now sdp.now) }
 {
     if !is_offerers(last, from_tag) {
         return Some(OaFault::OtherSide);
@@ -141,6 +145,8 @@ fn answered_offer<'a>(
     ensures offer { (config : Config) (rounds : List Round) (ask : AnswerAsk) → DialogFor config dialog.now rounds →
         AsksAnswer input.now sdp.now rounds ask →
         IfOk result (λ last. (answer_fault rounds ask ≡ None) × ((offer : MadeOffer) × IsLast rounds offer last.now)) }
+    ensures kept { IfOk result (λ last. dialog.now.last_offer ≡ Some last.now) }
+    ensures same { IfOk result (λ last. AnswersSections last.now sdp.now) }
 {
     let from_tag = input.from_tag.as_slice();
     if !are_known(dialog, from_tag, input.to_tag.as_slice()) {
@@ -168,6 +174,7 @@ pub fn answer(
         AnswerAnswered config.now rounds ask sdp.now result }
     ensures shapes { IfOk result (λ plan. AnswerShapes plan dialog.now plan.next) }
     ensures writes { IfOk result (λ plan. WritesFrom plan sdp.now) }
+    ensures counts { IfOk result (λ plan. AnswerCounts plan dialog.now) }
 {
     let last = answered_offer(dialog, input, sdp)?;
     let next = next_of_answer(alloc, dialog, last, input, sdp)?;

@@ -12,7 +12,8 @@ ghost use Rattle.offer_answer.specs.PortsAndKeys.{AreDemandedLegs, FilledFor};
 ghost use Rattle.offer_answer.specs.Answers.{IsLast, AnsweredFor};
 ghost use Rattle.offer_answer.specs.Plans.{OfferFilled, AnswerNext};
 ghost use Rattle.offer_answer.specs.AnswerShapes.{ShapeAnswered, AnswerShapes};
-ghost use Rattle.offer_answer.specs.Shapes.{shape_of, shape_offered, FilledShapes};
+ghost use Rattle.offer_answer.specs.Shapes.{shape_of, shape_offered, offered_count, FilledShapes};
+ghost use Rattle.offer_answer.specs.OfferPlaces.{TakesCounts};
 
 use crate::last_offer::{LastOffer, OfferedNext};
 use crate::leg::DialogSection;
@@ -141,6 +142,8 @@ impl Dialog {
             DialogFor config self.old rounds → Awaits self.old ask.from_tag → FilledFor config rounds ask ports keys next →
             AreDemandedLegs config rounds ask ports legs → DialogFor config self.new (Offered ask legs keys ∷ rounds) }
         ensures sections { self.new.sections ≡ next.sections }
+        ensures offered { offered_count self.new ≡ next.last.count }
+        ensures committed { self.new.committed_count ≡ self.old.committed_count }
     {
         let OfferedNext { last, sections } = next;
         self.is_begun = true;
@@ -158,8 +161,9 @@ impl Dialog {
 
     /// The last offer, where there is one.
     pub(crate) fn last_offer(&self) -> Option<&LastOffer>
-        ensures { (config : Config) (rounds : List Round) → DialogFor config self.now rounds →
+        ensures stands { (config : Config) (rounds : List Round) → DialogFor config self.now rounds →
             MatchOption result (last_offer rounds ≡ None) (λ last. (offer : MadeOffer) × IsLast rounds offer last.now) }
+        ensures kept { MatchOption result (self.now.last_offer ≡ None) (λ last. self.now.last_offer ≡ Some last.now) }
     {
         match &self.last_offer {
             Some(last) => Some(last),
@@ -181,6 +185,8 @@ impl Dialog {
         ensures sections { self.new.sections ≡ next.sections }
         ensures stands { (config : Config) (rounds : List Round) (ask : AnswerAsk) → DialogFor config self.old rounds → AnsweredFor config rounds ask next →
             DialogFor config self.new (Answered ask ∷ rounds) }
+        ensures offered { self.new.last_offer ≡ self.old.last_offer }
+        ensures committed { self.new.committed_count ≡ next.count }
     {
         let AnsweredNext {
             to_tag,
@@ -204,6 +210,7 @@ impl Dialog {
             (section : ℕ) → section < 8 → shape_of self.new section ≡ shape_offered made ports keys section (shape_of self.old section) }
         ensures answered_shapes { (made : Plan) → AnswerShapes made self.old plan.next →
             (section : ℕ) → section < 8 → ShapeAnswered (slice_get made.signal section) (shape_of self.old section) (shape_of self.new section) }
+        ensures counts { TakesCounts self.old plan.next self.new }
     {
         match plan.into_next() {
             Next::Offer(next) => self.apply_offer(next),

@@ -136,6 +136,7 @@ pub(crate) fn next_of_answer(
         NextShape (refuses_section last.now sdp.now section (shape_of dialog.now section)) dialog.now last.now sdp.now section (shape_in next.sections section)) }
     ensures next { (config : Config) (rounds : List Round) (offer : MadeOffer) (ask : AnswerAsk) → DialogFor config dialog.now rounds →
         IsLast rounds offer last.now → AsksAnswer input.now sdp.now rounds ask → IfOk result (AnsweredFor config rounds ask) }
+    ensures count { IfOk result (λ next. next.count ≡ last.now.count) }
 {
     let Ok(to_tag) = Text::copy_of(alloc, input.to_tag.as_slice()) else {
         return Err(OutOfMemory);

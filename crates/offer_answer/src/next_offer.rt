@@ -1,7 +1,8 @@
 //! What a dialog becomes by an offer, before its pairs are leased and its keys drawn.
 
-ghost use Rattle.std.specs.Prelude.{◌≡◌, ◌≤◌, ◌<◌, ◌||◌, ◌∷◌, ◌&&◌, ℕ, List, [], IfOk, Some, not, if◌then◌else◌, slice_index_or};
+ghost use Rattle.std.specs.Prelude.{◌≡◌, ◌≤◌, ◌<◌, ◌||◌, ◌∷◌, ◌&&◌, ℕ, List, [], length, IfOk, Some, not, if◌then◌else◌, slice_index_or};
 ghost use Rattle.relay_outside.specs.declared.settings.Config.{Config};
+ghost use Rattle.sdp_text.specs.Descriptions.{sections_in};
 ghost use Rattle.offer_answer.specs.Rounds.{Round, Offered, OfferAsk};
 ghost use Rattle.offer_answer.specs.Sides.{offerer};
 ghost use Rattle.offer_answer.specs.Sections.{is_active};
@@ -161,6 +162,7 @@ pub(crate) fn next_of_offer(
         side ≡ offerer rounds ask → IfOk result (λ next. NextFor config rounds ask [] [] next) }
     ensures shapes { IfOk result (λ next. (section : ℕ) → section < 8 →
         shape_in next.sections section ≡ shape_after (is_active_at sdp.now section) (shape_of dialog.now section)) }
+    ensures count { IfOk result (λ next. next.last.count ≡ length (sections_in sdp.now)) }
 {
     let Ok(from_tag) = Text::copy_of(alloc, input.from_tag.as_slice()) else {
         return Err(OutOfMemory);

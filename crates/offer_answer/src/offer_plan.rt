@@ -1,11 +1,11 @@
 //! How an offer is judged, and what it demands.
 
-ghost use Rattle.std.specs.Prelude.{◌≡◌, ◌<◌, ◌&&◌, ◌++◌, ◌∷◌, [], ◌≤◌, ℕ, List, Bool, Option, Some, None, length, map, filter, OnOk, IfOk, slice_index_or, false, not};
+ghost use Rattle.std.specs.Prelude.{◌≡◌, ◌<◌, ◌&&◌, ◌++◌, ◌∷◌, [], ◌≤◌, ℕ, List, Bool, Option, Some, None, length, map, filter, OnOk, IfOk, IfNone, slice_index_or, true, false, not};
 ghost use Rattle.std.specs.List.{list_any};
-ghost use Rattle.histories.specs.Words.{has};
+ghost use Rattle.histories.specs.Words.{In, has};
 ghost use Rattle.relay_outside.specs.declared.settings.Config.{Config};
 ghost use Rattle.sdp_text.specs.Descriptions.{sections_in};
-ghost use Rattle.offer_answer.specs.Rounds.{Round, OfferAsk};
+ghost use Rattle.offer_answer.specs.Rounds.{Round, OfferAsk, KeyPlace};
 ghost use Rattle.offer_answer.specs.Sides.{is_tag_of, is_some_sides, offerer};
 ghost use Rattle.offer_answer.specs.Sections.{active_sections, is_active_in};
 ghost use Rattle.offer_answer.specs.Demands.{new_legs, new_keys, is_dropped, dropped_sections};
@@ -17,6 +17,7 @@ ghost use Rattle.offer_answer.specs.Texts.{interface_host};
 ghost use Rattle.offer_answer.specs.Edits.{IsEditReserved, widest_len};
 ghost use Rattle.offer_answer.specs.Widths.{WritesFrom};
 ghost use Rattle.offer_answer.specs.Shapes.{shape_of, is_active_at, is_dropped_from, is_demanded, OfferShapes};
+ghost use Rattle.offer_answer.specs.OfferPlaces.{ArePairsOfSections, AreKeysOfLegs, AsksKey, OfferPlaces, offered_count_after};
 ghost use Rattle.offer_answer.specs.Offers.{ReadsOffer, AsksOffer, leg_asked, key_asked, fault_code};
 
 use crate::dialog::Dialog;
@@ -95,8 +96,9 @@ fn misfits(dialog: &Dialog, options: &Options, sdp: &Sdp, side: Side) -> bool
 
 /// The first fault of an offer.
 fn fault_of(dialog: &Dialog, input: &OfferIn, sdp: &Sdp) -> Option<OaFault>
-    ensures { (config : Config) (rounds : List Round) (ask : OfferAsk) → DialogFor config dialog.now rounds → AsksOffer input.now sdp.now ask →
+    ensures fault { (config : Config) (rounds : List Round) (ask : OfferAsk) → DialogFor config dialog.now rounds → AsksOffer input.now sdp.now ask →
         offer_fault rounds ask ≡ fault_code result }
+    ensures enough { IfNone result (dialog.now.committed_count ≤ length (sections_in sdp.now)) }
 {
     if is_strangers(dialog, input.from_tag.as_slice()) {
         return Some(OaFault::UnknownTag);
@@ -126,6 +128,7 @@ fn demanded_legs(
         options.now ≡ ask.options → side ≡ offerer rounds ask → IfOk result (λ legs. map leg_asked legs.items ≡ new_legs rounds ask) }
     ensures sections { IfOk result (λ legs. (section : ℕ) →
         is_demanded (map leg_asked legs.items) section ≡ (is_active_at sdp.now section && not (shape_of dialog.now section).has_pairs)) }
+    ensures pairs { IfOk result (λ legs. ArePairsOfSections (map leg_asked legs.items)) }
 {
     let mut legs = Vec::new(alloc);
     for index in 0..sdp.section_count() {
@@ -143,8 +146,10 @@ fn demanded_keys(
     transport: Option<Proto>,
     side: Side,
 ) -> Result<Vec<(u8, Side, Suite)>, OutOfMemory>
-    ensures { (config : Config) (rounds : List Round) (ask : OfferAsk) → DialogFor config dialog.now rounds → ReadsOffer sdp.now ask →
+    ensures keys { (config : Config) (rounds : List Round) (ask : OfferAsk) → DialogFor config dialog.now rounds → ReadsOffer sdp.now ask →
         transport ≡ ask.options.transport → side ≡ offerer rounds ask → IfOk result (λ keys. map key_asked keys.items ≡ new_keys rounds ask) }
+    ensures places { IfOk result (λ keys. AreKeysOfLegs (map key_asked keys.items)) }
+    ensures asked { IfOk result (λ keys. (key : KeyPlace) → In key (map key_asked keys.items) → AsksKey sdp.now dialog.now key) }
 {
     let mut keys = Vec::new(alloc);
     for index in 0..sdp.section_count() {
@@ -168,6 +173,7 @@ fn dropped(dialog: &Dialog, sdp: &Sdp) -> [bool; MOST_SECTIONS]
         (section : ℕ) → slice_index_or result section false ≡ has (dropped_sections rounds ask) section }
     ensures shapes { (section : ℕ) → section < 8 →
         slice_index_or result section false ≡ is_dropped_from (is_active_at sdp.now section) (shape_of dialog.now section) }
+    ensures within { (section : ℕ) → slice_index_or result section false ≡ true → section < 8 }
 {
     [
         is_dropped(dialog, sdp, 0),
@@ -214,6 +220,8 @@ pub fn offer(
         OfferAnswered config.now rounds ask result }
     ensures shapes { IfOk result (λ plan. OfferShapes plan dialog.now plan.next) }
     ensures writes { IfOk result (λ plan. WritesFrom plan sdp.now) }
+    ensures counted { IfOk result (λ plan. offered_count_after dialog.now plan.next ≡ length (sections_in sdp.now)) }
+    ensures places { IfOk result (λ plan. OfferPlaces plan dialog.now) }
 {
     if let Some(fault) = fault_of(dialog, input, sdp) {
         return Err(fault);

@@ -13,6 +13,7 @@ ghost use Rattle.offer_answer.specs.Plans.{OfferNext, OfferFilled, OfferPlan, An
 ghost use Rattle.offer_answer.specs.Nexts.{numbered_keys};
 ghost use Rattle.offer_answer.specs.Widths.{KeepsOffer, WritesNext, WritesFrom};
 ghost use Rattle.offer_answer.specs.AnswerShapes.{AnswerShapes};
+ghost use Rattle.offer_answer.specs.OfferPlaces.{OfferPlaces, AnswerCounts, SameCounts};
 ghost use Rattle.offer_answer.specs.Shapes.{OfferShapes, FilledShapes, SamePlaces, keys_demanded};
 ghost use Rattle.offer_answer.specs.declared.dialog.Dialog.{Dialog};
 
@@ -215,6 +216,9 @@ impl Plan {
             FilledShapes self.old dialog ports.now (numbered_keys first_key keys.now (keys_demanded self.old)) self.new.next }
         ensures within { length out.new.list ≤ length out.old.list + self.old.reply_len }
         ensures spare { length out.old.list + out.old.spare ≤ length out.new.list + out.new.spare }
+        ensures counts { SameCounts self.old.next self.new.next }
+        ensures places { (dialog : Dialog) → OfferPlaces self.old dialog → OfferPlaces self.new dialog }
+        ensures answer_counts { (dialog : Dialog) → AnswerCounts self.old dialog → AnswerCounts self.new dialog }
     {
         self.put(ports, first_key, keys);
         self.write(sdp, out);

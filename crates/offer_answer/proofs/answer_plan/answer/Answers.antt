@@ -1,6 +1,7 @@
-use Rattle.std.proofs.Common.{map, ap}
+use Rattle.std.proofs.Common.{◌≤◌, Option, None, Some, refl, map, ap, sym, ◌∙◌, subst}
 use Rattle.std.proofs.lemmas.Result.{err_from_is_err_and}
 use Rattle.offer_answer.specs.Offers.{leg_asked, key_asked}
+use Rattle.offer_answer.specs.declared.last_offer.LastOffer.{LastOffer}
 use Rattle.offer_answer.proofs.Kept.{none-set}
 use Rattle.offer_answer.proofs.AnswerShapes.{answers}
 use Rattle.offer_answer.proofs.answer_plan.answer.Goals as goal
@@ -32,3 +33,14 @@ pub returns-clause-shapes : goal.returns-clause-shapes
 returns-clause-shapes c =
     answers c.args.dialog.now c.in_ok-last.last.now c.args.sdp.now c.in_ok-next.next.sections c.in_ok-signal.signal
     c.in_ok-next.ensures.shapes c.in_ok-signal.ensures.count c.in_ok-signal.ensures.shapes
+
+pub returns-clause-counts : goal.returns-clause-counts
+returns-clause-counts c =
+    let same = c.in_ok-last.ensures.same in
+    let offered = sym (ap (λ (o : Option LastOffer). elim o [ None ↦ 0 | Some last ↦ last.count ]) c.in_ok-last.ensures.kept) in
+    record {
+      signal_is = c.in_ok-signal.ensures.count ∙ same.count_is ∙ offered;
+      most = subst (λ n. n ≤ 8) offered same.most;
+      offered_is = refl;
+      committed_is = c.in_ok-next.ensures.count ∙ offered;
+    }

@@ -5,6 +5,7 @@ use Rattle.offer_answer.specs.Shapes.{shape_of, is_active_at}
 use Rattle.offer_answer.specs.declared.leg.DialogSection.{DialogSection}
 use Rattle.offer_answer.proofs.Offering.{count-heard, legs_left, legs-gathered, legs-are, legs-begin, legs-end}
 use Rattle.offer_answer.proofs.Shapes.{demanded-none, demanded-more, demanded-all}
+use Rattle.offer_answer.proofs.Places.{legs-none, legs-more, legs-all}
 use Rattle.offer_answer.proofs.offer_plan.demanded_legs.Goals as goal
 
 pub loop-index-init : goal.loop-index-init
@@ -12,6 +13,7 @@ loop-index-init c = record {
   legs = λ config rounds ask s h t e.
       ap (λ xs. map leg_asked xs ++ legs_left rounds ask 0 (section_count ask.sdp)) c.new-legs.ensures.items ∙ legs-begin rounds ask;
   sections = demanded-none _ _ c.new-legs.ensures.items;
+  pairs = legs-none _ c.new-legs.ensures.items;
 }
 
 pub loop-index-preserved : goal.loop-index-preserved
@@ -32,6 +34,9 @@ loop-index-preserved c = record {
       (ap (λ b. b && not o.kept.has_pairs) c.offered_section-offered.ensures.active
       ∙ ap (λ (d : DialogSection). is_active_at c.args.sdp.now i && not d.has_pairs) c.offered_section-offered.ensures.kept)
       c.loop-index.invariant.sections;
+  pairs =
+      legs-more c.offered_section-offered.result c.args.options.now c.loop-index.index c.args.side c.loop-index.legs.items c.push_legs.new.legs.items
+      (omega (arith, c.loop-index-test.true, c.section_count-index-end.ensures.most)) c.in_ok-push_legs.ensures c.loop-index.invariant.pairs;
 }
 
 pub returns-clause-legs : goal.returns-clause-legs
@@ -43,3 +48,6 @@ pub returns-clause-sections : goal.returns-clause-sections
 returns-clause-sections c = λ section.
     demanded-all c.args.sdp.now (λ k. not (shape_of c.args.dialog.now k).has_pairs) c.loop-index.index c.loop-index.legs.items section
     (omega (arith, c.loop-index-test.false, c.section_count-index-end.ensures.count)) c.loop-index.invariant.sections
+
+pub returns-clause-pairs : goal.returns-clause-pairs
+returns-clause-pairs c = legs-all c.loop-index.index c.loop-index.legs.items c.loop-index.invariant.pairs

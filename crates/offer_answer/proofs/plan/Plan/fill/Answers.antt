@@ -1,13 +1,15 @@
 use Rattle.std.proofs.Common.{ap, sym, subst, ◌∙◌}
 use Rattle.offer_answer.specs.Plan.{demand}
-use Rattle.offer_answer.specs.Offers.{PlanFor}
+use Rattle.offer_answer.specs.Offers.{PlanFor, legs_demanded}
 use Rattle.offer_answer.specs.Nexts.{numbered_keys}
 use Rattle.offer_answer.specs.Plans.{OfferFilled}
 use Rattle.offer_answer.specs.Widths.{WritesNext}
 use Rattle.offer_answer.specs.declared.plan.Plan.{Plan}
 use Rattle.offer_answer.specs.AnswerShapes.{AnswerShapes}
-use Rattle.offer_answer.specs.Shapes.{FilledShapes}
+use Rattle.offer_answer.specs.Shapes.{FilledShapes, keys_demanded}
+use Rattle.offer_answer.specs.OfferPlaces.{SameCounts}
 use Rattle.offer_answer.proofs.Kept.{kept-writes}
+use Rattle.offer_answer.proofs.PlacesKept.{kept-counts, same-places, same-answer-counts}
 use Rattle.offer_answer.proofs.plan.Plan.fill.Goals as goal
 
 pub write-requires-clause-made : goal.write-requires-clause-made
@@ -36,3 +38,22 @@ returns-clause-shapes c = λ dialog s.
 
 pub returns-clause-answered_shapes : goal.returns-clause-answered_shapes
 returns-clause-answered_shapes c = λ dialog s. subst (AnswerShapes c.args.self.now dialog) (sym c.write.ensures.next) (c.put.ensures.answered_shapes dialog s)
+
+pub returns-clause-counts : goal.returns-clause-counts
+returns-clause-counts c = subst (SameCounts c.args.self.now.next) (sym c.write.ensures.next) (kept-counts c.args.self.now.next c.put.new.self.next c.put.ensures.kept)
+
+pub returns-clause-places : goal.returns-clause-places
+returns-clause-places c = λ dialog.
+    same-places c.args.self.now c.write.new.self dialog
+    (record {
+      pairs_are = ap legs_demanded c.write.ensures.rest ∙ ap legs_demanded c.put.ensures.rest;
+      keys_are = ap keys_demanded c.write.ensures.rest ∙ ap keys_demanded c.put.ensures.rest;
+      drops_are = ap (λ (plan : Plan). plan.dropped) c.write.ensures.rest ∙ ap (λ (plan : Plan). plan.dropped) c.put.ensures.rest;
+    })
+    (subst (SameCounts c.args.self.now.next) (sym c.write.ensures.next) (kept-counts c.args.self.now.next c.put.new.self.next c.put.ensures.kept))
+
+pub returns-clause-answer_counts : goal.returns-clause-answer_counts
+returns-clause-answer_counts c = λ dialog.
+    same-answer-counts c.args.self.now c.write.new.self dialog
+    (c.write.ensures.signal ∙ ap (λ (plan : Plan). plan.signal) c.put.ensures.rest)
+    (subst (SameCounts c.args.self.now.next) (sym c.write.ensures.next) (kept-counts c.args.self.now.next c.put.new.self.next c.put.ensures.kept))
