@@ -51,3 +51,6 @@ pub mod Shaped
 pub mod TakenFirst
 pub mod Moved
 pub mod SavedLegs
+pub mod LeftOf
+pub mod GivenEnds
+pub mod ListedEnds

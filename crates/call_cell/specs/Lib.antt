@@ -23,3 +23,4 @@ pub mod Numbers
 pub mod Shapes
 pub mod TakenEnds
 pub mod SavedCells
+pub mod GivenEnds

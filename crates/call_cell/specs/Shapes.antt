@@ -1,7 +1,8 @@
--- The shape of a cell, and what each call makes of it, whatever the cell's history: the call, whether an answer committed it, and of
--- each leg, in lease order, its holder, its lease, whether it has its out ends, whether an answer committed it, and the numbers of
--- its keys.
+-- The shape of a cell, and what each call makes of it, whatever the cell's history: its configuration, the call, whether an answer
+-- committed it, and of each leg, in lease order, its holder, its lease, whether it has its out ends, whether an answer committed it,
+-- and the numbers of its keys.
 use Rattle.std.specs.Prelude.{◌≡◌, ◌<◌, ◌≤◌, ℕ, ◌&&◌, ◌||◌, ◌==◌, not, Bool, true, false, List, [], ◌∷◌, ◌++◌, map, filter, filter_map, length, Option, Some, None, is_some, slice_index_or, if◌then◌else◌}
+use Rattle.relay_outside.specs.declared.settings.Config.{Config}
 use Rattle.sdes_lines.specs.declared.crypto_line.Suite.{Suite}
 use Rattle.sdes_lines.specs.declared.crypto_line.Suite.TheVariants.{Tag80, Tag32}
 use Rattle.histories.specs.Words.{In, or_else}
@@ -39,12 +40,13 @@ abbrev pub cell_leg_shapes : {O : Type 0} → List (Leg O) → List CellLegShape
 cell_leg_shapes {O} those = map (λ (leg : Leg O). cell_leg_shape leg) those
 
 pub record CellShape : Type 0 where
+  pub config : Config
   pub call : Option ℕ
   pub is_committed : Bool
   pub legs : List CellLegShape
 
 abbrev pub cell_shape : {O : Type 0} → Cell O → CellShape
-cell_shape cell = record { call = cell.call; is_committed = cell.is_committed; legs = cell_leg_shapes cell.legs.items }
+cell_shape cell = record { config = cell.config; call = cell.call; is_committed = cell.is_committed; legs = cell_leg_shapes cell.legs.items }
 
 -- An offer.
 
@@ -73,6 +75,7 @@ with_prepared (key ∷ keys) legs = key_number_at key.section key.side key.suite
 -- the cell holds the call, if it held none; the legs of the sections with a flag went, the new ones came, and the keys came to them
 abbrev pub offered_shape : List Bool → List CellLegShape → List NewKey → (call : ℕ) → CellShape → CellShape
 offered_shape flags new keys call shape = record {
+  config = shape.config;
   call = or_else shape.call (Some call);
   is_committed = shape.is_committed;
   legs = with_key_numbers keys (filter (λ leg. not (slice_index_or flags leg.holder.section false)) shape.legs ++ new);
@@ -86,6 +89,7 @@ answered_leg signal leg = record leg { is_committed = is_some (said_of signal le
 -- the legs of rejected sections went, and those of which it says something are committed
 abbrev pub answered_shape : List SectionSignal → CellShape → CellShape
 answered_shape signal shape = record {
+  config = shape.config;
   call = shape.call;
   is_committed = true;
   legs = map (answered_leg signal) (filter (λ leg. not (is_rejected signal leg.holder.section)) shape.legs);
@@ -93,8 +97,9 @@ answered_shape signal shape = record {
 
 -- An end.
 
-abbrev pub ended_shape : CellShape
-ended_shape = record { call = None; is_committed = false; legs = [] }
+-- a cell that holds no call
+abbrev pub ended_shape : Config → CellShape
+ended_shape config = record { config = config; call = None; is_committed = false; legs = [] }
 
 -- Legs that go.
 

@@ -1,4 +1,4 @@
-ghost use Rattle.std.specs.Prelude.{ℕ, ◌≡◌, ◌≤◌, ◌<◌, ◌+◌, true, false, [], List, filter_map, slice_index_or, IfOk, Some, is_some, if◌then◌else◌};
+ghost use Rattle.std.specs.Prelude.{ℕ, ◌≡◌, ◌≤◌, ◌<◌, ◌+◌, true, false, [], List, filter_map, slice_index_or, IfOk, IfErr, IfSome, IsSome, Some, is_some, if◌then◌else◌};
 ghost use Rattle.relay_outside.specs.declared.settings.Config.{Config};
 ghost use Rattle.histories.specs.Words.{or_else};
 ghost use Rattle.call_cell.specs.Cells.{CellEntry, since_end, is_accepted};
@@ -9,10 +9,12 @@ ghost use Rattle.call_cell.specs.Expiries.{is_ago};
 ghost use Rattle.call_cell.specs.Shapes.{cell_leg_shapes};
 
 use crate::dropped_legs::part;
+use crate::given_ends::give_ends;
 use crate::gone::Gone;
 use crate::in_contexts::InContexts;
 use crate::leg::{Leg, place_of, place_of_opposite};
 use crate::leg_reports::tell_legs;
+use crate::loading::load_legs;
 use crate::new_legs::{join, put_keys};
 use crate::outcome::{Incoming, Lost, Outcome, PacketBuffer, Refused};
 use crate::prepare::Prepare;
@@ -133,6 +135,7 @@ impl<O> Cell<O> {
     ghost use Rattle.call_cell.specs.Expiries.{due_by};
     ghost use Rattle.call_cell.specs.TakenEnds.{TakesEnds};
     ghost use Rattle.call_cell.specs.SavedCells.{AreEmptied, SavesCell};
+    ghost use Rattle.call_cell.specs.GivenEnds.{HasEndsFor, GivesEnds};
 
     /// Whether the call is due to end at the cell's last moment.
     /// An answer that rejects every section commits the call, too. A call begins, for its timeout, at the first entry in its
@@ -179,6 +182,42 @@ impl<O> Cell<O> {
             active,
             legs,
         })
+    }
+
+    /// The cell that was saved so, with out ends from the list: each leg is given the first that are left there of the address of
+    /// its port for RTP, which leave the list; the others stay in their order. Each record is some cell's, so there always is one.
+    /// For want of memory all is let go but the list, which stays as it was.
+    pub fn from_saved(
+        alloc: Global,
+        saved: CellSaved,
+        ends: &mut Vec<(Addr, O, O)>,
+    ) -> Result<Option<Cell<O>>, OutOfMemory>
+        requires { HasEndsFor saved.config saved.legs.items ends.old.items }
+        ensures loaded { IfOk result (λ r. IfSome r (λ cell. SavesCell cell saved)) }
+        ensures gives { IfOk result (λ r. IfSome r (λ cell. GivesEnds saved.config cell.legs.items ends.old.items ends.new.items)) }
+        ensures always { IfOk result IsSome }
+        ensures kept { IfErr result (λ cause. ends.new ≡ ends.old) }
+    {
+        let CellSaved {
+            config,
+            moment,
+            call,
+            began,
+            is_committed,
+            active,
+            legs,
+        } = saved;
+        let mut legs = load_legs(alloc, legs)?;
+        give_ends(legs.as_mut_slice(), &config, ends);
+        Ok(Some(Cell {
+            config,
+            moment,
+            call,
+            began,
+            is_committed,
+            active,
+            legs,
+        }))
     }
 }
 
@@ -291,7 +330,7 @@ impl<O: OutEnd> Cell<O> {
     /// Ends the call: all its legs go to `gone`, which is empty. It takes no memory.
     pub fn end(&mut self, gone: &mut Gone<O>)
         requires empty { gone.old ≡ [] }
-        ensures shape { IsSmall (cell_leg_shapes self.old.legs.items) → cell_shape self.new ≡ ended_shape }
+        ensures shape { IsSmall (cell_leg_shapes self.old.legs.items) → cell_shape self.new ≡ ended_shape self.old.config }
         ensures legs { IsSmall (cell_leg_shapes self.old.legs.items) → gone.new ≡ filter_map (λ leg. parts_of leg) self.old.legs.items }
         ensures ends { (config : Config) (h : List CellEntry) → CellFor config self.old h → CellEnds config self.old self.new h gone.new }
     {

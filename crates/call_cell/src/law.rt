@@ -1,4 +1,4 @@
-ghost use Rattle.std.specs.Prelude.{◌≡◌, ℕ, Bool, List, Option, Some, None, IsSome};
+ghost use Rattle.std.specs.Prelude.{◌≡◌, ℕ, Bool, List, [], map, Option, Some, None, IsSome};
 ghost use Rattle.relay_outside.specs.declared.settings.Config.{Config};
 ghost use Rattle.histories.specs.Words.{In};
 ghost use Rattle.port_pool.specs.declared.signal.SectionSignal.{SectionSignal};
@@ -11,7 +11,9 @@ ghost use Rattle.call_cell.specs.declared.cell.Cell.{Cell};
 ghost use Rattle.call_cell.specs.Shapes.{IsSmall, cell_leg_shapes};
 ghost use Rattle.relay_outside.specs.declared.address.Addr.{Addr};
 ghost use Rattle.call_cell.specs.declared.saved.CellSaved.{CellSaved};
-ghost use Rattle.call_cell.specs.SavedCells.{SavesCell};
+ghost use Rattle.call_cell.specs.declared.saved.LegSaved.{LegSaved};
+ghost use Rattle.call_cell.specs.SavedCells.{SavesCell, AreEmptied};
+ghost use Rattle.call_cell.specs.GivenEnds.{HasEndsFor, GivesEnds, ends_with_addresses};
 ghost use Rattle.call_cell.specs.TakenEnds.{TakesEnds, leased_address};
 ghost use Rattle.call_cell.specs.Cells.{CellEntry, Receipt, Shield, since_end, key_numbered};
 ghost use Rattle.call_cell.specs.Protection.{protected};
@@ -42,12 +44,27 @@ pub fn legs_are_few<O>()
         leased_address cell.config leg.lease ≡ port_address config leg.holder.pair Rtp }
 {}
 
-/// Theorem (no run-time code): what is saved as a cell was stands for each history for which that stood, once it has its ends; and a
-/// cell is saved as before its ends were taken.
+/// Theorem (no run-time code): what is saved as a cell was stands for each history for which that stood, once it has its ends, and so
+/// does a cell that was loaded; a cell is saved as before its ends were taken, and has none once it gives none.
 pub fn saved_cells_stand<O>()
     ensures moves { (config : Config) (a b : Cell O) (saved : CellSaved) (h : List CellEntry) → SavesCell a saved → SavesCell b saved →
         ((leg : Leg O) → In leg b.legs.items → IsSome leg.sending.ends) → CellFor config a h → CellFor config b h }
     ensures taken { (old new : Cell O) (taken : Option (Addr × O × O)) (saved : CellSaved) → TakesEnds old new taken → SavesCell new saved → SavesCell old saved }
+    ensures loaded { (config : Config) (old new : Cell O) (saved : CellSaved) (ends left : List (Addr × O × O)) (h : List CellEntry) → SavesCell old saved →
+        SavesCell new saved → GivesEnds saved.config new.legs.items ends left → CellFor config old h → CellFor config new h }
+    ensures emptied { (old new : Cell O) → TakesEnds old new None → AreEmptied new.legs.items }
+{}
+
+/// Theorem (no run-time code): ends that are listed in the order of the legs by their addresses are enough for them, and each leg gets
+/// its own of them; and whatever the list was, the ends that a leg got stood there with the address of its port.
+pub fn listed_ends_are_given<O>()
+    ensures room { (config : Config) (saved : List LegSaved) (those : List (Addr × O × O)) →
+        map (λ (e : Addr × O × O). e.0) those ≡ map (λ (leg : LegSaved). leased_address config leg.lease) saved → HasEndsFor config saved those }
+    ensures order { (config : Config) (those : List (Leg O)) (ends left : List (Addr × O × O)) →
+        map (λ (e : Addr × O × O). e.0) ends ≡ map (λ (leg : Leg O). leased_address config leg.lease) those → GivesEnds config those ends left →
+        (ends_with_addresses config those ≡ ends) × (left ≡ []) }
+    ensures stood { (config : Config) (those : List (Leg O)) (ends left : List (Addr × O × O)) (leg : Leg O) (own : O × O) → GivesEnds config those ends left →
+        In leg those → leg.sending.ends ≡ Some own → In (leased_address config leg.lease, own.0, own.1) ends }
 {}
 
 /// Theorem (no run-time code): how many inbound contexts an answer makes in a cell is said by its history.

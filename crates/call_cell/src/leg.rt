@@ -14,6 +14,7 @@ ghost use Rattle.call_cell.specs.CellEnds.{parts_of};
 ghost use Rattle.call_cell.specs.SavedCells.{saved_leg};
 ghost use Rattle.call_cell.specs.Shapes.{cell_leg_shape};
 ghost use Rattle.call_cell.specs.TakenEnds.{leased_address, ends_by_address, without_ends};
+ghost use Rattle.call_cell.specs.GivenEnds.{with_given_ends};
 
 use crate::contexts::Outbound;
 use crate::counts::Counts;
@@ -25,10 +26,11 @@ use crate::saved::LegSaved;
 use crate::sender::Sending;
 use endpoint_learn::Learner;
 use port_pool::{Holder, Lease, LegReport, LegSignal, Side};
-use relay_outside::{Addr, Config, OutEnd};
+use relay_outside::{Addr, Config, OutEnd, OutOfMemory};
 use rtcp_reports::{Block, last_block};
 use rtp_packet::Half;
 use sdes_lines::Suite;
+use std::alloc::Global;
 
 /// One leg of the cell's call.
 #[derive(Drop)]
@@ -220,6 +222,49 @@ impl<O> Leg<O> {
             counts,
             report,
         }
+    }
+
+    /// The leg that was saved so, without its out ends.
+    pub(crate) fn from_saved(alloc: Global, saved: LegSaved) -> Result<Leg<O>, OutOfMemory>
+        ensures saved { IfOk result (λ leg. saved_leg leg ≡ saved) }
+        ensures emptied { IfOk result (λ leg. leg.sending.ends ≡ None) }
+    {
+        let LegSaved {
+            holder,
+            lease,
+            signal,
+            rtp,
+            rtcp,
+            inbound,
+            tag80,
+            tag32,
+            counts,
+            report,
+        } = saved;
+        Ok(Leg {
+            holder,
+            lease,
+            signal,
+            receiving: Receiving::from_saved(alloc, rtp, rtcp, inbound)?,
+            sending: Sending::from_saved(alloc, tag80, tag32)?,
+            counts,
+            report,
+        })
+    }
+
+    /// The address of the leg's port for RTP.
+    pub(crate) fn address(&self, config: &Config) -> Addr
+        ensures { result ≡ leased_address config.now self.now.lease }
+    {
+        leased_address(config, &self.lease)
+    }
+
+    /// Takes out ends for RTP and for RTCP, where it has none.
+    pub(crate) fn put_ends(&mut self, rtp: O, rtcp: O)
+        requires { self.old.sending.ends ≡ None }
+        ensures { self.new ≡ with_given_ends self.old (rtp, rtcp) }
+    {
+        self.sending.put_ends(rtp, rtcp);
     }
 
     /// What was committed last, and a half's learner, which knows where its packets go.

@@ -5,7 +5,7 @@
 //! `leg_reports` tells of the legs that are committed; `gone` takes the legs that went. An offer is collected by `prepare`, and
 //! `new_legs` brings its legs and keys to those that are there; `in_contexts` is room for what an answer brings, `signals` reads
 //! what it says, and `dropped_legs` parts the legs that go from those that stay; `taken_ends` takes the out ends out of a cell that
-//! is saved. Module `outcome` says what becomes of a packet that a
+//! is saved by `saving`, and `given_ends` gives out ends to one that is loaded by `loading`. Module `outcome` says what becomes of a packet that a
 //! leg received, `law` that no packet is protected under an index that another had, and what a caller knows of a cell by its
 //! history; that what it knows of one history holds of each for which the cell stands.
 //!
@@ -16,7 +16,7 @@
 //! what a relay does to it, `specs/Preparations.antt`, `specs/Commits.antt`, `specs/Expiries.antt` and `specs/CellEnds.antt` the
 //! same of offers, answers, the question whether the call is due, and its end, `specs/LegReports.antt` of reports; they stand over
 //! `specs/LegHistories.antt` for legs, `specs/LegKeys.antt` for their keys, `specs/Counts.antt` for their counts,
-//! `specs/DroppedLegs.antt` for legs that go, `specs/TakenEnds.antt` for ends that are taken, `specs/Parts.antt` for the parts of a leg, `specs/Contexts.antt` for the contexts of
+//! `specs/DroppedLegs.antt` for legs that go, `specs/TakenEnds.antt` for ends that are taken, `specs/GivenEnds.antt` for ends that are given again, `specs/Parts.antt` for the parts of a leg, `specs/Contexts.antt` for the contexts of
 //! one key, and `specs/Heads.antt` for the heads of packets. `specs/Shapes.antt` says what the calls make of a cell's legs, keys and
 //! leases whatever its history. `proofs/rows` has worked examples.
 #![tactic(auto)]
@@ -25,12 +25,14 @@ mod cell;
 mod contexts;
 mod counts;
 mod dropped_legs;
+mod given_ends;
 mod gone;
 mod heads;
 mod in_contexts;
 mod law;
 mod leg;
 mod leg_reports;
+mod loading;
 mod new_legs;
 mod outcome;
 mod places;
@@ -49,8 +51,8 @@ pub use gone::Gone;
 pub use in_contexts::InContexts;
 pub use law::{
     answers_name_keys_after_each_history, contexts_are_counted,
-    counts_are_below_after_each_history, legs_are_few, legs_find_places, notes_are_new,
-    offers_come_after_each_history, packets_change_no_condition, saved_cells_stand,
+    counts_are_below_after_each_history, legs_are_few, legs_find_places, listed_ends_are_given,
+    notes_are_new, offers_come_after_each_history, packets_change_no_condition, saved_cells_stand,
 };
 pub use outcome::{Incoming, LocalPort, Lost, Outcome, PacketBuffer, Refused};
 pub use port_pool::{LegReport, LegReports};

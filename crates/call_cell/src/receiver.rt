@@ -15,13 +15,14 @@ use crate::contexts::Inbound;
 use crate::heads::Head;
 use crate::in_contexts::InContexts;
 use crate::outcome::{PacketBuffer, Refused};
-use crate::places::unboxed;
+use crate::places::{boxed, unboxed};
 use crate::signals::{address, is_new_key};
 use endpoint_learn::{Judge, Learner};
 use port_pool::LegSignal;
-use relay_outside::{Addr, KeyAndSalt};
+use relay_outside::{Addr, KeyAndSalt, OutOfMemory};
 use rtp_packet::Half;
 use sdes_lines::Suite;
+use std::alloc::Global;
 
 /// What a leg keeps of the packets that it received.
 #[derive(Drop)]
@@ -147,6 +148,19 @@ impl Receiving {
     {
         let Receiving { rtp, rtcp, inbound } = self;
         (rtp, rtcp, unboxed(inbound))
+    }
+
+    /// What was kept, for RTP, for RTCP and under the inbound key.
+    pub(crate) fn from_saved(
+        alloc: Global,
+        rtp: Option<Learner>,
+        rtcp: Option<Learner>,
+        inbound: Option<Inbound>,
+    ) -> Result<Receiving, OutOfMemory>
+        ensures { IfOk result (λ receiving. (receiving.rtp ≡ rtp) × (receiving.rtcp ≡ rtcp) × (boxed_in receiving.inbound ≡ inbound)) }
+    {
+        let inbound = boxed(alloc, inbound)?;
+        Ok(Receiving { rtp, rtcp, inbound })
     }
 
     /// The learner of a half, once an answer was committed.

@@ -10,11 +10,12 @@ ghost use Rattle.call_cell.specs.Parts.{OutboundIn, WrapsInTo, boxed_in, is_numb
 use crate::contexts::Outbound;
 use crate::heads::Head;
 use crate::outcome::{LocalPort, Lost, PacketBuffer};
-use crate::places::unboxed;
+use crate::places::{boxed, unboxed};
 use port_pool::LegSignal;
-use relay_outside::{Addr, OutEnd};
+use relay_outside::{Addr, OutEnd, OutOfMemory};
 use rtp_packet::Half;
 use sdes_lines::Suite;
+use std::alloc::Global;
 
 /// How a leg sends: the out ends of its ports, and the contexts of the keys that were drawn for it.
 #[derive(Drop)]
@@ -126,6 +127,32 @@ impl<O> Sending<O> {
         let Sending { ends, tag80, tag32 } = self;
         let None = ends else { unreachable!() };
         (unboxed(tag80), unboxed(tag32))
+    }
+
+    /// The contexts of keys for both suites, without out ends.
+    pub(crate) fn from_saved(
+        alloc: Global,
+        tag80: Option<Outbound>,
+        tag32: Option<Outbound>,
+    ) -> Result<Sending<O>, OutOfMemory>
+        ensures { IfOk result (λ sending. (sending.ends ≡ None) × (boxed_in sending.tag80 ≡ tag80) × (boxed_in sending.tag32 ≡ tag32)) }
+    {
+        let tag80 = boxed(alloc, tag80)?;
+        let tag32 = boxed(alloc, tag32)?;
+        Ok(Sending {
+            ends: None,
+            tag80,
+            tag32,
+        })
+    }
+
+    /// Takes out ends for RTP and for RTCP, where it has none.
+    pub(crate) fn put_ends(&mut self, rtp: O, rtcp: O)
+        requires { self.old.ends ≡ None }
+        ensures { self.new ≡ record { ends = Some (rtp, rtcp); tag80 = self.old.tag80; tag32 = self.old.tag32 } }
+    {
+        let earlier = self.ends.replace((rtp, rtcp));
+        let None = earlier else { unreachable!() };
     }
 
     /// The out ends, for RTP and for RTCP, where they weren't taken.

@@ -32,7 +32,7 @@ returns-clause-shape g c small =
     let part = subst (λ (l : List (Leg _)). Part c.rejected.result l c.part.new.legs.items c.args.gone.now c.part.new.gone) items c.part.ensures in
     let a = shape_answered c.args.signal.now c.rejected.result c.args.self.now.legs.items mid c.part.new.legs.items c.args.gone.now c.part.new.gone small
     (c.commit_legs.auto.legs ∙ ap (λ (l : List (Leg _)). length l) value) commits c.rejected.ensures c.requires.empty part in
-    ap (λ (l : List CellLegShape). record { call = c.args.self.now.call; is_committed = true; legs = l }) a.legs
+    ap (λ (l : List CellLegShape). record { config = c.args.self.now.config; call = c.args.self.now.call; is_committed = true; legs = l }) a.legs
 
 pub returns-clause-legs : goal.returns-clause-legs
 returns-clause-legs g c small =

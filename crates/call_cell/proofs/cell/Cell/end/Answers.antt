@@ -10,7 +10,7 @@ use Rattle.call_cell.proofs.cell.Cell.end.Goals as goal
 pub returns-clause-shape : goal.returns-clause-shape
 returns-clause-shape g c small =
     let gone = shape_ended (true ∷ true ∷ true ∷ true ∷ true ∷ true ∷ true ∷ true ∷ []) c.args.self.now.legs.items c.part.new.legs.items c.args.gone.now c.part.new.gone small eight_true c.requires.empty c.part.ensures in
-    ap (λ (l : List (Leg _)). record { call = None; is_committed = false; legs = cell_leg_shapes l }) gone.0
+    ap (λ (l : List (Leg _)). record { config = c.args.self.now.config; call = None; is_committed = false; legs = cell_leg_shapes l }) gone.0
 
 pub returns-clause-legs : goal.returns-clause-legs
 returns-clause-legs g c small =

@@ -35,8 +35,8 @@ returns-clause-shape g c keys dropped prep =
     ∙ offered_legs c.args.signal.dropped old c.part.new.legs.items c.args.signal.legs.items c.join.new.legs.items new c.args.signal.keys.items keys
     (c.part.ensures room).0 c.join.ensures puts prep.keys_are in
     let self = c.args.self.now in
-    ap (λ (l : List CellLegShape). record { call = Some c.held_by.result; is_committed = self.is_committed; legs = l }) legs
-    ∙ ap (λ (n : Option ℕ). record { call = n; is_committed = self.is_committed; legs = (offered_shape c.args.signal.dropped (cell_leg_shapes c.args.signal.legs.items) keys c.args.call (cell_shape self)).legs })
+    ap (λ (l : List CellLegShape). record { config = self.config; call = Some c.held_by.result; is_committed = self.is_committed; legs = l }) legs
+    ∙ ap (λ (n : Option ℕ). record { config = self.config; call = n; is_committed = self.is_committed; legs = (offered_shape c.args.signal.dropped (cell_leg_shapes c.args.signal.legs.items) keys c.args.call (cell_shape self)).legs })
     c.held_by.ensures
 
 pub returns-clause-legs : goal.returns-clause-legs

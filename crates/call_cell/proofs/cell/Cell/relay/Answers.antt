@@ -11,7 +11,7 @@ pub returns-clause-shape : goal.returns-clause-shape
 returns-clause-shape g c =
     let those = c.relay_legs-outcome.new.legs in
     let items = with_items_is c.args.self.now.legs those (omega (arith, c.relay_legs-outcome.auto.legs, c.as_mut_slice.ensures.len)) in
-    ap (λ (l : List CellLegShape). record { call = c.args.self.now.call; is_committed = c.args.self.now.is_committed; legs = l })
+    ap (λ (l : List CellLegShape). record { config = c.args.self.now.config; call = c.args.self.now.call; is_committed = c.args.self.now.is_committed; legs = l })
     (ap cell_leg_shapes items ∙ c.relay_legs-outcome.ensures.shape ∙ ap cell_leg_shapes c.as_mut_slice.ensures.value)
 
 pub returns-clause-relays : goal.returns-clause-relays
