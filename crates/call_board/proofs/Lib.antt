@@ -47,3 +47,8 @@ pub mod AlikeAnswers
 pub mod OneBoard
 pub mod SavedMoves
 pub mod SavedLoading
+pub mod Shaped
+pub mod ShapedPools
+pub mod ShapedDialogs
+pub mod ShapedViews
+pub mod WholeBoards

@@ -65,7 +65,7 @@ with_changed from (call ∷ calls) below zero before after s at same =
     (omega (arith, number, s.0), subst (λ (n : ℕ). AreBelow (n + 1) calls below) (sym number) s.1)
 with_changed from (call ∷ calls) below (suc i) before after s at same = (s.0, with_changed (call.number + 1) calls below i before after s.1 at same)
 
-differ : (a b : ℕ) → (a ≡ b → ⊥) → (a == b) ≡ false
+pub differ : (a b : ℕ) → (a ≡ b → ⊥) → (a == b) ≡ false
 differ a b other = grind (arith, nat_tests)
 
 agree : (a b : ℕ) → a ≡ b → (a == b) ≡ true

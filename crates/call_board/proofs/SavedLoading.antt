@@ -14,7 +14,7 @@ use Rattle.call_board.specs.declared.saved_board.CallSaved.{CallSaved}
 use Rattle.call_board.specs.CallNumbers.{AreBelow}
 use Rattle.call_board.specs.SavedBoards.{CallSaves, CallsSave, MarksCells, IdsApart, AreWholeCalls, CallFollows, cells_of_live, ids_of_live}
 
-abbrev numbers_of_live : List LiveCall → List ℕ
+abbrev pub numbers_of_live : List LiveCall → List ℕ
 numbers_of_live calls = map (λ (call : LiveCall). call.number) calls
 
 push_map : {A B : Type 0} (f : A → B) (xs : List A) (x : A) → map f (xs ++ x ∷ []) ≡ map f xs ++ f x ∷ []
@@ -58,7 +58,7 @@ next_push : (from : ℕ) (ns : List ℕ) (n : ℕ) → next_after from (ns ++ n 
 next_push from [] n = refl
 next_push from (m ∷ ns) n = next_push (m + 1) ns n
 
-abbrev RiseBelow : ℕ → List ℕ → ℕ → Type 0
+abbrev pub RiseBelow : ℕ → List ℕ → ℕ → Type 0
 RiseBelow from [] below = from ≤ below
 RiseBelow from (n ∷ ns) below = (from ≤ n) × RiseBelow (n + 1) ns below
 

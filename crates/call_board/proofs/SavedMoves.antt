@@ -35,7 +35,7 @@ calls_move config (one ∷ old) (call ∷ new) (s ∷ saved) [] from to is = abs
 calls_move config (one ∷ old) (call ∷ new) (s ∷ saved) (c ∷ cs) from to is =
     (call_moves config one call s c from.0 to.0 is.0, calls_move config old new saved cs from.1 to.1 is.1)
 
-cells_shown : (config : Config) (calls : List LiveCall) (cs : List CallView) → CallsFor config calls cs → cells_of_live calls ≡ map (λ (c : CallView). c.of.cell) cs
+pub cells_shown : (config : Config) (calls : List LiveCall) (cs : List CallView) → CallsFor config calls cs → cells_of_live calls ≡ map (λ (c : CallView). c.of.cell) cs
 cells_shown config [] [] is = refl
 cells_shown config [] (c ∷ cs) is = absurd is
 cells_shown config (call ∷ calls) [] is = absurd is

@@ -14,8 +14,10 @@ pub mod CallNumbers
 pub mod Boards
 pub mod Plans
 pub mod PlanBorrows
+pub mod Shapes
 pub mod NextBoards
 pub mod Whole
 pub mod Returns
 pub mod Futures
 pub mod SavedBoards
+pub mod ShapeViews

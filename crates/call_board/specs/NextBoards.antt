@@ -14,6 +14,7 @@ use Rattle.call_board.specs.Acts.{Call}
 use Rattle.call_board.specs.Views.{CallView, View, with_calls, with_new_call, with_round, with_due, goes_on, call_of_id, call_numbered}
 use Rattle.call_board.specs.Boards.{CallFor, IsLive}
 use Rattle.call_board.specs.Plans.{NewFor}
+use Rattle.call_board.specs.Shapes.{live_shape, DialogApplies}
 
 -- the plan is that of this offer, filled, with the legs that were leased for it; or that of this answer
 abbrev pub IsPlanOf : Config → List Round → Round → Plan → Type 0
@@ -59,6 +60,8 @@ pub record CallGoesOn (old new : List LiveCall) (place : ℕ) (plan : Plan) (now
   pub number_is : after.number ≡ before.number
   pub taken : (config : Config) (c : CallView) (round : Round) → CallFor config before c → is_begun c.rounds ≡ true → IsPlanOf config c.rounds round plan →
       CallFor config after (with_round round now c)
+  pub cell_is : after.cell ≡ before.cell
+  pub applies : DialogApplies plan before.dialog.value after.dialog.value
 
 -- the call in this place of the list is to end at this moment, or earlier if that is due, and the others stay
 pub record CallEnds (old new : List LiveCall) (place : ℕ) (due : ℕ) : Type 0 where
@@ -68,3 +71,4 @@ pub record CallEnds (old new : List LiveCall) (place : ℕ) (due : ℕ) : Type 0
   pub list_is : new ≡ slice_set old place after
   pub number_is : after.number ≡ before.number
   pub marked : (config : Config) (c : CallView) → CallFor config before c → CallFor config after (with_due due c)
+  pub shape_is : live_shape after ≡ live_shape before

@@ -10,6 +10,7 @@ ghost use Rattle.offer_answer.specs.Widths.{WritesFrom};
 ghost use Rattle.call_board.specs.Views.{View, CallView, call_of_id};
 ghost use Rattle.call_board.specs.Boards.{BoardMatches};
 ghost use Rattle.call_board.specs.Plans.{PlansAnswer};
+ghost use Rattle.call_board.specs.Shapes.{board_shape, PlansReply};
 
 use crate::board::Board;
 use crate::board_plan::BoardPlan;
@@ -33,6 +34,7 @@ impl Board {
         ensures plans { (config : Config) (v : View) → BoardMatches config self.now v →
             PlansAnswer config input.now sdp.now (call_of_id v input.now.call_id.list) result }
         ensures writes { IfOk result (λ p. WritesFrom p.plan sdp.now) }
+        ensures made { IfOk result (PlansReply self.now) }
     {
         let call = self.calls.at(place);
         if call.due_moment.is_some() {
@@ -62,6 +64,8 @@ impl Board {
         ensures plans { (config : Config) (v : View) → BoardMatches config self.old v →
             PlansAnswer config input.now sdp.now (call_of_id v input.now.call_id.list) result }
         ensures writes { IfOk result (λ p. WritesFrom p.plan sdp.now) }
+        ensures shape { board_shape self.new ≡ board_shape self.old }
+        ensures made { IfOk result (PlansReply self.old) }
     {
         match self.place_of_call(&input.call_id) {
             Some(place) => self.plan_reply(alloc, place, input, sdp),

@@ -1,6 +1,8 @@
 //! Taking in a plan.
 
-ghost use Rattle.std.specs.Prelude.{◌≡◌, ◌<◌, ◌^◌, ℕ, [], ◌∷◌, true, Some, None};
+ghost use Rattle.std.specs.Prelude.{◌≡◌, ◌<◌, ◌^◌, ℕ, [], ◌∷◌, true, false, Some, None};
+ghost use Rattle.std.specs.List.{list_any};
+ghost use Rattle.std.specs.Str.{bytes_eq};
 ghost use Rattle.relay_outside.specs.declared.settings.Config.{Config};
 ghost use Rattle.offer_answer.specs.Rounds.{Round};
 ghost use Rattle.offer_answer.specs.Sides.{is_begun};
@@ -8,6 +10,7 @@ ghost use Rattle.call_board.specs.Acts.{Call};
 ghost use Rattle.call_board.specs.Views.{View, CallView, with_calls, with_new_call, goes_on, call_numbered};
 ghost use Rattle.call_board.specs.Boards.{BoardMatches, IsLive, KeepsReplies};
 ghost use Rattle.call_board.specs.NextBoards.{IsPlanOf, BeginsBy, IsNext, TakesRoundIn, taken_in, MayApply};
+ghost use Rattle.call_board.specs.Shapes.{LiveTakesIn, NewTakesIn, TakesPlanIn};
 
 use crate::board::Board;
 use crate::board_plan::{BoardPlan, NewCall};
@@ -22,6 +25,7 @@ impl Board {
         ensures replies { KeepsReplies self.old self.new }
         ensures taken { (config : Config) (v : View) (c : CallView) (round : Round) → BoardMatches config self.old v → call_numbered v call ≡ Some c → is_begun c.rounds ≡ true →
             IsPlanOf config c.rounds round plan → BoardMatches config self.new (with_calls v (goes_on call round now v.calls)) }
+        ensures shape { LiveTakesIn call plan self.old self.new }
     {
         let place = self.place(call);
         self.calls.go_on(place, plan, now);
@@ -35,6 +39,7 @@ impl Board {
         ensures taken { (config : Config) (v : View) (of : Call) (round : Round) → BoardMatches config self.old v → IsNext config v of → cell ≡ of.cell →
             BeginsBy config of.id round new → IsPlanOf config [] round plan →
             BoardMatches config self.new (with_new_call v (record { of = of; rounds = round ∷ []; first = now; last = now; due = None })) }
+        ensures shape { list_any (λ live. bytes_eq live.id.list new.id.list) self.old.calls.list ≡ false → NewTakesIn new cell plan self.old self.new }
     {
         let NewCall {
             id,
@@ -67,6 +72,7 @@ impl Board {
         ensures replies { KeepsReplies self.old self.new }
         ensures taken { (config : Config) (v : View) (of : Call) (round : Round) → BoardMatches config self.old v → TakesRoundIn config v of round plan plan.begun →
             BoardMatches config self.new (taken_in v of round now plan plan.begun) }
+        ensures shape { TakesPlanIn plan plan.begun self.old self.new }
     {
         let BoardPlan {
             plan,

@@ -51,10 +51,12 @@ impl Board {
     ghost use Rattle.offer_answer.specs.Plan as plan;
     ghost use Rattle.call_board.specs.Views.{View, CallView, view_at_moment, with_keeping, one_drawn, with_returned, without_call, call_of_id, call_numbered};
     ghost use Rattle.call_board.specs.Boards.{BoardMatches, CallMatches, CallsFor, BoardFor, IsLive, KeepsCalls, KeepsReplies};
+    ghost use Rattle.call_board.specs.Shapes.{LiveShape, IsFreshShape, board_shape, live_numbered, shape_numbered, shape_with_draw, shape_returned};
 
     /// The board before the first datagram, with memory for all pairs of the configuration.
     pub fn new(alloc: Global, config: &Config) -> Result<Board, OutOfMemory>
-        ensures { IfOk result (λ board. BoardFor config.now board []) }
+        ensures stands { IfOk result (λ board. BoardFor config.now board []) }
+        ensures shape { IfOk result (λ board. IsFreshShape config.now (board_shape board)) }
     {
         let pool = Pool::new(
             alloc,
@@ -81,6 +83,7 @@ impl Board {
         ensures moment { (config : Config) (v : View) → BoardMatches config self.old v → BoardMatches config self.new (view_at_moment v now) × (result ≡ max now v.moment) }
         ensures calls { KeepsCalls self.old self.new }
         ensures replies { KeepsReplies self.old self.new }
+        ensures shape { board_shape self.new ≡ board_shape self.old }
     {
         self.moment = self.moment.max(now);
         self.moment
@@ -103,6 +106,7 @@ impl Board {
         ensures place { OnOk result (HasSparePlace self.new.replies) }
         ensures calls { KeepsCalls self.old self.new }
         ensures pool { self.new.pool ≡ self.old.pool }
+        ensures shape { board_shape self.new ≡ board_shape self.old }
     {
         self.replies.reserve()
     }
@@ -115,13 +119,15 @@ impl Board {
         ensures calls { KeepsCalls self.old self.new }
         ensures kept { (config : Config) (v : View) → BoardMatches config self.old v →
             BoardMatches config self.new (with_keeping v (record { source = source; cookie = cookie.list; reply = reply.list; moment = keepings.moment_used v.keepings now })) }
+        ensures shape { board_shape self.new ≡ board_shape self.old }
     {
         self.replies.keep(source, cookie, reply, now);
     }
 
     /// The number that the next drawn key has, from 0.
     pub fn next_key(&self) -> u64
-        ensures { (config : Config) (v : View) → BoardMatches config self.now v → result ≡ v.drawn }
+        ensures drawn { (config : Config) (v : View) → BoardMatches config self.now v → result ≡ v.drawn }
+        ensures shape { result ≡ (board_shape self.now).drawn }
     {
         self.drawn
     }
@@ -132,6 +138,7 @@ impl Board {
         ensures drawn { (config : Config) (v : View) → BoardMatches config self.old v → BoardMatches config self.new (one_drawn v) × (result ≡ v.drawn) }
         ensures calls { KeepsCalls self.old self.new }
         ensures replies { KeepsReplies self.old self.new }
+        ensures shape { (board_shape self.new ≡ shape_with_draw (board_shape self.old)) × (result ≡ (board_shape self.old).drawn) }
     {
         let number = self.drawn;
         self.drawn += 1;
@@ -158,6 +165,7 @@ impl Board {
         ensures returned { (config : Config) (v : View) → BoardMatches config self.old v → BoardMatches config self.new (with_returned v (lease.pair ∷ [])) }
         ensures calls { KeepsCalls self.old self.new }
         ensures replies { KeepsReplies self.old self.new }
+        ensures shape { board_shape self.new ≡ shape_returned lease.pair (board_shape self.old) }
     {
         self.pool.give_back(lease);
     }
@@ -181,6 +189,7 @@ impl Board {
     pub fn live_count(&self) -> usize
         ensures count { result ≡ length self.now.calls.list }
         ensures live { (config : Config) (v : View) → BoardMatches config self.now v → result ≡ length v.calls }
+        ensures shape { result ≡ length (board_shape self.now).calls }
     {
         self.calls.len()
     }
@@ -188,8 +197,9 @@ impl Board {
     /// The number of a live call, by its place in the order of creation, from 0.
     pub fn call_at(&self, index: usize) -> u64
         requires { index < length self.now.calls.list }
-        ensures { (config : Config) (v : View) → BoardMatches config self.now v →
+        ensures live { (config : Config) (v : View) → BoardMatches config self.now v →
             slice_get (map (λ (c : CallView). c.of.number) v.calls) index ≡ Some result }
+        ensures shape { option_map (λ (call : LiveShape). call.number) (slice_get (board_shape self.now).calls index) ≡ Some result }
     {
         self.calls.at(index).number
     }
@@ -197,8 +207,9 @@ impl Board {
     /// The cell of a live call, from 1, by the place of the call in the order of creation, from 0.
     pub fn cell_at(&self, index: usize) -> u32
         requires { index < length self.now.calls.list }
-        ensures { (config : Config) (v : View) → BoardMatches config self.now v →
+        ensures live { (config : Config) (v : View) → BoardMatches config self.now v →
             slice_get (map (λ (c : CallView). c.of.cell) v.calls) index ≡ Some result }
+        ensures shape { option_map (λ (call : LiveShape). call.cell) (slice_get (board_shape self.now).calls index) ≡ Some result }
     {
         self.calls.at(index).cell
     }
@@ -227,7 +238,8 @@ impl Board {
     /// A live call.
     pub(crate) fn live(&self, call: u64) -> &LiveCall
         requires { IsLive self.now call }
-        ensures { (config : Config) (v : View) → BoardMatches config self.now v → CallMatches config v call result.now }
+        ensures shown { (config : Config) (v : View) → BoardMatches config self.now v → CallMatches config v call result.now }
+        ensures found { live_numbered self.now call ≡ Some result.now }
     {
         self.calls.at(self.place(call))
     }
@@ -235,7 +247,8 @@ impl Board {
     /// The cell of a live call, from 1.
     pub fn cell_of(&self, call: u64) -> u32
         requires { IsLive self.now call }
-        ensures { (config : Config) (v : View) → BoardMatches config self.now v → option_map (λ (c : CallView). c.of.cell) (call_numbered v call) ≡ Some result }
+        ensures live { (config : Config) (v : View) → BoardMatches config self.now v → option_map (λ (c : CallView). c.of.cell) (call_numbered v call) ≡ Some result }
+        ensures shape { option_map (λ (live : LiveShape). live.cell) (shape_numbered (board_shape self.now) call) ≡ Some result }
     {
         self.live(call).cell
     }

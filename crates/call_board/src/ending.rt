@@ -6,6 +6,7 @@ ghost use Rattle.call_board.specs.Calls.{is_due_by};
 ghost use Rattle.call_board.specs.Views.{View, CallView, call_numbered};
 ghost use Rattle.call_board.specs.Boards.{BoardMatches, IsLive, KeepsReplies};
 ghost use Rattle.call_board.specs.Whole.{with_due_call};
+ghost use Rattle.call_board.specs.Shapes.{board_shape};
 
 use crate::board::Board;
 
@@ -16,6 +17,7 @@ impl Board {
         requires { IsLive self.old call }
         ensures shows { (config : Config) (v : View) → BoardMatches config self.old v → BoardMatches config self.new (with_due_call call due v) }
         ensures replies { KeepsReplies self.old self.new }
+        ensures shape { board_shape self.new ≡ board_shape self.old }
     {
         let place = self.place(call);
         self.calls.mark_ending(place, due);

@@ -4,6 +4,10 @@ ghost use Rattle.call_board.specs.Acts.{BoardEntry};
 ghost use Rattle.call_board.specs.Fits.{FitsBoard, IsFitting};
 ghost use Rattle.call_board.specs.Views.{view_of};
 ghost use Rattle.call_board.specs.Whole.{IsTimely, view_after};
+ghost use Rattle.call_board.specs.declared.board.Board.{Board};
+ghost use Rattle.call_board.specs.Boards.{BoardFor};
+ghost use Rattle.call_board.specs.Shapes.{board_shape};
+ghost use Rattle.call_board.specs.ShapeViews.{ShapeShows};
 ghost use Rattle.call_board.specs.Futures.{OneBoardLives, OneBoardAnswers, OneBoardDemands, OneBoardFits, OneBoardGoesOn};
 
 /// Theorem (no run-time code): what the calls of the board make together of what it keeps, in the turn of an entry that the history
@@ -23,4 +27,11 @@ pub fn one_board_has_one_future()
     ensures demands { OneBoardDemands }
     ensures fits { OneBoardFits }
     ensures goes_on { OneBoardGoesOn }
+{}
+
+/// Theorem (no run-time code): the shape of a board that stands for a history has the number of the next call and of the next key, the
+/// numbers and cells of the live calls, the free pairs and the generations that there are after that history.
+pub fn shapes_show_histories()
+    ensures { (config : Config) (board : Board) (h : List BoardEntry) → BoardFor config board h →
+        ShapeShows config (view_of config h) (board_shape board) }
 {}

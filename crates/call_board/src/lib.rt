@@ -10,7 +10,8 @@
 //! `specs/Views.antt` says what the board keeps of its history, and what each call changes of that; `specs/Boards.antt` that it
 //! keeps it, `specs/Plans.antt` the result of planning an offer or an answer, `specs/NextBoards.antt` what a plan makes of the board,
 //! `specs/Whole.antt` what the calls of an entry's turn make together, and `law` that this is the entry. `specs/Futures.antt` says that
-//! histories for which one board stands have one future.
+//! histories for which one board stands have one future. `specs/Shapes.antt` says what each call makes of any board, whatever it stands
+//! for, and `specs/ShapeViews.antt` what that says of the history where there is one.
 #![tactic(auto)]
 
 mod answer_plan;
@@ -31,6 +32,6 @@ mod saved_board;
 pub use board::Board;
 pub use board_plan::BoardPlan;
 pub use fault::BoardFault;
-pub use law::{changes_are_entries, one_board_has_one_future};
+pub use law::{changes_are_entries, one_board_has_one_future, shapes_show_histories};
 pub use live_call::LiveCall;
-pub use saved_board::{BoardSaved, CallSaved, board_moves};
+pub use saved_board::{BoardSaved, CallSaved, board_moves, boards_are_loaded};

@@ -31,6 +31,7 @@ impl LiveCall {
     ghost use Rattle.call_board.specs.Views.{CallView, with_round, with_due};
     ghost use Rattle.call_board.specs.Boards.{CallFor};
     ghost use Rattle.call_board.specs.NextBoards.{IsPlanOf};
+    ghost use Rattle.call_board.specs.Shapes.{DialogApplies, live_shape};
 
     /// Takes in one more offer or answer, at the moment `now`.
     pub(crate) fn go_on(&mut self, plan: Plan, now: u64)
@@ -38,6 +39,8 @@ impl LiveCall {
             CallFor config self.new (with_round round now c) }
         ensures id { self.new.id ≡ self.old.id }
         ensures number { self.new.number ≡ self.old.number }
+        ensures cell { self.new.cell ≡ self.old.cell }
+        ensures applies { DialogApplies plan self.old.dialog.value self.new.dialog.value }
     {
         self.dialog.apply(plan);
         self.last_moment = now;
@@ -48,6 +51,7 @@ impl LiveCall {
         ensures marked { (config : Config) (c : CallView) → CallFor config self.old c → CallFor config self.new (with_due due c) }
         ensures id { self.new.id ≡ self.old.id }
         ensures number { self.new.number ≡ self.old.number }
+        ensures shape { live_shape self.new ≡ live_shape self.old }
     {
         self.due_moment = Some(match self.due_moment {
             Some(moment) => due.min(moment),

@@ -1,6 +1,6 @@
 //! Leasing the pairs of an offer, and giving them back.
 
-ghost use Rattle.std.specs.Prelude.{◌≡◌, ◌<◌, ◌≤◌, ◌+◌, ◌^◌, ◌∷◌, ◌++◌, [], ℕ, List, map, length};
+ghost use Rattle.std.specs.Prelude.{◌≡◌, ◌<◌, ◌≤◌, ◌+◌, ◌^◌, ◌∷◌, ◌++◌, [], ℕ, List, Some, map, length};
 ghost use Rattle.relay_outside.specs.declared.settings.Config.{Config};
 ghost use Rattle.port_pool.specs.Ports as ports;
 ghost use Rattle.port_pool.specs.Ports.{pairs_of_family};
@@ -12,6 +12,9 @@ ghost use Rattle.call_board.specs.Pairs.{without_front};
 ghost use Rattle.call_board.specs.Views.{View, with_leases, with_returned};
 ghost use Rattle.call_board.specs.Boards.{BoardMatches, KeepsCalls, KeepsReplies, AreOut, pairs_in, lease_at, fronts_for, leases_at};
 ghost use Rattle.call_board.specs.Plans.{HasRoomForPlan, leased};
+ghost use Rattle.port_pool.specs.Leases.{LeasesFront};
+ghost use Rattle.port_pool.specs.declared.pairs.Lease.{Lease};
+ghost use Rattle.call_board.specs.Shapes.{board_shape, with_pool, shape_returned, shape_returns, ShapeLeases};
 
 use crate::board::Board;
 use crate::board_plan::BoardPlan;
@@ -33,6 +36,8 @@ impl Board {
         ensures rises { (pair : ℕ) → generation self.new.pool pair ≤ generation self.old.pool pair + 1 }
         ensures calls { KeepsCalls self.old self.new }
         ensures replies { KeepsReplies self.old self.new }
+        ensures front { (lease : Lease) × LeasesFront self.old.pool family (free_pairs self.old.pool family) (Some lease) self.new.pool × (leases.new ≡ with_lease leases.old lease) }
+        ensures shape { board_shape self.new ≡ with_pool self.new.pool (board_shape self.old) }
     {
         let Some(lease) = self.pool.lease(family) else {
             unreachable!();
@@ -54,6 +59,7 @@ impl Board {
         ensures plan { plan.new ≡ leased plan.old }
         ensures calls { KeepsCalls self.old self.new }
         ensures replies { KeepsReplies self.old self.new }
+        ensures shape { ShapeLeases (legs_demanded plan.old.plan) result.list (board_shape self.old) (board_shape self.new) }
     {
         let mut leases = plan.leases.take().unwrap();
         for index in 0..plan.plan.pairs() {
@@ -72,6 +78,7 @@ impl Board {
         ensures count { length leases.new.list + 1 ≡ length leases.old.list }
         ensures calls { KeepsCalls self.old self.new }
         ensures replies { KeepsReplies self.old self.new }
+        ensures shape { (lease : Lease) × (leases.old.list ≡ lease ∷ leases.new.list) × (board_shape self.new ≡ shape_returned lease.pair (board_shape self.old)) }
     {
         let Some(lease) = leases.pop() else {
             unreachable!();
@@ -86,6 +93,7 @@ impl Board {
         ensures returned { (config : Config) (v : View) → BoardMatches config self.old v → BoardMatches config self.new (with_returned v (pairs_in leases.list)) }
         ensures calls { KeepsCalls self.old self.new }
         ensures replies { KeepsReplies self.old self.new }
+        ensures shape { board_shape self.new ≡ shape_returns (pairs_in leases.list) (board_shape self.old) }
     {
         let _ = plan;
         let mut left = leases;

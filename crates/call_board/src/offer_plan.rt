@@ -13,6 +13,7 @@ ghost use Rattle.call_board.specs.Pairs.{is_short, is_short_of};
 ghost use Rattle.call_board.specs.Views.{View, CallView};
 ghost use Rattle.call_board.specs.Boards.{BoardMatches, KeepsReplies};
 ghost use Rattle.call_board.specs.Plans.{RoomFor, PlansOffer, PlansFor, HasRoomForPlan, NewFor, target_by};
+ghost use Rattle.call_board.specs.Shapes.{board_shape, IsFreeCell, PlansOfferOf};
 
 use crate::board::Board;
 use crate::board_plan::{BoardPlan, NewCall};
@@ -108,8 +109,9 @@ impl Board {
     /// That one is free below the limit of sessions is proved of a board that stands for a history; of any other view an
     /// offer gets `SessionLimit`.
     fn lowest_cell(&self) -> Option<u32>
-        ensures { (config : Config) (v : View) → BoardMatches config self.now v → length v.calls < config.max_sessions →
+        ensures lowest { (config : Config) (v : View) → BoardMatches config self.now v → length v.calls < config.max_sessions →
             result ≡ Some (lowest_but (map (λ (c : CallView). c.of.cell) v.calls)) }
+        ensures free { IfSome result (IsFreeCell self.now.config.max_sessions self.now.taken.items) }
     {
         let Some(place) = first_free(self.taken.as_slice()) else {
             return None;
@@ -139,6 +141,7 @@ impl Board {
             PlansOffer config v input.now.call_id.list ask result }
         ensures room { IfOk result (HasRoomForPlan self.now) }
         ensures writes { IfOk result (λ p. WritesFrom p.plan sdp.now) }
+        ensures made { IfOk result (λ p. PlansOfferOf self.now p p.begun) }
     {
         let call = self.calls.at(place);
         if call.due_moment.is_some() {
@@ -174,6 +177,9 @@ impl Board {
             PlansFor config v (target_by v input.now.call_id.list None) ask result }
         ensures room { IfOk result (HasRoomForPlan self.new) }
         ensures writes { IfOk result (λ p. WritesFrom p.plan sdp.now) }
+        ensures shape { board_shape self.new ≡ board_shape self.old }
+        ensures made { position (λ call. bytes_eq call.id.list input.now.call_id.list) self.old.calls.list ≡ None →
+            IfOk result (λ p. PlansOfferOf self.old p p.begun) }
     {
         let begun = new_call(alloc, &input.call_id, &input.from_tag)?;
         let plan = offer(alloc, &self.config, &*begun.dialog, input, sdp)?;
@@ -216,6 +222,8 @@ impl Board {
             PlansOffer config v input.now.call_id.list ask result }
         ensures room { IfOk result (HasRoomForPlan self.new) }
         ensures writes { IfOk result (λ p. WritesFrom p.plan sdp.now) }
+        ensures shape { board_shape self.new ≡ board_shape self.old }
+        ensures made { IfOk result (λ p. PlansOfferOf self.old p p.begun) }
     {
         match self.place_of_call(&input.call_id) {
             Some(place) => self.plan_later(alloc, place, input, sdp),

@@ -7,8 +7,10 @@ ghost use Rattle.cookie_cache.specs.Saved.{FitsCache};
 ghost use Rattle.port_pool.specs.SavedPools.{FitsPool};
 ghost use Rattle.call_board.specs.declared.board.Board.{Board};
 ghost use Rattle.call_board.specs.declared.saved_board.BoardSaved.{BoardSaved};
+ghost use Rattle.call_board.specs.Acts.{BoardEntry};
+ghost use Rattle.call_board.specs.Fits.{IsFitting};
 ghost use Rattle.call_board.specs.Views.{View};
-ghost use Rattle.call_board.specs.Boards.{BoardMatches};
+ghost use Rattle.call_board.specs.Boards.{BoardFor, BoardMatches};
 ghost use Rattle.call_board.specs.SavedBoards.{CallSaves, CallsSave, BoardSaves, WholeBoard, NoBoardSaves, CallFollows, AreWholeCalls, MarksCells, cells_of_live};
 ghost use Rattle.call_board.specs.declared.live_call.LiveCall.{LiveCall};
 
@@ -211,4 +213,13 @@ fn loaded_calls(
 pub fn board_moves()
     ensures { (config : Config) (old : Board) (new : Board) (saved : BoardSaved) (v : View) → WholeBoard new →
         BoardSaves old saved → BoardSaves new saved → BoardMatches config old v → BoardMatches config new v }
+{}
+
+/// Theorem (no run-time code): a board that stands for a history of entries that were each demanded is one that is loaded, with what
+/// `into_saved` says of its pool and of its kept replies; so `from_saved` doesn't refuse what `into_saved` gave of it.
+pub fn boards_are_loaded()
+    ensures whole { (config : Config) (board : Board) (h : List BoardEntry) → IsFitting config h → BoardFor config board h →
+        FitsPool board.pool → FitsCache board.replies → WholeBoard board }
+    ensures loaded { (config : Config) (board : Board) (h : List BoardEntry) (saved : BoardSaved) → IsFitting config h → BoardFor config board h →
+        FitsPool board.pool × FitsCache board.replies × BoardSaves board saved → NoBoardSaves saved → ⊥ }
 {}

@@ -9,6 +9,9 @@ use Rattle.call_board.proofs.Shown.{asks_id, none_has, lent_for}
 use Rattle.offer_answer.specs.declared.dialog.Dialog.{Dialog}
 use Rattle.call_board.proofs.Applies.{AwaitsRound, applied, begins_by, one_more_pushed, cells_more}
 use Rattle.call_board.proofs.Numbered.{numbers_after}
+use Rattle.offer_answer.specs.Shapes.{dialog_shape}
+use Rattle.call_board.specs.Shapes.{LiveShape, live_shapes, with_mark, DialogApplies}
+use Rattle.call_board.proofs.Shaped.{comes, marked}
 use Rattle.call_board.proofs.board.Board.begin.Goals as goal
 
 pub invariant_of-self : goal.invariant_of-self
@@ -46,4 +49,24 @@ returns-clause-taken c = λ config v of round s next cell b p.
           (cells_more config items v.calls view s.cells_for next.cell_is_one next.cell_is_there);
       pool_for = s.pool_for;
       replies_for = s.replies_for;
+    }
+
+pub returns-clause-shape : goal.returns-clause-shape
+returns-clause-shape c = λ fresh.
+    let board = c.args.self.now in
+    let items : List Bool = board.taken.items in
+    let one : LiveShape = record { number = board.begun; cell = c.args.cell; dialog = dialog_shape c.apply.new.self } in
+    let calls : live_shapes c.push.new.self.list ≡ live_shapes board.calls.list ++ one ∷ [] = comes board.calls.list c.push.new.self.list _ _ c.push.ensures fresh in
+    let whole = with_items_is board.taken c.mark_cell.new.taken (omega (arith, c.mark_cell.auto.taken, c.as_mut_slice.ensures.len)) in
+    let marks : c.mark_cell.new.taken ≡ with_mark c.args.cell true items =
+    marked c.args.cell true items c.mark_cell.new.taken
+    (λ low. c.mark_cell.ensures.cell low ∙ ap (λ (those : List Bool). set those (c.args.cell - 1) true) c.as_mut_slice.ensures.value)
+    (λ none. c.mark_cell.ensures.none none ∙ c.as_mut_slice.ensures.value) in record {
+      dialog = c.apply.new.self;
+      applies = subst (λ (old : Dialog). DialogApplies c.args.plan old c.apply.new.self) c.deref_mut.ensures.value (record {
+        offered = c.apply.ensures.shapes;
+        answered = c.apply.ensures.answered_shapes;
+        counts = c.apply.ensures.counts;
+      });
+      shape_is = λ i. record { config = board.config; begun = board.begun + 1; drawn = board.drawn; calls = calls i; taken = (whole ∙ marks) i; pool = board.pool };
     }

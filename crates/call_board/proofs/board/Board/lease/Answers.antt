@@ -1,4 +1,4 @@
-use Rattle.std.proofs.Common.{refl, ap, sym, subst, ◌∙◌, arith, ℕ, ◌≡◌, ◌≤◌, ◌<◌, ◌+◌, List, [], ◌∷◌, ◌++◌, length, take, drop, cond}
+use Rattle.std.proofs.Common.{refl, ap, sym, subst, ◌∙◌, arith, ℕ, ◌≡◌, ◌≤◌, ◌<◌, ◌+◌, List, [], ◌∷◌, ◌++◌, length, take, drop, cond, Some}
 use Rattle.relay_outside.specs.declared.address.Family.{Family}
 use Rattle.std.proofs.lemmas.List.{length-map}
 use Rattle.port_pool.specs.Ports.{pair_count, pairs_of_family, family_eq}
@@ -11,6 +11,10 @@ use Rattle.call_board.specs.Views.{with_leases}
 use Rattle.call_board.specs.Boards.{BoardMatches, fronts_for, leases_at}
 use Rattle.call_board.proofs.Demands.{AreEnough, count_of, count_next, enough_of, enough_next}
 use Rattle.call_board.proofs.Leased.{none_leased, one_more_leased, one_more_lease, front_of, front_after, room_had, leg_at_place, free_left, once_free, eq_itself}
+use Rattle.port_pool.specs.declared.pairs.Lease.{Lease}
+use Rattle.port_pool.specs.Leases.{LeasesFront}
+use Rattle.call_board.specs.Shapes.{LeasesLegs, with_pool}
+use Rattle.call_board.proofs.ShapedPools.{no_leg_leased, one_leg_more}
 use Rattle.call_board.proofs.board.Board.lease.Goals as goal
 
 -- the first of the legs that are left has a pair
@@ -39,6 +43,8 @@ loop-index-init c =
       calls = record { calls_are = refl; begun_is = refl };
       replies = refl;
       room = room.1 ∙ sym c.pairs-index-end.ensures.count;
+      shape = no_leg_leased c.args.self.now.pool c.unwrap-leases.result.list room.0;
+      rest = refl;
       rises = λ pair. omega arith;
     }
 
@@ -87,6 +93,15 @@ loop-index-preserved c =
       calls = record { calls_are = c.lease_one.ensures.calls.calls_are ∙ inv.calls.calls_are; begun_is = c.lease_one.ensures.calls.begun_is ∙ inv.calls.begun_is };
       replies = c.lease_one.ensures.replies ∙ inv.replies;
       room = c.lease_one.ensures.room ∙ inv.room;
+      shape =
+          let front = c.lease_one.ensures.front in
+          let mid = c.loop-index.self.pool in
+          let now = c.lease_one.new.self.pool in
+          subst (λ (ls : List NewLeg). LeasesLegs c.args.self.now.pool ls c.lease_one.new.leases.list now) (sym here.2)
+          (subst (λ (those : List Lease). LeasesLegs c.args.self.now.pool (take k legs ++ here.0 ∷ []) those now) (ap (λ (those : LeaseList). those.list) (sym front.2))
+          (one_leg_more c.args.self.now.pool mid now (take k legs) c.loop-index.leases.list here.0 front.0 inv.shape
+          (subst (λ (f : Family). LeasesFront mid f (free_pairs mid f) (Some front.0) now) (sym here.3) front.1)));
+      rest = c.lease_one.ensures.shape ∙ ap (with_pool c.lease_one.new.self.pool) inv.rest;
       rises = λ pair. let a = c.lease_one.ensures.rises pair in let b = inv.rises pair in omega (arith, a, b);
     }
 
@@ -107,3 +122,13 @@ returns-clause-leases c = λ config v s free.
       subst (λ ls. BoardMatches config c.loop-index.self (with_leases v (fronts_for config v ls))) whole done.0,
       done.1 ∙ ap (λ ls. leases_at config v (fronts_for config v ls)) whole,
     )
+
+pub returns-clause-shape : goal.returns-clause-shape
+returns-clause-shape c =
+    let legs = legs_demanded c.args.plan.now.plan in
+    let count : length legs ≡ pairs_demanded c.args.plan.now.plan = length-map c.args.plan.now.plan.legs.items leg_asked in
+    let all : c.loop-index.index ≡ length legs = omega (arith, c.loop-index-test.false, c.loop-index.auto.index-end, c.pairs-index-end.ensures.count, count) in record {
+      leases_are = subst (λ (ls : List NewLeg). LeasesLegs c.args.self.now.pool ls c.loop-index.leases.list c.loop-index.self.pool) (take_all c.loop-index.index legs all)
+          c.loop-index.invariant.shape;
+      shape_is = c.loop-index.invariant.rest;
+    }

@@ -5,6 +5,7 @@ use Rattle.port_pool.specs.Pools.{generation, AreFree, free_pairs}
 use Rattle.offer_answer.specs.Offers.{legs_demanded}
 use Rattle.call_board.specs.Views.{View, with_leases}
 use Rattle.call_board.specs.Boards.{BoardMatches, KeepsCalls, KeepsReplies, fronts_for, leases_at}
+use Rattle.call_board.specs.Shapes.{LeasesLegs, board_shape, with_pool}
 use Rattle.call_board.proofs.Demands.{AreEnough}
 use Rattle.call_board.proofs.board.Board.lease.Given as goal
 
@@ -19,5 +20,7 @@ invariant-loop-index l = record {
   replies : KeepsReplies l.initial.self l.self;
   count : length l.leases.list ≡ l.index;
   room : l.leases.room ≡ l.index-end;
+  shape : LeasesLegs l.initial.self.pool (take l.index (legs_demanded l.plan.plan)) l.leases.list l.self.pool;
+  rest : board_shape l.self ≡ with_pool l.self.pool (board_shape l.initial.self);
   rises : (pair : ℕ) → generation l.self.pool pair ≤ generation l.initial.self.pool pair + l.index;
 }

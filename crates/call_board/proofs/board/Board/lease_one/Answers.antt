@@ -35,3 +35,6 @@ returns-clause-leases c = λ config v pair rest s free is.
       },
       c.push.ensures ∙ ap (with_lease c.args.leases.now) (made ∙ lease_same config v.free v.leases pool pair s.pool_for within),
     )
+
+pub returns-clause-front : goal.returns-clause-front
+returns-clause-front c = (c.in-Some.lease, c.in-Some.ensures.front, c.push.ensures)

@@ -1,4 +1,4 @@
-use Rattle.std.proofs.Common.{refl, sym, subst, List}
+use Rattle.std.proofs.Common.{◌≡◌, ◌∙◌, refl, ap, sym, subst, List}
 use Rattle.call_board.specs.declared.live_call.LiveCall.{LiveCall}
 use Rattle.call_board.specs.Views.{with_due, ends_by}
 use Rattle.call_board.specs.Boards.{CallsFor, CallMatches}
@@ -6,6 +6,8 @@ use Rattle.call_board.proofs.Shown.{shown_call, shown_is}
 use Rattle.call_board.proofs.Applies.{changed, cells_stay}
 use Rattle.call_board.specs.CallNumbers.{AreBelow}
 use Rattle.call_board.proofs.Numbered.{with_changed}
+use Rattle.call_board.specs.Shapes.{live_shape, live_shapes}
+use Rattle.call_board.proofs.Shaped.{stays}
 use Rattle.call_board.proofs.board.Board.mark_ending.Goals as goal
 
 pub invariant_of-self : goal.invariant_of-self
@@ -32,3 +34,12 @@ returns-clause-shows c = λ config v s.
       pool_for = s.pool_for;
       replies_for = s.replies_for;
     }
+
+pub returns-clause-shape : goal.returns-clause-shape
+returns-clause-shape c =
+    let marked = c.mark_ending.ensures in
+    let board = c.args.self.now in
+    let calls : live_shapes c.mark_ending.new.self.list ≡ live_shapes board.calls.list =
+    ap live_shapes marked.list_is ∙ stays c.args.call board.calls.list c.place-place.result marked.before marked.after c.place-place.ensures.place
+    (marked.shape_is ∙ ap live_shape marked.before_is) in
+    λ i. record { config = board.config; begun = board.begun; drawn = board.drawn; calls = calls i; taken = board.taken.items; pool = board.pool }

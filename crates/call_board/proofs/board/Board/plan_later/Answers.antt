@@ -1,4 +1,5 @@
-use Rattle.std.proofs.Common.{inl, false, refl, sym, subst, ◌∙◌, Option, Ok, Err, None}
+use Rattle.std.specs.Prelude.{◌==◌}
+use Rattle.std.proofs.Common.{◌≡◌, filter, Some, inl, false, refl, sym, subst, ◌∙◌, Option, Ok, Err, None}
 use Rattle.std.proofs.lemmas.Result.{err_from_is_err_and}
 use Rattle.std.specs.Str.{bytes_eq}
 use Rattle.relay_outside.specs.declared.settings.Config.{Config}
@@ -10,6 +11,11 @@ use Rattle.call_board.specs.Views.{CallView, is_of_id}
 use Rattle.call_board.specs.Plans.{PlansFor, target_by, board_fault}
 use Rattle.call_board.proofs.Shown.{IsFirst, call_at_place, asks_id, lent_for}
 use Rattle.call_board.proofs.Plans.{refused_by, answers_short, answers_none, marked_by, unless_ending, when_ending}
+use Rattle.offer_answer.specs.Shapes.{OfferShapes}
+use Rattle.offer_answer.specs.OfferPlaces.{OfferPlaces}
+use Rattle.offer_answer.specs.declared.dialog.Dialog.{Dialog}
+use Rattle.histories.specs.Words.{first}
+use Rattle.call_board.proofs.Shaped.{first_of_number}
 use Rattle.call_board.proofs.board.Board.plan_later.Goals as goal
 
 pub returns-in_err-plan-clause-plans : goal.returns-in_err-plan-clause-plans
@@ -66,3 +72,15 @@ returns-then-is_some-clause-plans c = λ config v ask s asks.
     (call_at_place config (λ (call : LiveCall). bytes_eq call.id.list id) (is_of_id id) c.args.self.now.calls.list v.calls c.args.place call (asks_id config id) s.calls_for c.requires.found) in
     subst (λ (o : Option CallView). PlansFor config v (target_by v id o) ask (Err Ending)) (sym f.found)
     (λ n. when_ending config v id f.of ask (marked_by f.call_for.due_is c.is_some.ensures c.if-is_some.true))
+
+pub returns-clause-made : goal.returns-clause-made
+returns-clause-made c =
+    let board = c.args.self.now in
+    let call = c.at-call.result.now in record {
+      call = call;
+      found = subst (λ (one : LiveCall). first (filter (λ (other : LiveCall). other.number == one.number) board.calls.list) ≡ Some one) (sym c.at-call.ensures)
+          (first_of_number board.calls.list board.begun c.args.place call board.numbers c.requires.within);
+      cell_is = refl;
+      shapes = subst (λ (dialog : Dialog). OfferShapes c.in_ok-plan.plan dialog c.in_ok-plan.plan.next) c.deref.ensures c.in_ok-plan.ensures.shapes;
+      places = subst (λ (dialog : Dialog). OfferPlaces c.in_ok-plan.plan dialog) c.deref.ensures c.in_ok-plan.ensures.places;
+    }

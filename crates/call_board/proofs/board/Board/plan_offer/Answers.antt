@@ -12,3 +12,6 @@ returns-in-None-clause-plans c = λ config v ask s asks.
     let none = no_call_found config (λ (call : LiveCall). bytes_eq call.id.list id) (is_of_id id) c.args.self.now.calls.list v.calls
     (asks_id config id) s.calls_for (sym c.in-None.ensures.place) in
     subst (λ (o : Option CallView). PlansFor config v (target_by v id o) ask c.plan_first.result) (sym none) (c.plan_first.ensures.plans config v ask s asks)
+
+pub returns-in-None-clause-made : goal.returns-in-None-clause-made
+returns-in-None-clause-made c = c.plan_first.ensures.made (sym c.in-None.ensures.place)

@@ -1,4 +1,5 @@
-use Rattle.std.proofs.Common.{refl, sym, subst, Option, Ok, Err, None}
+use Rattle.std.specs.Prelude.{◌==◌}
+use Rattle.std.proofs.Common.{◌≡◌, filter, Some, refl, sym, subst, Option, Ok, Err, None}
 use Rattle.std.proofs.lemmas.Result.{err_from_is_err_and}
 use Rattle.std.specs.Str.{bytes_eq}
 use Rattle.relay_outside.specs.declared.settings.Config.{Config}
@@ -10,6 +11,11 @@ use Rattle.call_board.specs.Views.{CallView, is_of_id}
 use Rattle.call_board.specs.Plans.{PlansAnswer, board_fault}
 use Rattle.call_board.proofs.Shown.{IsFirst, call_at_place, asks_id, lent_for}
 use Rattle.call_board.proofs.Plans.{answer_refused_by, marked_by, answer_unless_ending, answer_when_ending}
+use Rattle.offer_answer.specs.AnswerShapes.{AnswerShapes}
+use Rattle.offer_answer.specs.OfferPlaces.{AnswerCounts}
+use Rattle.offer_answer.specs.declared.dialog.Dialog.{Dialog}
+use Rattle.histories.specs.Words.{first}
+use Rattle.call_board.proofs.Shaped.{first_of_number}
 use Rattle.call_board.proofs.board.Board.plan_reply.Goals as goal
 
 pub returns-in_err-plan-clause-plans : goal.returns-in_err-plan-clause-plans
@@ -53,3 +59,16 @@ returns-then-is_some-clause-plans c = λ config v s.
     (call_at_place config (λ (call : LiveCall). bytes_eq call.id.list id) (is_of_id id) c.args.self.now.calls.list v.calls c.args.place call (asks_id config id) s.calls_for c.requires.found) in
     subst (λ (o : Option CallView). PlansAnswer config c.args.input.now c.args.sdp.now o (Err Ending)) (sym f.found)
     (λ ask asks n. answer_when_ending f.of ask (marked_by f.call_for.due_is c.is_some.ensures c.if-is_some.true))
+
+pub returns-clause-made : goal.returns-clause-made
+returns-clause-made c =
+    let board = c.args.self.now in
+    let call = c.at-call.result.now in record {
+      call = call;
+      found = subst (λ (one : LiveCall). first (filter (λ (other : LiveCall). other.number == one.number) board.calls.list) ≡ Some one) (sym c.at-call.ensures)
+          (first_of_number board.calls.list board.begun c.args.place call board.numbers c.requires.within);
+      cell_is = refl;
+      begins_none = refl;
+      shapes = subst (λ (dialog : Dialog). AnswerShapes c.in_ok-plan.plan dialog c.in_ok-plan.plan.next) c.deref.ensures c.in_ok-plan.ensures.shapes;
+      counts = subst (λ (dialog : Dialog). AnswerCounts c.in_ok-plan.plan dialog) c.deref.ensures c.in_ok-plan.ensures.counts;
+    }

@@ -4,6 +4,7 @@ use Rattle.port_pool.specs.Pools.{Pairs}
 use Rattle.port_pool.specs.declared.pairs.Lease.{Lease}
 use Rattle.port_pool.proofs.Standing.{returned_stands}
 use Rattle.call_board.specs.Boards.{AreOut, pairs_in}
+use Rattle.call_board.specs.Shapes.{live_shapes}
 use Rattle.call_board.proofs.Given.{out_after}
 use Rattle.call_board.proofs.board.Board.take_back.Goals as goal
 
@@ -38,3 +39,11 @@ returns-clause-shows c = λ config v s. (
     replies_for = s.replies_for;
   },
 )
+
+pub returns-clause-shape : goal.returns-clause-shape
+returns-clause-shape c =
+    let board = c.args.self.now in (
+      c.in-Some.lease,
+      c.in-Some.ensures.list,
+      λ i. record { config = board.config; begun = board.begun; drawn = board.drawn; calls = live_shapes board.calls.list; taken = board.taken.items; pool = c.give_back.ensures i },
+    )

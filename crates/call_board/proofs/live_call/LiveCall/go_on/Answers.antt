@@ -1,6 +1,8 @@
-use Rattle.std.proofs.Common.{refl}
+use Rattle.std.proofs.Common.{refl, subst}
 use Rattle.call_board.proofs.Shown.{lent_for}
 use Rattle.call_board.proofs.Applies.{applied, begun_awaits}
+use Rattle.offer_answer.specs.declared.dialog.Dialog.{Dialog}
+use Rattle.call_board.specs.Shapes.{DialogApplies}
 use Rattle.call_board.proofs.live_call.LiveCall.go_on.Goals as goal
 
 pub returns-clause-taken : goal.returns-clause-taken
@@ -15,3 +17,11 @@ returns-clause-taken c = λ config of round s begun p.
       last_is = refl;
       due_is = s.due_is;
     }
+
+pub returns-clause-applies : goal.returns-clause-applies
+returns-clause-applies c =
+    subst (λ (old : Dialog). DialogApplies c.args.plan old c.apply.new.self) c.deref_mut.ensures.value (record {
+      offered = c.apply.ensures.shapes;
+      answered = c.apply.ensures.answered_shapes;
+      counts = c.apply.ensures.counts;
+    })

@@ -23,4 +23,6 @@ returns c = rw (← c.self.view_is) (record {
   list_is = values-set c.self.inside.calls.entries c.args.place c.go_on.new.self;
   number_is = c.go_on.ensures.number;
   taken = c.go_on.ensures.taken;
+  cell_is = c.go_on.ensures.cell;
+  applies = c.go_on.ensures.applies;
 })

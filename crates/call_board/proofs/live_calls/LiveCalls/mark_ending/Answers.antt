@@ -23,4 +23,5 @@ returns c = rw (← c.self.view_is) (record {
   list_is = values-set c.self.inside.calls.entries c.args.place c.mark_ending.new.self;
   number_is = c.mark_ending.ensures.number;
   marked = c.mark_ending.ensures.marked;
+  shape_is = c.mark_ending.ensures.shape;
 })
