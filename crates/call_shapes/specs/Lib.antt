@@ -1,0 +1,6 @@
+pub mod Events
+pub mod Agreement
+pub mod WholeRelay
+pub mod Turns
+pub mod OfferFits
+pub mod NumberedTurns
