@@ -23,6 +23,7 @@ use Rattle.call_board.specs.Fits.{FitsBoard}
 use Rattle.call_board.specs.Futures.{closed_pairs}
 use Rattle.call_board.specs.Pairs.{held}
 use Rattle.call_board.specs.Views.{View, view_of, view_at_moment, board_last_moment}
+use Rattle.relay_core.specs.PartShapes.{board_shape_in}
 use Rattle.relay_core.specs.declared.part.Part.{Part}
 use Rattle.relay_core.specs.declared.part.Part.TheVariants as part
 use Rattle.relay_core.specs.Entries.{Event, Board, Entry, is_at, history, board_at, board_entry, board_history, front}
@@ -222,15 +223,15 @@ module _ {M I O T : Type 0} {g : _} where
 -- of the legs which it closes then
 pub relates_put : {I O : Type 0} (it : I → EndLog InCall) (ic : I → ℕ) (ot : O → EndLog OutCall) (oc : O → ℕ)
     (config : Config) (h : List BoardEntry) (old new : Part I O) (made : Made) (event : BoardEvent) → made.event ≡ Board event → closed_pairs h (board_made made event) ≡ made.returned
-    → BoardIs config old h → made.moment ≡ moment_of (Board event) made.handed (board_last_moment h) → FitsBoard config h (board_made made event)
+    → made.kept ≡ board_shape_in new → BoardIs config old h → made.moment ≡ moment_of (Board event) made.handed (board_last_moment h) → FitsBoard config h (board_made made event)
     → BoardIs config new (board_made made event ∷ h) → Relates it ic ot oc old made new
-relates_put it ic ot oc config h (part.Board old) (part.Board new) made event is gives was moment fits stands =
+relates_put it ic ot oc config h (part.Board old) (part.Board new) made event is gives kept was moment fits stands =
     subst (λ (v : Event). BoardSteps old made v new) (sym is)
-    (steps_for_all config h old new made event was gives (record { moment_is = moment; fits = fits; stands = stands.1 }))
-relates_put it ic ot oc config h (part.Board old) (part.Cell new) made event is gives was moment fits stands = absurd stands
-relates_put it ic ot oc config h (part.Board old) (part.Pair new) made event is gives was moment fits stands = absurd stands
-relates_put it ic ot oc config h (part.Cell old) new made event is gives was moment fits stands = absurd was
-relates_put it ic ot oc config h (part.Pair old) new made event is gives was moment fits stands = absurd was
+    (steps_for_all config h old new made event was gives kept (record { moment_is = moment; fits = fits; stands = stands.1 }))
+relates_put it ic ot oc config h (part.Board old) (part.Cell new) made event is gives kept was moment fits stands = absurd stands
+relates_put it ic ot oc config h (part.Board old) (part.Pair new) made event is gives kept was moment fits stands = absurd stands
+relates_put it ic ot oc config h (part.Cell old) new made event is gives kept was moment fits stands = absurd was
+relates_put it ic ot oc config h (part.Pair old) new made event is gives kept was moment fits stands = absurd was
 
 module _ {M I O T : Type 0} {g : _} where
   -- the hand still has the turn when it has made nested steps

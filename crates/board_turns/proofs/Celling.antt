@@ -14,6 +14,7 @@ use Rattle.port_pool.specs.Reports.{CountsFit}
 use Rattle.call_cell.specs.declared.cell.Cell as cell
 use Rattle.call_cell.specs.Cells.{CellEntry, Expire, Read, End, since_end}
 use Rattle.call_cell.specs.Shapes.{cell_shape, cell_leg_shapes, ended_shape, IsSmall}
+use Rattle.call_cell.proofs.Shaped.{is_small}
 use Rattle.call_cell.specs.Demands.{CountsBelow}
 use Rattle.call_cell.specs.CellHistories.{CellFor}
 use Rattle.call_cell.specs.CellEnds.{CellEnds}
@@ -40,6 +41,10 @@ module _ {I O : Type 0} where
   is_cell config (part.Board board) h is = is
   is_cell config (part.Cell cell) h is = tt
   is_cell config (part.Pair box) h is = is
+
+  -- its legs are few
+  pub held_small : (config : Config) (x : Part I O) (c : cell.Cell O) (h : List CellEntry) → x ≡ part.Cell c → CellIs config x h → IsSmall (cell_leg_shapes c.legs.items)
+  held_small config x c h at is = let stands = subst (λ (y : Part I O). CellIs config y h) at is in is_small config c stands.0 stands.2
 
 -- What a cell tells of its legs after one history it tells after each other one.
 
@@ -81,7 +86,7 @@ module _ {I O : Type 0} where
 
 module _ {I O : Type 0} (it : I → EndLog InCall) (ic : I → ℕ) (ot : O → EndLog OutCall) (oc : O → ℕ) where
   pub end_relates : (x : Part I O) (old new : cell.Cell O) (gone : List (Lease × O × O)) (number handed : ℕ) → x ≡ part.Cell old
-      → (IsSmall (cell_leg_shapes old.legs.items) → cell_shape new ≡ ended_shape)
+      → cell_shape new ≡ ended_shape old.config
       → ((config : Config) (h : List CellEntry) → CellFor config old h → CellEnds config old new h gone)
       → Relates it ic ot oc x (leaving number handed (moment_of_cell x) (Cell End) (gone_left ot gone)) (part.Cell new)
   end_relates x old new gone number handed is shape steps =

@@ -4,11 +4,13 @@ use Rattle.relay_outside.specs.declared.settings.Config.{Config}
 use Rattle.relay_outside.specs.declared.ports.InCall.{InCall}
 use Rattle.relay_outside.specs.declared.ports.OutCall.{OutCall}
 use Rattle.relay_outside.specs.DeviceLogs.{EndLog}
+use Rattle.rtp_packet.specs.declared.head.Half.TheVariants.{Rtp}
 use Rattle.turn_table.specs.declared.hands.Hand.{Hand}
 use Rattle.turn_table.specs.Hands.{EndsTurn}
 use Rattle.port_pool.specs.declared.pairs.Lease.{Lease}
 use Rattle.port_pool.specs.declared.signal.SectionSignal.{SectionSignal}
 use Rattle.port_pool.specs.Signals.{NewKey}
+use Rattle.port_pool.specs.Ports.{pair_family, pair_port}
 use Rattle.call_cell.specs.declared.prepare.Prepare as prepared
 use Rattle.call_cell.specs.declared.cell.Cell as cell
 use Rattle.call_cell.specs.Cells.{CellEvent, CellEntry, Prepare, Commit, Relay, Expire, Read, End, since_end}
@@ -20,7 +22,9 @@ use Rattle.call_cell.specs.Preparations.{PrepareFor, CanCome, CellPrepares, Fits
 use Rattle.call_cell.proofs.Again.{can_come_again, names_keys_again}
 use Rattle.call_cell.proofs.Callers.{places_fit, due_is}
 use Rattle.call_cell.proofs.Due.{due_named}
+use Rattle.call_cell.proofs.Shaped.{is_small}
 use Rattle.call_cell.proofs.Nested.{entry_at, can_come_kept, names_keys_kept, due_kept}
+use Rattle.call_shapes.proofs.Brought.{offer_is_event}
 use Rattle.relay_core.specs.declared.part.Part.{Part}
 use Rattle.relay_core.specs.declared.part.Part.TheVariants as part
 use Rattle.relay_core.specs.Entries.{Entry, Cell, cell_history}
@@ -155,7 +159,13 @@ module _ {I O : Type 0} (it : I → EndLog InCall) (ic : I → ℕ) (ot : O → 
       (record {
         signal = signal;
         legs_are = refl;
-        shape = shape keys dropped o.tells;
+        shape = shape keys dropped o.tells
+            ∙ offer_is_event old signal call keys dropped o.tells
+            (λ leg i. (
+              subst (λ (k : Config). leg.lease.family ≡ pair_family k leg.holder.pair) (sym o.stands.config_is) (o.comes.families leg i),
+              subst (λ (k : Config). leg.lease.rtp_port ≡ pair_port k leg.holder.pair) (sym o.stands.config_is) (o.comes.ports leg i Rtp),
+            ))
+            (is_small o.config old o.history o.stands);
         opened = subst (λ (z : Part I O). OpenedFor ot z signal) is opened;
         gone = gone;
         left_are = refl;
@@ -176,7 +186,7 @@ module _ {I O : Type 0} (it : I → EndLog InCall) (ic : I → ℕ) (ot : O → 
       let a = answer_of x old signal contexts is takes in
       subst (λ (z : Part I O). Relates it ic ot oc z (leaving number now (max now (moment_of_cell z)) (Cell (Commit signal)) (gone_left ot gone)) (part.Cell new)) (sym is)
       (record {
-        shape = shape;
+        shape = shape (is_small a.config old a.history a.stands);
         gone = gone;
         left_are = refl;
         steps = λ config h for. (

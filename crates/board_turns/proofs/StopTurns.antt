@@ -15,6 +15,8 @@ use Rattle.call_board.specs.Boards.{BoardFor, BoardMatches}
 use Rattle.call_board.specs.Fits.{IsFitting}
 use Rattle.call_board.specs.Calls.{live}
 use Rattle.call_board.specs.Views.{View, view_of, view_at_moment, board_last_moment}
+use Rattle.call_board.specs.Shapes.{BoardShape}
+use Rattle.relay_core.specs.PartShapes.{board_shape_in}
 use Rattle.relay_core.specs.declared.part.Part.{Part}
 use Rattle.relay_core.specs.declared.part.Part.TheVariants as part
 use Rattle.relay_core.specs.Entries.{board_history}
@@ -40,10 +42,10 @@ moved {I} {O} config h x y is stands = subst (λ (z : Part I O). BoardIs config 
 -- the board that was taken relates to the one that ended all live calls
 pub stop_relates : {I O : Type 0} (it : I → EndLog InCall) (ic : I → ℕ) (ot : O → EndLog OutCall) (oc : O → ℕ)
     (config : Config) (h again : List BoardEntry) (old new : Part I O) → again ≡ h → BoardIs config old h → BoardIs config new (stop_entry h ∷ h)
-    → Relates it ic ot oc old (stop_made again) new
+    → Relates it ic ot oc old (stop_made again (board_shape_in new)) new
 stop_relates it ic ot oc config h again old new same was stands =
-    subst (λ (k : List BoardEntry). Relates it ic ot oc old (stop_made k) new) (sym same)
-    (relates_put it ic ot oc config h old new (stop_made h) (Stop (live h)) refl refl was refl refl stands)
+    subst (λ (k : List BoardEntry). Relates it ic ot oc old (stop_made k (board_shape_in new)) new) (sym same)
+    (relates_put it ic ot oc config h old new (stop_made h (board_shape_in new)) (Stop (live h)) refl refl refl was refl refl stands)
 
 module _ {M S T : Type 0} {g : _} where
   pub gained_at : (config : Config) (mid nested : Hand M S Made T g) (number n : ℕ) → number ≡ n
@@ -65,19 +67,19 @@ module _ {M I O T : Type 0} {g : _} where
       nested_history config mid nested (front_of turn) (board_last_moment h) (front_of turn) (stop_entry h) begins.orderly refl gains
 
   -- the stop's entry was put
-  pub stop_ends : (config : Config) (turns : Turns M (Part I O) Made T) (old mid nested new : Hand M (Part I O) Made T g) (turn : Turn M (Part I O) Made T) (outcome : T)
+  pub stop_ends : (kept : Option BoardShape) (config : Config) (turns : Turns M (Part I O) Made T) (old mid nested new : Hand M (Part I O) Made T g) (turn : Turn M (Part I O) Made T) (outcome : T)
       → IsBetween config turns old → IsSameHand old mid × (entries mid ≡ entries old) → GainsTurn 0 turn old mid → Begins config turns mid turn
       → IsSameHand mid nested × SameTurns mid nested
       → GainsNested (front_of turn) (board_last_moment (board_history (made_by mid) (front_of turn)))
       (script config (board_history (made_by mid) (front_of turn)) (stop_entry (board_history (made_by mid) (front_of turn)))) mid nested
-      → IsSameHand nested new → EndsTurn (place_of turn) (front_of turn) (stop_made (board_history (made_by nested) (front_of turn))) outcome nested new
+      → IsSameHand nested new → EndsTurn (place_of turn) (front_of turn) (stop_made (board_history (made_by nested) (front_of turn)) kept) outcome nested new
       → Ended config turns old new (stop_entry (board_of (made_by old)))
-  stop_ends config turns old mid nested new turn outcome b same turned begins sames gains again ended =
+  stop_ends kept config turns old mid nested new turn outcome b same turned begins sames gains again ended =
       let h = board_history (made_by mid) (front_of turn) in
-      let is : EndsTurn (place_of turn) (front_of turn) (stop_made h) outcome nested new =
-      subst (λ (k : List BoardEntry). EndsTurn (place_of turn) (front_of turn) (stop_made k) outcome nested new) (stop_history config turns mid nested turn begins gains) ended in
+      let is : EndsTurn (place_of turn) (front_of turn) (stop_made h kept) outcome nested new =
+      subst (λ (k : List BoardEntry). EndsTurn (place_of turn) (front_of turn) (stop_made k kept) outcome nested new) (stop_history config turns mid nested turn begins gains) ended in
       subst (λ (k : List BoardEntry). Ended config turns old new (stop_entry k)) (begins_whole config turns old mid turn same.1 begins)
-      (turn_ends config turns old mid nested new turn (stop_made h) outcome (Stop (live h)) (board_last_moment h) b same turned begins.above sames gains refl refl refl refl again is)
+      (turn_ends config turns old mid nested new turn (stop_made h kept) outcome (Stop (live h)) (board_last_moment h) b same turned begins.above sames gains refl refl refl refl again is)
 
 module _ {M I O T : Type 0} {g : _} where
   -- what is known when the board's turn was taken for a stop, and its board, with which the turn of this number goes on, was advanced

@@ -22,6 +22,7 @@ use Rattle.call_board.specs.Views.{View, CallView, call_view, view_of, view_at_m
 use Rattle.call_board.proofs.Calls.{live_numbers}
 use Rattle.call_board.proofs.Cells.{live_step}
 use Rattle.call_board.proofs.Sieves.{filter_alike}
+use Rattle.relay_core.specs.PartShapes.{board_shape_in}
 use Rattle.relay_core.specs.declared.part.Part.{Part}
 use Rattle.relay_core.specs.declared.part.Part.TheVariants as part
 use Rattle.relay_core.specs.Entries.{board_history}
@@ -92,7 +93,7 @@ gone_are config h now calls (part.Pair b) fits is stands = absurd stands
 module _ {M I O T : Type 0} {g : _} where
   -- what the table records of the tick, by what the turn leaves
   abbrev pub made_after : Hand M (Part I O) Made T g → ℕ → ℕ → Part I O → Made
-  made_after nested n now x = tick_made (board_history (made_by nested) n) now (calls_gone (board_history (made_by nested) n) x)
+  made_after nested n now x = tick_made (board_history (made_by nested) n) now (calls_gone (board_history (made_by nested) n) x) (board_shape_in x)
 
   module _ (config : Config) (turns : Turns M (Part I O) Made T) (mid nested : Hand M (Part I O) Made T g) (turn : Turn M (Part I O) Made T) (now count : ℕ) (x : Part I O)
       (log : Option (List PortCall)) (calls : List Call) (begins : Begins config turns mid turn)
@@ -104,11 +105,11 @@ module _ {M I O T : Type 0} {g : _} where
         let h = board_history (made_by mid) (front_of turn) in
         nested_history config mid nested (front_of turn) (max now (board_last_moment h)) (front_of turn) (tick_entry h now calls) begins.orderly (ends.named, ends.none_passed) ends.gained
 
-    pub made_is : made_after nested (front_of turn) now x ≡ tick_made (board_history (made_by mid) (front_of turn)) now calls
+    pub made_is : made_after nested (front_of turn) now x ≡ tick_made (board_history (made_by mid) (front_of turn)) now calls (board_shape_in x)
     made_is =
         let h = board_history (made_by mid) (front_of turn) in
-        ap (λ (k : List BoardEntry). tick_made k now (calls_gone k x)) same_history
-        ∙ ap (tick_made h now) (gone_are config h now calls x (good_history config (made_by mid) begins.orderly (front_of turn)) ends.named stands)
+        ap (λ (k : List BoardEntry). tick_made k now (calls_gone k x) (board_shape_in x)) same_history
+        ∙ ap (λ (those : List Call). tick_made h now those (board_shape_in x)) (gone_are config h now calls x (good_history config (made_by mid) begins.orderly (front_of turn)) ends.named stands)
 
     -- the board that was taken relates to the one that ended the calls that were due
     pub tick_relates : (it : I → EndLog InCall) (ic : I → ℕ) (ot : O → EndLog OutCall) (oc : O → ℕ) (old : Part I O)
@@ -116,7 +117,7 @@ module _ {M I O T : Type 0} {g : _} where
     tick_relates it ic ot oc old was =
         let h = board_history (made_by mid) (front_of turn) in
         subst (λ (m : Made). Relates it ic ot oc old m x) (sym made_is)
-        (relates_put it ic ot oc config h old x (tick_made h now calls) (Tick calls) refl refl was refl (ends.named, ends.none_passed) stands)
+        (relates_put it ic ot oc config h old x (tick_made h now calls (board_shape_in x)) (Tick calls) refl refl refl was refl (ends.named, ends.none_passed) stands)
 
     -- the tick's entry was put
     pub tick_ends : (old new : Hand M (Part I O) Made T g) (outcome : T) → IsBetween config turns old → IsSameHand old mid × (entries mid ≡ entries old) → GainsTurn 0 turn old mid
@@ -126,7 +127,7 @@ module _ {M I O T : Type 0} {g : _} where
     tick_ends old new outcome b same turned sames again ended =
         let h = board_history (made_by mid) (front_of turn) in
         subst (λ (k : List BoardEntry). Ended config turns old new (tick_entry k now calls)) (begins_whole config turns old mid turn same.1 begins)
-        (turn_ends config turns old mid nested new turn (tick_made h now calls) outcome (Tick calls) (max now (board_last_moment h)) b same turned begins.above sames ends.gained refl refl refl
+        (turn_ends config turns old mid nested new turn (tick_made h now calls (board_shape_in x)) outcome (Tick calls) (max now (board_last_moment h)) b same turned begins.above sames ends.gained refl refl refl
         (ends.named, ends.none_passed) again (subst (λ (m : Made). EndsTurn (place_of turn) (front_of turn) m outcome nested new) made_is ended))
 
   -- what is known when the board's turn was taken for a tick, which goes on with this number and moment

@@ -11,6 +11,7 @@ use Rattle.call_board.specs.Futures.{closed_pairs}
 use Rattle.call_board.specs.KeptReplies.{kept_reply}
 use Rattle.call_board.specs.Pairs.{leased_by_act}
 use Rattle.call_board.specs.Views.{board_last_moment}
+use Rattle.call_board.specs.Shapes.{BoardShape}
 use Rattle.relay_core.specs.Entries.{Board}
 use Rattle.relay_core.specs.Records.{Made, nothing_left}
 
@@ -71,13 +72,14 @@ entry_with moment x a = record { moment = moment; event = Turn (with_answer x a)
 abbrev pub entry_at : Config → List BoardEntry → ℕ → RequestRecord → BoardEntry
 entry_at config h moment x = entry_with moment x (answering_unless config h (unanswered x) (kept_reply h x.source x.cookie moment))
 
--- the step that the table records of a datagram that is handed this moment
-abbrev pub control_made : Config → List BoardEntry → ℕ → RequestRecord → Made
-control_made config h now x = record {
+-- the step that the table records of a datagram that is handed this moment, where the board keeps this after it
+abbrev pub control_made : Config → List BoardEntry → ℕ → RequestRecord → (kept : Option BoardShape) → Made
+control_made config h now x kept = record {
   handed = now;
   moment = moment_at h now;
   board = 0;
   returned = closed_pairs h (entry_at config h (moment_at h now) x);
   event = Board (Turn (control_of config h (moment_at h now) x));
   left = nothing_left;
+  kept = kept;
 }

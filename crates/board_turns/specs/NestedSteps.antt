@@ -32,7 +32,7 @@ pub record MayNest {M I O T : Type 0} {g : _} (config : Config) (turns : Turns M
 
 -- a step that was handed this moment, as the table records it, and by which this leaves its place
 abbrev pub leaving : (number handed moment : ℕ) → Event → Left → Made
-leaving number handed moment event left = record { handed = handed; moment = moment; board = number; returned = []; event = event; left = left }
+leaving number handed moment event left = record { handed = handed; moment = moment; board = number; returned = []; event = event; left = left; kept = None }
 
 -- the same of one by which nothing leaves
 abbrev pub nested : (number handed moment : ℕ) → Event → Made

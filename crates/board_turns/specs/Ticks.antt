@@ -19,6 +19,7 @@ use Rattle.call_board.specs.Futures.{closed_pairs}
 use Rattle.call_board.specs.Pairs.{held}
 use Rattle.call_board.specs.Boards.{BoardMatches}
 use Rattle.call_board.specs.Views.{View, CallView, call_numbered, board_last_moment}
+use Rattle.call_board.specs.Shapes.{BoardShape}
 use Rattle.relay_core.specs.declared.part.Part.{Part}
 use Rattle.relay_core.specs.Entries as event
 use Rattle.relay_core.specs.Entries.{Entry, cell_history}
@@ -38,15 +39,16 @@ tick_at moment calls = record { moment = moment; event = Tick calls }
 abbrev pub tick_entry : List BoardEntry → ℕ → List Call → BoardEntry
 tick_entry h now calls = tick_at (max now (board_last_moment h)) calls
 
--- as the table records it
-abbrev pub tick_made : List BoardEntry → ℕ → List Call → Made
-tick_made h now calls = record {
+-- as the table records it, where the board keeps this after it
+abbrev pub tick_made : List BoardEntry → ℕ → List Call → (kept : Option BoardShape) → Made
+tick_made h now calls kept = record {
   handed = now;
   moment = max now (board_last_moment h);
   board = 0;
   returned = closed_pairs h (tick_entry h now calls);
   event = event.Board (Tick calls);
   left = nothing_left;
+  kept = kept;
 }
 
 -- One call.

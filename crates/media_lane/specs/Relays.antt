@@ -29,7 +29,7 @@ use Rattle.media_lane.specs.Busy.{Gives, FindsBusy}
 
 -- a relay as the table records it
 abbrev pub relay_made : cells.Receipt → ℕ → ℕ → Outcome → Made
-relay_made p now moment outcome = record { handed = now; moment = moment; board = 0; returned = []; event = Cell (cells.Relay (logged_relay p outcome)); left = nothing_left }
+relay_made p now moment outcome = record { handed = now; moment = moment; board = 0; returned = []; event = Cell (cells.Relay (logged_relay p outcome)); left = nothing_left; kept = None }
 
 -- the last moment of a cell
 abbrev pub cell_moment : {I O : Type 0} → Part I O → ℕ

@@ -1,5 +1,5 @@
 -- What a take by a lane adds to the list of its hand.
-use Rattle.std.specs.Prelude.{◌≡◌, ◌⊎◌, ◌≤◌, ℕ, List, [], ◌∷◌, ◌++◌, length}
+use Rattle.std.specs.Prelude.{◌≡◌, ◌⊎◌, ◌≤◌, ℕ, List, [], ◌∷◌, ◌++◌, length, None}
 use Rattle.relay_outside.specs.declared.address.Addr.{Addr}
 use Rattle.relay_outside.specs.declared.settings.Config.{Config}
 use Rattle.relay_outside.specs.declared.ports.InCall.{InCall}
@@ -29,7 +29,7 @@ use Rattle.media_lane.specs.Receipts.{IsReceiptOf}
 
 -- a take as the table records it
 abbrev pub take_made : Half → Taken → Made
-take_made half taken = record { handed = 0; moment = 0; board = 0; returned = []; event = Box (box.Take half taken); left = nothing_left }
+take_made half taken = record { handed = 0; moment = 0; board = 0; returned = []; event = Box (box.Take half taken); left = nothing_left; kept = None }
 
 -- the same by the result of a take of a box and the bytes of the buffer after it
 abbrev pub box_take_made : Half → BoxTake → List ℕ → Made

@@ -16,6 +16,8 @@ use Rattle.call_board.specs.Boards.{BoardMatches}
 use Rattle.call_board.specs.Fits.{FitsBoard, IsFitting}
 use Rattle.call_board.specs.Pairs.{held}
 use Rattle.call_board.specs.Views.{View, view_of, view_at_moment, board_last_moment}
+use Rattle.call_board.specs.Shapes.{BoardShape}
+use Rattle.relay_core.specs.PartShapes.{board_shape_in}
 use Rattle.relay_core.specs.declared.part.Part.{Part}
 use Rattle.relay_core.specs.declared.part.Part.TheVariants as part
 use Rattle.relay_core.specs.Entries.{board_history}
@@ -37,10 +39,10 @@ use Rattle.ng_server.specs.Requests.{AnswersRequest}
 pub control_relates : {I O : Type 0} (it : I → EndLog InCall) (ic : I → ℕ) (ot : O → EndLog OutCall) (oc : O → ℕ)
     (config : Config) (h again : List BoardEntry) (old new : Part I O) (now : ℕ) (x : RequestRecord) → again ≡ h → BoardIs config old h
     → FitsBoard config h (entry_at config h (moment_at h now) x) → BoardIs config new (entry_at config h (moment_at h now) x ∷ h)
-    → Relates it ic ot oc old (control_made config again now x) new
+    → Relates it ic ot oc old (control_made config again now x (board_shape_in new)) new
 control_relates it ic ot oc config h again old new now x same was fits stands =
-    subst (λ (k : List BoardEntry). Relates it ic ot oc old (control_made config k now x) new) (sym same)
-    (relates_put it ic ot oc config h old new (control_made config h now x) (act.Turn (control_of config h (moment_at h now) x)) refl refl was refl fits stands)
+    subst (λ (k : List BoardEntry). Relates it ic ot oc old (control_made config k now x (board_shape_in new)) new) (sym same)
+    (relates_put it ic ot oc config h old new (control_made config h now x (board_shape_in new)) (act.Turn (control_of config h (moment_at h now) x)) refl refl refl was refl fits stands)
 
 module _ {M I O T : Type 0} {g : _} where
   -- The main hand has just taken the board's turn of this number and moment, to which the board of the place is advanced
@@ -121,18 +123,18 @@ module _ {M I O T : Type 0} {g : _} where
       nested_history config mid nested (front_of turn) (moment_at h now) (front_of turn) (entry_at config h (moment_at h now) x) begins.orderly deals.fits deals.gained
 
   -- the datagram's entry was put
-  pub control_ends : (config : Config) (turns : Turns M (Part I O) Made T) (old mid nested new : Hand M (Part I O) Made T g) (turn : Turn M (Part I O) Made T) (outcome : T)
+  pub control_ends : (kept : Option BoardShape) (config : Config) (turns : Turns M (Part I O) Made T) (old mid nested new : Hand M (Part I O) Made T g) (turn : Turn M (Part I O) Made T) (outcome : T)
       (now : ℕ) (x : RequestRecord) (place : Part I O) (log : Option (List PortCall))
       → IsBetween config turns old → IsSameHand old mid × (entries mid ≡ entries old) → GainsTurn 0 turn old mid → Begins config turns mid turn
       → IsSameHand mid nested × SameTurns mid nested
       → DealsAt config mid nested (front_of turn) (moment_at (board_history (made_by mid) (front_of turn)) now) x place log
-      → IsSameHand nested new → EndsTurn (place_of turn) (front_of turn) (control_made config (board_history (made_by nested) (front_of turn)) now x) outcome nested new
+      → IsSameHand nested new → EndsTurn (place_of turn) (front_of turn) (control_made config (board_history (made_by nested) (front_of turn)) now x kept) outcome nested new
       → Ended config turns old new (entry_at config (board_of (made_by old)) (moment_at (board_of (made_by old)) now) x)
-  control_ends config turns old mid nested new turn outcome now x place log b same turned begins sames deals again ended =
+  control_ends kept config turns old mid nested new turn outcome now x place log b same turned begins sames deals again ended =
       let h = board_history (made_by mid) (front_of turn) in
-      let is : EndsTurn (place_of turn) (front_of turn) (control_made config h now x) outcome nested new =
-      subst (λ (k : List BoardEntry). EndsTurn (place_of turn) (front_of turn) (control_made config k now x) outcome nested new)
+      let is : EndsTurn (place_of turn) (front_of turn) (control_made config h now x kept) outcome nested new =
+      subst (λ (k : List BoardEntry). EndsTurn (place_of turn) (front_of turn) (control_made config k now x kept) outcome nested new)
       (control_history config turns mid nested turn now x place log begins deals) ended in
       subst (λ (k : List BoardEntry). Ended config turns old new (entry_at config k (moment_at k now) x)) (begins_whole config turns old mid turn same.1 begins)
-      (turn_ends config turns old mid nested new turn (control_made config h now x) outcome (act.Turn (control_of config h (moment_at h now) x)) (moment_at h now)
+      (turn_ends config turns old mid nested new turn (control_made config h now x kept) outcome (act.Turn (control_of config h (moment_at h now) x)) (moment_at h now)
       b same turned begins.above sames deals.gained refl refl refl deals.fits again is)

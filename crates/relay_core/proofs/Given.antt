@@ -346,7 +346,7 @@ module _ {T I O : Type 0} (it : I → EndLog InCall) (ic : I → ℕ) (ot : O �
       ∙ ap (λ (i : ℕ). history (list_of v.entries) k i) g.long
 
   -- what is kept of the whole history is kept of the list's
-  kept_history : (k : ℕ) (v : View (Part I O) Made T) (n : ℕ) (x : Part I O) → (g : Gives k v n x) → v.main ≡ true → Numbered v.entries
+  pub kept_history : (k : ℕ) (v : View (Part I O) Made T) (n : ℕ) (x : Part I O) → (g : Gives k v n x) → v.main ≡ true → Numbered v.entries
       → filter keeps_event (onto g.history []) ≡ filter keeps_event (history (list_of v.entries) k n)
   kept_history k v n x g main numbered =
       let o = own_history keeps_event k v.entries g.history (is_own k v n x g main numbered) (length g.history) (omega arith) in
@@ -402,7 +402,7 @@ module _ {T I O : Type 0} (it : I → EndLog InCall) (ic : I → ℕ) (ot : O �
       ∙ sym (box_kept (history (list_of v.entries) k n)))
 
   -- the nested entries of a cell's whole history are the list's
-  same_nested : (k : ℕ) (v : View (Part I O) Made T) (n : ℕ) (x : Part I O) → (g : Gives k v n x) → v.main ≡ true → Numbered v.entries
+  pub same_nested : (k : ℕ) (v : View (Part I O) Made T) (n : ℕ) (x : Part I O) → (g : Gives k v n x) → v.main ≡ true → Numbered v.entries
       → nested_of (filter_map cell_entry (onto g.history [])) ≡ nested_of (cell_history (list_of v.entries) k n)
   same_nested k v n x g main numbered =
       cell_kept (onto g.history [])

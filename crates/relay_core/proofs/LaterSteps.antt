@@ -26,12 +26,15 @@ later_made config before made = record {
   returned = made.returned;
   event = later_event config before made.event;
   left = made.left;
+  kept = made.kept;
 }
 
 board_later : (config : Config) (before : List Entry) (old new : board.Board) (made : Made) (event : Event) → BoardSteps old made event new
     → BoardSteps old (later_made config before made) (later_event config before event) new
-board_later config before old new made (Board b) step =
-    λ h fitting for closed. (let s = step h fitting for closed in record { moment_is = s.moment_is; fits = s.fits; stands = s.stands })
+board_later config before old new made (Board b) step = record {
+  kept = step.kept;
+  steps = λ h fitting for closed. (let s = step.steps h fitting for closed in record { moment_is = s.moment_is; fits = s.fits; stands = s.stands });
+}
 board_later config before old new made (Cell c) step = absurd step
 board_later config before old new made (Box b) step = absurd step
 

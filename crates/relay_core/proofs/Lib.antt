@@ -32,6 +32,8 @@ pub mod Returning
 pub mod Recording
 pub mod Stepping
 pub mod Given
+pub mod Shaped
+pub mod WholeFirst
 pub mod Beginnings
 pub mod Rounded
 pub mod Suites

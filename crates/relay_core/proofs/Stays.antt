@@ -80,7 +80,7 @@ pub board_step_at : (config : Config) (old new : board.Board) (made : Made) (e :
 board_step_at config old new made e h steps for gives =
     let c : old.config ≡ config = for.1.config_is in
     subst (λ (k : Config). BoardStep k h made e new) c
-    (steps h (subst (λ (k : Config). IsFitting k h) (sym c) for.0) (subst (λ (k : Config). BoardFor k old h) (sym c) for.1) gives)
+    (steps.steps h (subst (λ (k : Config). IsFitting k h) (sym c) for.0) (subst (λ (k : Config). BoardFor k old h) (sym c) for.1) gives)
 
 after_board : (config : Config) (old new : board.Board) (made : Made) (ev : Event) (h : List BoardEntry) → GivesBack made ev h
     → BoardSteps old made ev new → IsFitting config h × BoardFor config old h

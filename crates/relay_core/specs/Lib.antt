@@ -14,4 +14,6 @@ pub mod Turns
 pub mod NestedMoments
 pub mod RowMoments
 pub mod Joins
+pub mod PartShapes
+pub mod WholeParts
 pub mod Continued

@@ -7,6 +7,7 @@ use Rattle.port_pool.specs.declared.pairs.Lease.{Lease}
 use Rattle.call_cell.specs.declared.outcome.Outcome.{Outcome}
 use Rattle.call_cell.specs.Cells.{CellEvent, Relay, Receipt, Relayed, Deed}
 use Rattle.call_cell.specs.LegHistories.{sent_ok}
+use Rattle.call_board.specs.Shapes.{BoardShape}
 use Rattle.relay_core.specs.Entries.{Event, Cell, Entry}
 use Rattle.relay_core.specs.Legal.{is_handed_own, is_handed_boards}
 
@@ -27,8 +28,8 @@ abbrev pub nothing_left : Left
 nothing_left = record { rtp = Some []; rtcp = Some []; legs = [] }
 
 -- A step as the table records it: the moment that it was handed, its moment, the number of the board entry that it belongs to, of a
--- step of the board the pairs of the legs that it closes, in order, whose order its state does not tell, its event, and what leaves its
--- place. Of a relay the outcome is recorded: what its packet was, and what it noted, protected and sent, follows from the history of its cell.
+-- step of the board the pairs of the legs that it closes, in order, whose order its state does not tell, its event, what leaves its
+-- place, and of a step of the board what the board keeps after it. Of a relay the outcome is recorded: what its packet was, and what it noted, protected and sent, follows from the history of its cell.
 pub record Made : Type 0 where
   pub handed : ℕ
   pub moment : ℕ
@@ -36,6 +37,7 @@ pub record Made : Type 0 where
   pub returned : List ℕ
   pub event : Event
   pub left : Left
+  pub kept : Option BoardShape
 
 -- a relay by its packet and its outcome; nothing else of what it did is recorded
 abbrev pub logged_deed : Receipt → Outcome → Deed

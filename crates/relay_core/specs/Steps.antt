@@ -29,13 +29,15 @@ use Rattle.call_cell.specs.Commits.{CellCommits}
 use Rattle.call_cell.specs.Expiries.{CellExpires}
 use Rattle.call_cell.specs.LegReports.{CellReads}
 use Rattle.call_cell.specs.CellEnds.{CellEnds}
-use Rattle.call_cell.specs.Shapes.{cell_shape, cell_leg_shapes, offered_shape, answered_shape, ended_shape, IsSmall}
+use Rattle.call_cell.specs.Shapes.{cell_shape}
 use Rattle.call_board.specs.declared.board.Board as board
 use Rattle.call_board.specs.Acts.{BoardEvent, BoardEntry}
 use Rattle.call_board.specs.Boards.{BoardFor}
 use Rattle.call_board.specs.Views.{board_last_moment}
 use Rattle.call_board.specs.Fits.{FitsBoard, IsFitting}
 use Rattle.call_board.specs.Futures.{closed_pairs}
+use Rattle.call_board.specs.Shapes.{board_shape}
+use Rattle.call_shapes.specs.Events.{shape_after_event}
 use Rattle.relay_core.specs.declared.part.Part.{Part}
 use Rattle.relay_core.specs.declared.part.Part.TheVariants as part
 use Rattle.relay_core.specs.Entries.{Event, Board, Cell, Box, is_nested_cell, is_nested_box}
@@ -52,11 +54,15 @@ pub record BoardStep (config : Config) (h : List BoardEntry) (made : Made) (even
   pub fits : FitsBoard config h (board_made made event)
   pub stands : BoardFor config new (board_made made event ∷ h)
 
--- for each history that the old board stands for, and after which the entry closes the legs of the recorded pairs in the recorded order
+-- what the board keeps then is recorded; and the step is one for each history that the old board stands for, and after which the entry
+-- closes the legs of the recorded pairs in the recorded order
+pub record BoardStepped (old : board.Board) (made : Made) (event : BoardEvent) (new : board.Board) : Type 0 where
+  pub kept : made.kept ≡ Some (board_shape new)
+  pub steps : (h : List BoardEntry) → IsFitting old.config h → BoardFor old.config old h → closed_pairs h (board_made made event) ≡ made.returned
+      → BoardStep old.config h made event new
+
 abbrev pub BoardSteps : board.Board → Made → Event → board.Board → Type 0
-BoardSteps old made (Board event) new =
-    (h : List BoardEntry) → IsFitting old.config h → BoardFor old.config old h → closed_pairs h (board_made made event) ≡ made.returned
-    → BoardStep old.config h made event new
+BoardSteps old made (Board event) new = BoardStepped old made event new
 BoardSteps old made (Cell event) new = ⊥
 BoardSteps old made (Box event) new = ⊥
 
@@ -135,7 +141,7 @@ AreOpened {O} log config signal = (leg : Leg O) → In leg signal.legs.items →
 pub record CellPrepared {O : Type 0} (log : O → EndLog OutCall) (old : cell.Cell O) (made : Made) (call : ℕ) (legs : List Holder) (keys : List NewKey) (dropped : List ℕ) (new : cell.Cell O) : Type 0 where
   pub signal : prepared.Prepare O
   pub legs_are : added signal ≡ legs
-  pub shape : cell_shape new ≡ offered_shape signal.dropped (cell_leg_shapes signal.legs.items) keys call (cell_shape old)
+  pub shape : cell_shape new ≡ shape_after_event (Prepare call legs keys dropped) (cell_shape old)
   pub opened : AreOpened log old.config signal
   pub gone : List (Lease × O × O)
   pub left_are : made.left.legs ≡ legs_left log gone
@@ -143,14 +149,14 @@ pub record CellPrepared {O : Type 0} (log : O → EndLog OutCall) (old : cell.Ce
       → HasMoment made (Prepare call legs keys dropped) h × CellPrepares config old new h signal call keys dropped made.handed gone
 
 pub record CellCommitted {O : Type 0} (log : O → EndLog OutCall) (old : cell.Cell O) (made : Made) (signal : List SectionSignal) (new : cell.Cell O) : Type 0 where
-  pub shape : IsSmall (cell_leg_shapes old.legs.items) → cell_shape new ≡ answered_shape signal (cell_shape old)
+  pub shape : cell_shape new ≡ shape_after_event (Commit signal) (cell_shape old)
   pub gone : List (Lease × O × O)
   pub left_are : made.left.legs ≡ legs_left log gone
   pub steps : (config : Config) (h : List CellEntry) → CellFor config old h
       → HasMoment made (Commit signal) h × CellCommits config old new h signal made.handed gone
 
 pub record CellEnded {O : Type 0} (log : O → EndLog OutCall) (old : cell.Cell O) (made : Made) (new : cell.Cell O) : Type 0 where
-  pub shape : IsSmall (cell_leg_shapes old.legs.items) → cell_shape new ≡ ended_shape
+  pub shape : cell_shape new ≡ shape_after_event End (cell_shape old)
   pub gone : List (Lease × O × O)
   pub left_are : made.left.legs ≡ legs_left log gone
   pub steps : (config : Config) (h : List CellEntry) → CellFor config old h → HasMoment made End h × CellEnds config old new h gone

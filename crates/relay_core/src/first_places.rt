@@ -4,6 +4,7 @@ ghost use Rattle.std.specs.Prelude.{◌≡◌, [], IfOk, OnOk};
 ghost use Rattle.relay_outside.specs.Settings.{AreFamilies};
 ghost use Rattle.port_pool.specs.Ports.{pair_count};
 ghost use Rattle.relay_core.specs.FirstPlaces.{AreParts, AddsCells, AddsBoxes};
+ghost use Rattle.relay_core.specs.WholeParts.{AreWholeParts};
 ghost use Rattle.relay_core.specs.Continued.{AreLeftBy};
 
 use crate::part::Part;
@@ -45,7 +46,8 @@ fn add_boxes<I: InEnd + Drop, O: OutEnd + Drop>(
 /// What the places of a relay hold before its first step: the board, an empty cell for each call that may be live, and a
 /// closed box for each port pair. Each interface of the configuration has an address of its family.
 /// A board and a cell stand for histories under one configuration, which is read off them: so what the places begin as
-/// is said once (`AreParts`). They are also what the empty list leaves: a fresh start is one that goes on from nothing.
+/// is said once (`AreParts`). They are also what the empty list leaves: a fresh start is one that goes on from nothing. And what
+/// they keep goes together, whatever their histories.
 pub fn parts<I: InEnd + Drop, O: OutEnd + Drop>(
     alloc: Global,
     config: &Config,
@@ -53,6 +55,7 @@ pub fn parts<I: InEnd + Drop, O: OutEnd + Drop>(
     requires { AreFamilies config.now }
     ensures begins { IfOk result (λ parts. AreParts config.now parts.items) }
     ensures left { IfOk result (λ parts. AreLeftBy config.now [] parts.items) }
+    ensures whole { IfOk result (λ parts. AreWholeParts config.now parts.items) }
 {
     let board = Board::new(alloc, config)?;
     let mut parts = Vec::new(alloc);

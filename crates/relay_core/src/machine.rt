@@ -13,7 +13,7 @@ pub struct Happening {
 }
 
 impl Model for Happening {
-    ghost use Rattle.std.specs.Prelude.{[]};
+    ghost use Rattle.std.specs.Prelude.{[], None};
     ghost use Rattle.relay_core.specs.Entries.{Box};
     ghost use Rattle.relay_core.specs.Records.{Made, nothing_left};
     ghost use Rattle.port_pool.specs.Boxes.{Close};
@@ -24,7 +24,7 @@ impl Model for Happening {
 
     ghost coded = { Prim.hlevel (codes, entries_code) };
 
-    ghost view = { λ happening. record { handed = 0; moment = 0; board = 0; returned = []; event = Box Close; left = nothing_left } };
+    ghost view = { λ happening. record { handed = 0; moment = 0; board = 0; returned = []; event = Box Close; left = nothing_left; kept = None } };
 }
 
 /// The machine of the board, the cells and the boxes, whose in ends and out ends are of these types.
@@ -59,12 +59,12 @@ pub trait Says {
 }
 
 impl Says for Brand {
-    ghost use Rattle.std.specs.Prelude.{[]};
+    ghost use Rattle.std.specs.Prelude.{[], None};
     ghost use Rattle.relay_core.specs.Entries.{Box};
     ghost use Rattle.relay_core.specs.Records.{nothing_left};
     ghost use Rattle.port_pool.specs.Boxes.{Close};
 
-    ghost made = { record { handed = 0; moment = 0; board = 0; returned = []; event = Box Close; left = nothing_left } };
+    ghost made = { record { handed = 0; moment = 0; board = 0; returned = []; event = Box Close; left = nothing_left; kept = None } };
 }
 
 /// What X says, of this machine.

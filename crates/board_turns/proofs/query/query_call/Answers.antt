@@ -35,7 +35,7 @@ read_cell-requires-clause-cell g c =
     let turn = c.requires.begins.in_turn in
     let fits = good_history config l turn.orderly c.args.turn.now.main.entry_id.number in
     let at = cell_told config h c.args.turn.now.main.entry_id.moment of c.args.call c.cell_of-cell.result fits c.requires.live.1 c.requires.live.2
-    (c.cell_of-cell.ensures config (view_at_moment (view_of config h) c.args.turn.now.main.entry_id.moment) turn.shows) in
+    (c.cell_of-cell.ensures.live config (view_at_moment (view_of config h) c.args.turn.now.main.entry_id.moment) turn.shows) in
     let within = live_cell config h of fits c.requires.live.1 in
     (omega (arith, at, within.0), omega (arith, at, within.1))
 
@@ -51,7 +51,7 @@ returns-clause-gained g c of alive number =
     let h = board_history l c.args.turn.now.main.entry_id.number in
     let turn = c.requires.begins.in_turn in
     let at = cell_told config h c.args.turn.now.main.entry_id.moment of c.args.call c.cell_of-cell.result (good_history config l turn.orderly c.args.turn.now.main.entry_id.number) alive number
-    (c.cell_of-cell.ensures config (view_at_moment (view_of config h) c.args.turn.now.main.entry_id.moment) turn.shows) in
+    (c.cell_of-cell.ensures.live config (view_at_moment (view_of config h) c.args.turn.now.main.entry_id.moment) turn.shows) in
     subst (λ (k : ℕ). GainsNested c.args.turn.now.main.entry_id.number c.args.turn.now.main.entry_id.moment (in_cell_of k (Read c.read_cell.new.out) ∷ []) c.args.turn.now.main.hand.now c.read_cell.new.main.hand.now) at
     c.read_cell.ensures.gained
 

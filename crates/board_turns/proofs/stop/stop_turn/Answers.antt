@@ -171,7 +171,7 @@ returns-clause-makes g c =
     let gains = subst (λ hand. GainsNested (front_of step) (board_last_moment h) (script config h (stop_entry h)) mid hand) left
     (stop_gained config mid new.main.hand.now step c.front-number.result c.advance-moment.result c.advance-moment.new.self stops c.end_live-count.ensures.gained) in
     let sames = subst (λ hand. IsSameHand mid hand × SameTurns mid hand) left (nests.same, nests.same_turns) in
-    let put = stop_ends config turns old mid nested c.put_entry.new.hand step tt between c.turn-step.ensures.same c.turn-step.ensures.turn.0 begins sames gains
+    let put = stop_ends _ config turns old mid nested c.put_entry.new.hand step tt between c.turn-step.ensures.same c.turn-step.ensures.turn.0 begins sames gains
     c.put_entry.ensures.same c.put_entry.ensures.entry in
     put.makes
 
@@ -224,7 +224,7 @@ returns-clause-rests g c =
     let gains = subst (λ hand. GainsNested (front_of step) (board_last_moment h) (script config h (stop_entry h)) mid hand) left
     (stop_gained config mid new.main.hand.now step c.front-number.result c.advance-moment.result c.advance-moment.new.self stops c.end_live-count.ensures.gained) in
     let sames = subst (λ hand. IsSameHand mid hand × SameTurns mid hand) left (nests.same, nests.same_turns) in
-    let put = stop_ends config turns old mid nested c.put_entry.new.hand step tt between c.turn-step.ensures.same c.turn-step.ensures.turn.0 begins sames gains
+    let put = stop_ends _ config turns old mid nested c.put_entry.new.hand step tt between c.turn-step.ensures.same c.turn-step.ensures.turn.0 begins sames gains
     c.put_entry.ensures.same c.put_entry.ensures.entry in
     let before = g.P.PortMaker.log c.args.at.now.ports.now in
     let after = g.P.PortMaker.log new.ports.now in
@@ -245,7 +245,7 @@ returns-clause-rests g c =
             (returns-clause-shut g c);
         empty = works.empty;
       };
-      ties = ties_ended config before after (entries old) (place_of step) (front_of step) (stop_made (board_history (made_by nested) (front_of step))) tt nested
+      ties = ties_ended config before after (entries old) (place_of step) (front_of step) (stop_made (board_history (made_by nested) (front_of step)) _) tt nested
           c.put_entry.new.hand refl refl c.put_entry.ensures.entry
           (subst (λ (rows : List (table.Entry Made _)). PortsFollowRows config before after rows (entries nested)) c.turn-step.ensures.same.1 (subst (λ hand. PortsFollowRows config before after (entries mid) (entries hand)) left works.ties));
       later = works.stays.later;

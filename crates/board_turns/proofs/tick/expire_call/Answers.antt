@@ -40,7 +40,7 @@ is_due-overdue-requires g c =
     let old = c.args.turn.now in
     let can = c.requires.can in
     live_there old.main.config.now (made_by old.main.hand.now) old.board.now (g.P.PortMaker.log old.ports.now) old.main.entry_id.moment c.args.index can.0 can.1 can.2 can.3
-    c.call_at-call.result c.call_at-call.ensures
+    c.call_at-call.result c.call_at-call.ensures.live
 
 pub expire_cell-requires-clause-may : goal.expire_cell-requires-clause-may
 expire_cell-requires-clause-may g c =
@@ -51,7 +51,7 @@ expire_cell-requires-clause-cell g c =
     let old = c.args.turn.now in
     let can = c.requires.can in
     let is = cell_there old.main.config.now (made_by old.main.hand.now) old.board.now (g.P.PortMaker.log old.ports.now) old.main.entry_id.moment c.args.index can.0 can.1 can.2 can.3
-    c.cell_at-cell.result c.cell_at-cell.ensures in
+    c.cell_at-cell.result c.cell_at-cell.ensures.live in
     let low = can.3.can.low in
     let high = can.3.can.high in
     (omega (arith, is, low), omega (arith, is, high))
@@ -61,7 +61,7 @@ expire_cell-requires-clause-keys g c =
     let old = c.args.turn.now in
     let can = c.requires.can in
     let is = cell_there old.main.config.now (made_by old.main.hand.now) old.board.now (g.P.PortMaker.log old.ports.now) old.main.entry_id.moment c.args.index can.0 can.1 can.2 can.3
-    c.cell_at-cell.result c.cell_at-cell.ensures in
+    c.cell_at-cell.result c.cell_at-cell.ensures.live in
     subst (λ (k : ℕ). HasNewKeys (made_by old.main.hand.now) k) (sym is) can.3.can.keys
 
 -- The call was asked, and has not timed out.
@@ -78,8 +78,8 @@ returns-then-not-expire_cell-clause-gained g c of legs overdue asks =
     let log = g.P.PortMaker.log old.ports.now in
     let l = made_by old.main.hand.now in
     let new = c.expire_cell.new.main in
-    let is = cell_there config l old.board.now log old.main.entry_id.moment c.args.index of legs overdue asks c.cell_at-cell.result c.cell_at-cell.ensures in
-    let said = overdue_there config l old.board.now log old.main.entry_id.moment c.args.index of legs overdue asks c.call_at-call.result c.is_due-overdue.result c.call_at-call.ensures
+    let is = cell_there config l old.board.now log old.main.entry_id.moment c.args.index of legs overdue asks c.cell_at-cell.result c.cell_at-cell.ensures.live in
+    let said = overdue_there config l old.board.now log old.main.entry_id.moment c.args.index of legs overdue asks c.call_at-call.result c.is_due-overdue.result c.call_at-call.ensures.live
     c.is_due-overdue.ensures in
     subst (λ (o : Bool). MakesNested (asking_of config of legs o false) old.main new) (sym c.if-not-overdue.true ∙ said)
     (subst (λ (k : ℕ). MakesNested (in_cell_of k (Expire false) ∷ []) old.main new) is c.if-not-expire_cell.ensures.gained)
@@ -88,7 +88,7 @@ pub returns-then-not-expire_cell-clause-overdue : goal.returns-then-not-expire_c
 returns-then-not-expire_cell-clause-overdue g c of legs overdue asks is_overdue =
     let old = c.args.turn.now in
     let said = overdue_there old.main.config.now (made_by old.main.hand.now) old.board.now (g.P.PortMaker.log old.ports.now) old.main.entry_id.moment c.args.index of legs overdue asks
-    c.call_at-call.result c.is_due-overdue.result c.call_at-call.ensures c.is_due-overdue.ensures in
+    c.call_at-call.result c.is_due-overdue.result c.call_at-call.ensures.live c.is_due-overdue.ensures in
     sym c.if-not-overdue.true ∙ said ∙ is_overdue
 
 pub returns-then-not-expire_cell-clause-timed_out : goal.returns-then-not-expire_cell-clause-timed_out
@@ -96,7 +96,7 @@ returns-then-not-expire_cell-clause-timed_out g c of legs overdue asks not_overd
     let old = c.args.turn.now in
     let config = old.main.config.now in
     let l = made_by old.main.hand.now in
-    let is = cell_there config l old.board.now (g.P.PortMaker.log old.ports.now) old.main.entry_id.moment c.args.index of legs overdue asks c.cell_at-cell.result c.cell_at-cell.ensures in
+    let is = cell_there config l old.board.now (g.P.PortMaker.log old.ports.now) old.main.entry_id.moment c.args.index of legs overdue asks c.cell_at-cell.result c.cell_at-cell.ensures.live in
     let low = asks.can.low in
     let high = asks.can.high in
     let may = c.requires.may in
@@ -130,9 +130,9 @@ end_call-requires g c =
           (ends_overdue log faults it ic ot oc old cell c.requires.may c.requires.empty))
     ] in
     let call_is = number_there old.main.config.now (made_by old.main.hand.now) old.board.now (log old.ports.now) old.main.entry_id.moment c.args.index can.0 can.1 can.2 asks
-    c.call_at-call.result c.call_at-call.ensures in
+    c.call_at-call.result c.call_at-call.ensures.live in
     let is = cell_there old.main.config.now (made_by old.main.hand.now) old.board.now (log old.ports.now) old.main.entry_id.moment c.args.index can.0 can.1 can.2 asks
-    cell c.cell_at-cell.ensures in
+    cell c.cell_at-cell.ensures.live in
     record {
       may = may_again old.main now.main ends.works.stays.nests;
       can = (can.0, can.1, then_can log faults it ic ot oc old now cell c.is_due-overdue.result ends can.0 can.1 is c.call_at-call.result asks.can call_is);
@@ -167,8 +167,8 @@ ended_can g c of legs overdue asks =
     let config = old.main.config.now in
     let l = made_by old.main.hand.now in
     let log = g.P.PortMaker.log in
-    let call_is = number_there config l old.board.now (log old.ports.now) old.main.entry_id.moment c.args.index of legs overdue asks c.call_at-call.result c.call_at-call.ensures in
-    let is = cell_there config l old.board.now (log old.ports.now) old.main.entry_id.moment c.args.index of legs overdue asks c.cell_at-cell.result c.cell_at-cell.ensures in
+    let call_is = number_there config l old.board.now (log old.ports.now) old.main.entry_id.moment c.args.index of legs overdue asks c.call_at-call.result c.call_at-call.ensures.live in
+    let is = cell_there config l old.board.now (log old.ports.now) old.main.entry_id.moment c.args.index of legs overdue asks c.cell_at-cell.result c.cell_at-cell.ensures.live in
     then_can log g.P.PortMaker.faults g.P.In.InEnd.log g.P.In.InEnd.faults g.P.Out.OutEnd.log g.P.Out.OutEnd.faults old c.else-not-overdue.turn c.cell_at-cell.result
     c.is_due-overdue.result (reached g c) of legs is c.call_at-call.result asks.can call_is
 
@@ -182,9 +182,9 @@ returns-clause-gained g c of legs overdue asks =
     let config = old.main.config.now in
     let l = made_by old.main.hand.now in
     let log = g.P.PortMaker.log in
-    let is = cell_there config l old.board.now (log old.ports.now) old.main.entry_id.moment c.args.index of legs overdue asks c.cell_at-cell.result c.cell_at-cell.ensures in
+    let is = cell_there config l old.board.now (log old.ports.now) old.main.entry_id.moment c.args.index of legs overdue asks c.cell_at-cell.result c.cell_at-cell.ensures.live in
     let said = overdue_there config l old.board.now (log old.ports.now) old.main.entry_id.moment c.args.index of legs overdue asks c.call_at-call.result c.is_due-overdue.result
-    c.call_at-call.ensures c.is_due-overdue.ensures in
+    c.call_at-call.ensures.live c.is_due-overdue.ensures in
     then_gained log g.P.PortMaker.faults g.P.In.InEnd.log g.P.In.InEnd.faults g.P.Out.OutEnd.log g.P.Out.OutEnd.faults old c.else-not-overdue.turn c.cell_at-cell.result
     c.is_due-overdue.result (reached g c) of legs is c.end_call.new.turn.main overdue said (c.end_call.ensures.gained of legs (ended_can g c of legs overdue asks))
 
@@ -192,7 +192,7 @@ pub returns-clause-asked : goal.returns-clause-asked
 returns-clause-asked g c of legs overdue asks other v shows apart =
     let old = c.args.turn.now in
     let call_is = number_there old.main.config.now (made_by old.main.hand.now) old.board.now (g.P.PortMaker.log old.ports.now) old.main.entry_id.moment c.args.index of legs overdue asks
-    c.call_at-call.result c.call_at-call.ensures in
+    c.call_at-call.result c.call_at-call.ensures.live in
     subst (λ (k : ℕ). BoardMatches other c.end_call.new.turn.board.now (with_call_ended v k legs)) call_is
     (c.end_call.ensures.ended of legs (ended_can g c of legs overdue asks) other v (subst (λ (board : Board). BoardMatches other board v) (sym (reached g c).board_is) shows) apart)
 
@@ -212,8 +212,8 @@ returns-clause-timed_out g c of legs overdue asks not_overdue all =
     let config = old.main.config.now in
     let l = made_by old.main.hand.now in
     let log = g.P.PortMaker.log old.ports.now in
-    let is = cell_there config l old.board.now log old.main.entry_id.moment c.args.index of legs overdue asks c.cell_at-cell.result c.cell_at-cell.ensures in
-    let said = overdue_there config l old.board.now log old.main.entry_id.moment c.args.index of legs overdue asks c.call_at-call.result c.is_due-overdue.result c.call_at-call.ensures
+    let is = cell_there config l old.board.now log old.main.entry_id.moment c.args.index of legs overdue asks c.cell_at-cell.result c.cell_at-cell.ensures.live in
+    let said = overdue_there config l old.board.now log old.main.entry_id.moment c.args.index of legs overdue asks c.call_at-call.result c.is_due-overdue.result c.call_at-call.ensures.live
     c.is_due-overdue.ensures in
     let low = asks.can.low in
     let high = asks.can.high in

@@ -137,7 +137,7 @@ returns-clause-answers g c =
     let deals = dealt config turns mid nested step c.front-number.result c.advance-moment.result now x c.advance-moment.new.self new.board.now before log taken_is
     (subst (λ hand. AnswersRequest config mid hand (record { number = c.front-number.result; moment = c.advance-moment.result }) x new.board.now log) left c.deal-answered.ensures.deals) in
     let sames = subst (λ hand. IsSameHand mid hand × SameTurns mid hand) left (nests.same, nests.same_turns) in
-    let ended = control_ends config turns old mid nested c.put_control.new.hand step tt now x (part.Board new.board.now) log between
+    let ended = control_ends _ config turns old mid nested c.put_control.new.hand step tt now x (part.Board new.board.now) log between
     c.turn-step.ensures.same c.turn-step.ensures.turn.0 begins sames deals c.put_control.ensures.same c.put_control.ensures.entry in
     let past = board_of (made_by old) in
     record {
@@ -183,7 +183,7 @@ returns-clause-rests g c =
     let deals = dealt config turns mid nested step c.front-number.result c.advance-moment.result now x c.advance-moment.new.self new.board.now before log taken_is
     (subst (λ hand. AnswersRequest config mid hand (record { number = c.front-number.result; moment = c.advance-moment.result }) x new.board.now log) left c.deal-answered.ensures.deals) in
     let sames = subst (λ hand. IsSameHand mid hand × SameTurns mid hand) left (nests.same, nests.same_turns) in
-    let ended = control_ends config turns old mid nested c.put_control.new.hand step tt now x (part.Board new.board.now) log between
+    let ended = control_ends _ config turns old mid nested c.put_control.new.hand step tt now x (part.Board new.board.now) log between
     c.turn-step.ensures.same c.turn-step.ensures.turn.0 begins sames deals c.put_control.ensures.same c.put_control.ensures.entry in
     let past = board_of (made_by old) in
     record {
@@ -201,7 +201,7 @@ returns-clause-rests g c =
             (begins_whole config turns old mid step c.turn-step.ensures.same.1 begins) deals.opens);
         empty = c.deal-answered.ensures.empty;
       };
-      ties = ties_ended config before log (entries old) (place_of step) n (control_made config (board_history (made_by nested) n) now x) tt nested c.put_control.new.hand refl refl
+      ties = ties_ended config before log (entries old) (place_of step) n (control_made config (board_history (made_by nested) n) now x _) tt nested c.put_control.new.hand refl refl
           c.put_control.ensures.entry
           (subst (λ (rows : List (table.Entry Made (Unit {0}))). PortsFollowRows config before log rows (entries nested)) c.turn-step.ensures.same.1
           (subst (λ hand. PortsFollowRows config before log (entries mid) (entries hand)) left c.deal-answered.ensures.ties));

@@ -96,7 +96,7 @@ returns-in-Ok-clause-keys g c =
 pub returns-in-Ok-clause-low : goal.returns-in-Ok-clause-low
 returns-in-Ok-clause-low g c =
     let can = c.requires.can in
-    let first = c.next_key-first_key.ensures c.args.config.now can.view can.shows in
+    let first = c.next_key-first_key.ensures.drawn c.args.config.now can.view can.shows in
     let draws = can.draws in
     omega (arith, first, draws)
 
@@ -107,7 +107,7 @@ returns-in-Ok-clause-are_open g c = λ held now tells both.
     taken_open c.args.config.now c.args.board.now (g.P.PortMaker.log c.args.ports.now) (g.P.PortMaker.log c.open_and_draw.new.ports) c.args.plan c.lease-leases.result.list held now can is c.in-Ok.ensures.opens tells both
 
 pub returns-in-Ok-clause-first : goal.returns-in-Ok-clause-first
-returns-in-Ok-clause-first g c = λ v s. c.next_key-first_key.ensures c.args.config.now v s
+returns-in-Ok-clause-first g c = λ v s. c.next_key-first_key.ensures.drawn c.args.config.now v s
 
 pub returns-in-Err-clause-undone : goal.returns-in-Err-clause-undone
 returns-in-Err-clause-undone g c = λ v s free.
