@@ -1,45 +1,32 @@
 -- Dictionaries, read again.
-use Rattle.std.proofs.Common.{◌≡◌, ℕ, zero, suc, List, [], ◌∷◌, length, refl, sym, ap, ◌∙◌}
+use Rattle.std.proofs.Common.{rules, tests, ◌≡◌, ◌==◌, ℕ, false, List, [], ◌∷◌, length, Option, None, IfNone, sym, ◌∙◌}
 use Rattle.ng_bencode.specs.Room.{Room}
 use Rattle.ng_bencode.specs.declared.value.Value.{Value}
-use Rattle.ng_bencode.specs.Tree.{Tree, Dict, Entries, entry, no_entries, pairs_of}
+use Rattle.ng_bencode.specs.Tree.{Tree, Dict, Entries, entry, no_entries, pairs_of, tree_of}
 
--- how many pairs there are
-abbrev pub pair_count : Entries → ℕ
-pair_count no_entries = zero
-pair_count (entry key tree rest) = suc (pair_count rest)
+-- dictionaries that are one have the same entries
+pub same_entries : {p q : Entries} → Dict p ≡ Dict q → p ≡ q
+same_entries e = cc
 
-count_of : (pairs : List (Room ℕ × Value)) → pair_count (pairs_of pairs) ≡ length pairs
-count_of [] = refl
-count_of (pair ∷ pairs) = ap suc (count_of pairs)
+pub same_value : {p q : Entries} {k l : List ℕ} {t u : Tree} → entry k t p ≡ entry l u q → t ≡ u
+same_value e = cc
 
-pub as_long : (t : Tree) (pairs : List (Room ℕ × Value)) (entries : Entries) → t ≡ Dict (pairs_of pairs) → t ≡ Dict entries → length pairs ≡ pair_count entries
-as_long t pairs entries is same =
-    let e : Dict (pairs_of pairs) ≡ Dict entries = sym is ∙ same in
-    let f : pairs_of pairs ≡ entries = cc in
-    sym (count_of pairs) ∙ ap pair_count f
+pub same_rest : {p q : Entries} {k l : List ℕ} {t u : Tree} → entry k t p ≡ entry l u q → p ≡ q
+same_rest e = cc
 
-pub record SameThree (a b c x y z : Tree) : Type 0 where
-  pub first : a ≡ x
-  pub second : b ≡ y
-  pub third : c ≡ z
+-- the entries of a dictionary, by its pairs and by what it is written as
+pub opened : {whole : Tree} {p q : Entries} → whole ≡ Dict p → whole ≡ Dict q → p ≡ q
+opened is same = same_entries (sym is ∙ same)
 
-pub same_three : (whole : Tree) (ka kb kc : List ℕ) (a b c x y z : Tree)
-    → whole ≡ Dict (entry ka a (entry kb b (entry kc c no_entries))) → whole ≡ Dict (entry ka x (entry kb y (entry kc z no_entries))) → SameThree a b c x y z
-same_three whole ka kb kc a b c x y z is same =
-    let e : Dict (entry ka a (entry kb b (entry kc c no_entries))) ≡ Dict (entry ka x (entry kb y (entry kc z no_entries))) = sym is ∙ same in
-    record { first = cc; second = cc; third = cc }
+-- and those that follow the first
+pub after : {p q r : Entries} {k l : List ℕ} {t u : Tree} → p ≡ entry k t q → p ≡ entry l u r → q ≡ r
+after is same = same_rest (sym is ∙ same)
 
-pub record SameFive (a b c d e v w x y z : Tree) : Type 0 where
-  pub first : a ≡ v
-  pub second : b ≡ w
-  pub third : c ≡ x
-  pub fourth : d ≡ y
-  pub fifth : e ≡ z
+-- what is said of a read that gives none
+pub refused : {T : Type 0} {read : Option T} {Said : Type 0} → read ≡ None → Said → IfNone read Said
+refused is said = rw is said
 
-pub same_five : (whole : Tree) (ka kb kc kd ke : List ℕ) (a b c d e v w x y z : Tree)
-    → whole ≡ Dict (entry ka a (entry kb b (entry kc c (entry kd d (entry ke e no_entries)))))
-    → whole ≡ Dict (entry ka v (entry kb w (entry kc x (entry kd y (entry ke z no_entries))))) → SameFive a b c d e v w x y z
-same_five whole ka kb kc kd ke a b c d e v w x y z is same =
-    let f : Dict (entry ka a (entry kb b (entry kc c (entry kd d (entry ke e no_entries))))) ≡ Dict (entry ka v (entry kb w (entry kc x (entry kd y (entry ke z no_entries))))) = sym is ∙ same in
-    record { first = cc; second = cc; third = cc; fourth = cc; fifth = cc }
+-- some pairs are some entries
+pub some_left : (pairs : List (Room ℕ × Value)) → (length pairs == 0) ≡ false → pairs_of pairs ≡ no_entries → ⊥
+some_left [] long e = absurd (search (rules, tests))
+some_left (pair ∷ pairs) long e = let f : entry pair.0.list (tree_of pair.1) (pairs_of pairs) ≡ no_entries = e in absurd (cc)

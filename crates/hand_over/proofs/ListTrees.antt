@@ -1,7 +1,9 @@
 -- Lists of trees, read again.
-use Rattle.std.proofs.Common.{◌≡◌, List, [], ◌∷◌, ◌++◌, map, All, Option, Some, None, IfNone, refl, sym, ◌∙◌}
+use Rattle.std.proofs.Common.{◌≡◌, ℕ, List, [], ◌∷◌, ◌++◌, map, length, All, Option, Some, None, IfNone, refl, sym, ap, ◌∙◌, append_assoc}
+use Rattle.std.proofs.lemmas.List.{length-map, map-append}
 use Rattle.std.proofs.lemmas.List.Elements.{All-head, All-tail}
-use Rattle.ng_bencode.specs.Tree.{Tree, Items, no_items, item, items_of}
+use Rattle.ng_bencode.specs.declared.value.Value.{Value}
+use Rattle.ng_bencode.specs.Tree.{Tree, Items, no_items, item, items_of, tree_of}
 use Rattle.hand_over.specs.Numbers.{list_tree}
 
 pub same_items : (a b : List Tree) → items_of a ≡ items_of b → a ≡ b
@@ -21,6 +23,12 @@ same_list written whole all these is same =
     let e : Items (items_of all) ≡ Items (items_of (map written these)) = sym is ∙ same in
     let f : items_of all ≡ items_of (map written these) = cc in
     same_items all (map written these) f
+
+-- as many as are written
+pub as_long : {T : Type 0} (written : T → Tree) (whole : Tree) (values : List Value) (these : List T)
+    → whole ≡ Items (items_of (map tree_of values)) → whole ≡ list_tree written these → length values ≡ length these
+as_long written whole values these is same =
+    sym (length-map values tree_of) ∙ ap (λ (l : List Tree). length l) (same_list written whole (map tree_of values) these is same) ∙ length-map these written
 
 -- one among them that nothing is written as
 among : {T : Type 0} (written : T → Tree) (Each : T → Type 0) (front : List Tree) (one : Tree) (rest : List Tree) (these : List T)
@@ -61,3 +69,22 @@ same_seen written seen Each same (x ∷ a) (y ∷ b) all_a all_b e =
 pub from_none : {T : Type 0} (given : Option T) (Said : Type 0) → IfNone given Said → given ≡ None → Said
 from_none None Said holds is = holds
 from_none (Some it) Said holds is = absurd (cc)
+
+-- one more is read
+pub goes_on : {T : Type 0} (written : T → Tree) (done : List T) (it : T) (one : Tree) (rest all : List Tree) (made : List T)
+    → made ≡ done ++ it ∷ [] → one ≡ written it → map written done ++ one ∷ rest ≡ all → map written made ++ rest ≡ all
+goes_on {T} written done it one rest all made is same whole =
+    ap (λ (l : List T). map written l ++ rest) is
+    ∙ ap (λ (l : List Tree). l ++ rest) (map-append written done (it ∷ []))
+    ∙ append_assoc (map written done) (written it ∷ []) rest
+    ∙ ap (λ (t : Tree). map written done ++ t ∷ rest) (sym same)
+    ∙ whole
+
+-- a list of another length is none of this length
+pub too_few : {T S : Type 0} (written : T → Tree) (Each : T → Type 0) (read : Option S) (whole : Tree) (list slice : List T) (n : ℕ)
+    → slice ≡ list → whole ≡ list_tree written list → IfNone read (length slice ≡ n → ⊥)
+    → IfNone read ((these : List T) → All Each these → length these ≡ n → whole ≡ list_tree written these → ⊥)
+too_few {T} written Each None whole list slice n e is none = λ these all long same.
+    none (ap (λ (l : List T). length l) e ∙ sym (length-map list written)
+    ∙ ap (λ (l : List Tree). length l) (same_list written whole (map written list) these is same) ∙ length-map these written ∙ long)
+too_few written Each (Some it) whole list slice n e is none = none

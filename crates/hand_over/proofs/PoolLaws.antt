@@ -1,6 +1,5 @@
 -- Pools that are written alike, and that each is spelled.
 use Rattle.std.proofs.Common.{◌≡◌, ℕ, ◌<◌, ◌^◌, ◌∙◌, List, All, map, refl, sym, arith}
-use Rattle.std.specs.Prelude.{codes}
 use Rattle.std.proofs.lemmas.List.{map-id}
 use Rattle.std.proofs.lemmas.List.Elements.{All-weaker}
 use Rattle.ng_bencode.specs.Spells.{spelling, Spells}
@@ -10,7 +9,7 @@ use Rattle.hand_over.specs.Numbers.{number_tree, list_tree}
 use Rattle.hand_over.specs.PoolTrees.{pool_tree, FitsPoolSaved}
 use Rattle.hand_over.proofs.NumberTrees.{same_number}
 use Rattle.hand_over.proofs.ListTrees.{same_list, same_seen}
-use Rattle.hand_over.proofs.KeyedTrees.{same_three}
+use Rattle.hand_over.proofs.KeyedTrees.{same_entries, same_value, same_rest}
 use Rattle.hand_over.proofs.Spelled.{number_spelled, list_spelled}
 
 abbrev IsLong : ℕ → Type 0
@@ -30,14 +29,14 @@ long numbers words = All-weaker IsWord IsLong (λ n low. omega arith) numbers wo
 
 pub same_pools : (a b : PoolSaved) → FitsPoolSaved a → FitsPoolSaved b → a.first_port ≡ b.first_port → a.per_family ≡ b.per_family
     → pool_tree a ≡ pool_tree b → saved_pairs a ≡ saved_pairs b
-same_pools a b fits_a fits_b first per same =
-    let parts = same_three (pool_tree a) (codes "free4") (codes "free6") (codes "generations")
-    (list_tree number_tree a.free4.items) (list_tree number_tree a.free6.items) (list_tree number_tree a.generations.items)
-    (list_tree number_tree b.free4.items) (list_tree number_tree b.free6.items) (list_tree number_tree b.generations.items) refl same in
-    let free4 = same_numbers a.free4.items b.free4.items (long a.free4.items fits_a.free4) (long b.free4.items fits_b.free4) parts.first in
-    let free6 = same_numbers a.free6.items b.free6.items (long a.free6.items fits_a.free6) (long b.free6.items fits_b.free6) parts.second in
-    let generations = same_numbers a.generations.items b.generations.items fits_a.generations fits_b.generations parts.third in
-    λ i. record { first_port = first i; per_family = per i; free4 = free4 i; free6 = free6 i; generations = generations i }
+same_pools a b fits_a fits_b first_port per_family same =
+    let first = same_entries same in
+    let second = same_rest first in
+    let third = same_rest second in
+    let free4 = same_numbers a.free4.items b.free4.items (long a.free4.items fits_a.free4) (long b.free4.items fits_b.free4) (same_value first) in
+    let free6 = same_numbers a.free6.items b.free6.items (long a.free6.items fits_a.free6) (long b.free6.items fits_b.free6) (same_value second) in
+    let generations = same_numbers a.generations.items b.generations.items fits_a.generations fits_b.generations (same_value third) in
+    λ i. record { first_port = first_port i; per_family = per_family i; free4 = free4 i; free6 = free6 i; generations = generations i }
 
 pub pool_spelled : (saved : PoolSaved) → Spells (spelling (pool_tree saved)) (pool_tree saved)
 pool_spelled saved =

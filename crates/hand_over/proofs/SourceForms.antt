@@ -11,7 +11,7 @@ use Rattle.relay_outside.specs.declared.address.Addr.{Addr}
 use Rattle.relay_outside.specs.declared.address.Ip.{Ip}
 use Rattle.relay_outside.specs.declared.address.Ip.TheVariants as ip
 use Rattle.endpoint_learn.specs.SavedLearners.{FitsIp, FitsAddr}
-use Rattle.hand_over.specs.CacheTrees.{source_bytes}
+use Rattle.hand_over.specs.CacheTrees.{source_octets, source_bytes}
 
 abbrev made : Ip → ℕ → Addr
 made a p = record { ip = a; port = p }
@@ -55,6 +55,17 @@ by_hosts (ip.V6 a) (ip.V6 b) p q long_a long_b low small e =
     let port = same_port p q low small parts.1 in
     (λ i. made (ip.V6 (parts.0 i)) (port i))
 
+-- addresses without ports
+pub same_host : (a b : Ip) → FitsIp a → FitsIp b → source_octets a ≡ source_octets b → a ≡ b
+same_host (ip.V4 a) (ip.V4 b) long_a long_b e = ap ip.V4 e
+same_host (ip.V4 a) (ip.V6 b) long_a long_b e =
+    let f : length a ≡ length b = ap (λ (s : List ℕ). length s) e in
+    absurd (omega (arith, long_a, long_b))
+same_host (ip.V6 a) (ip.V4 b) long_a long_b e =
+    let f : length a ≡ length b = ap (λ (s : List ℕ). length s) e in
+    absurd (omega (arith, long_a, long_b))
+same_host (ip.V6 a) (ip.V6 b) long_a long_b e = ap ip.V6 e
+
 pub same_source : (a b : Addr) → FitsAddr a → FitsAddr b → source_bytes a ≡ source_bytes b → a ≡ b
 same_source a b fits_a fits_b e = by_hosts a.ip b.ip a.port b.port fits_a.ip fits_b.ip fits_a.port fits_b.port e
 
@@ -75,3 +86,10 @@ pub eighteen : (s : List ℕ) (port : ℕ) → length s ≡ 18 → ((i : ℕ) �
 eighteen s port long small is =
     let p = be_bytes_2 (get_or s 16 0 ∷ get_or s 17 0 ∷ []) port refl (port_small s small) is in
     sym ((λ i. get_or s 0 0 ∷ get_or s 1 0 ∷ get_or s 2 0 ∷ get_or s 3 0 ∷ get_or s 4 0 ∷ get_or s 5 0 ∷ get_or s 6 0 ∷ get_or s 7 0 ∷ get_or s 8 0 ∷ get_or s 9 0 ∷ get_or s 10 0 ∷ get_or s 11 0 ∷ get_or s 12 0 ∷ get_or s 13 0 ∷ get_or s 14 0 ∷ get_or s 15 0 ∷ p i) ∙ whole_18 s long)
+
+-- ---- 16 bytes that are read
+
+pub whole_16 : (s : List ℕ) → length s ≡ 16 → s ≡ get_or s 0 0 ∷ get_or s 1 0 ∷ get_or s 2 0 ∷ get_or s 3 0 ∷ get_or s 4 0 ∷ get_or s 5 0 ∷ get_or s 6 0 ∷ get_or s 7 0 ∷ get_or s 8 0 ∷ get_or s 9 0 ∷ get_or s 10 0 ∷ get_or s 11 0 ∷ get_or s 12 0 ∷ get_or s 13 0 ∷ get_or s 14 0 ∷ get_or s 15 0 ∷ []
+whole_16 s long =
+    let size : length (map (λ k. get_or s k 0) (range_with_len 0 16)) ≡ 16 = length-map-range_with_len (λ (k : ℕ). get_or s k 0) 0 16 in
+    sym (ext_get_or 0 _ _ (size ∙ sym long) (λ i h. get_or-map-range_with_len (λ (k : ℕ). get_or s k 0) 0 16 i i 0 (omega (arith, size)) (omega arith)))

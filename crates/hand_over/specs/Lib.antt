@@ -1,3 +1,13 @@
 pub mod Numbers
+pub mod Forms
 pub mod PoolTrees
 pub mod CacheTrees
+pub mod ConfigTrees
+pub mod SignalTrees
+pub mod CellLegTrees
+pub mod CellTrees
+pub mod RelayTrees
+pub mod BoardParts
+pub mod CallTrees
+pub mod OfferTrees
+pub mod DialogTrees

@@ -1,17 +1,17 @@
 //! The cache's record.
-ghost use Rattle.std.specs.Prelude.{◌≡◌, List, All, IfOk, IfSome, IfNone};
-ghost use Rattle.ng_bencode.specs.Tree.{Bytes, tree_of};
+ghost use Rattle.std.specs.Prelude.{codes, ◌≡◌, List, All, IfOk, IfSome, IfNone};
+ghost use Rattle.ng_bencode.specs.Tree.{Bytes, Dict, entry, no_entries, tree_of};
 ghost use Rattle.cookie_cache.specs.declared.saved.SavedReply.{SavedReply};
 ghost use Rattle.cookie_cache.specs.declared.saved.CacheSaved.{CacheSaved};
-ghost use Rattle.hand_over.specs.Numbers.{list_tree};
-ghost use Rattle.hand_over.specs.CacheTrees.{reply_tree, cache_tree, FitsSavedReply, FitsCacheSaved};
+ghost use Rattle.hand_over.specs.Numbers.{number_tree, list_tree};
+ghost use Rattle.hand_over.specs.CacheTrees.{source_bytes, reply_tree, cache_tree, FitsSavedReply, FitsCacheSaved};
 
-use crate::fields::{fields_3, fields_5, put_item, put_pair, read_text, text_value};
+use crate::fields::{next_field, none_left, pairs_in, put_item, put_pair, read_text, text_value};
 use crate::numbers::{number_value, read_number};
 use crate::sources::{read_source, source_text};
 use cookie_cache::{CacheSaved, SavedReply};
 use ng_bencode::{Pairs, Row, Value, Values};
-use relay_outside::OutOfMemory;
+use relay_outside::{Addr, OutOfMemory};
 use std::alloc::Global;
 
 fn reply_value(alloc: Global, saved: &SavedReply) -> Result<Value, OutOfMemory>
@@ -31,39 +31,60 @@ fn reply_value(alloc: Global, saved: &SavedReply) -> Result<Value, OutOfMemory>
     Ok(Value::dict(pairs))
 }
 
+/// What a reply's dictionary holds.
+#[derive(Clone, Copy)]
+struct ReplyFields<'a> {
+    cookie: &'a Value,
+    moment: u64,
+    number: u64,
+    reply: &'a Value,
+    source: Addr,
+}
+
+fn reply_fields(value: &Value) -> Option<ReplyFields<'_>>
+    ensures some { IfSome result (λ found. tree_of value.now ≡ Dict
+        (entry (codes "cookie") (tree_of found.cookie.now)
+        (entry (codes "moment") (number_tree found.moment)
+        (entry (codes "number") (number_tree found.number)
+        (entry (codes "reply") (tree_of found.reply.now)
+        (entry (codes "source") (Bytes (source_bytes found.source)) no_entries)))))) }
+    ensures none { IfNone result ((saved : SavedReply) → FitsSavedReply saved → tree_of value.now ≡ reply_tree saved → ⊥) }
+{
+    let mut pairs = pairs_in(value)?;
+    let cookie = next_field(&mut pairs, b"cookie")?;
+    let moment = next_field(&mut pairs, b"moment")?;
+    let number = next_field(&mut pairs, b"number")?;
+    let reply = next_field(&mut pairs, b"reply")?;
+    let source = next_field(&mut pairs, b"source")?;
+    none_left(pairs)?;
+    Some(ReplyFields {
+        cookie,
+        moment: read_number(moment)?,
+        number: read_number(number)?,
+        reply,
+        source: read_source(source.as_bytes()?.as_slice())?,
+    })
+}
+
 fn read_reply(alloc: Global, value: &Value) -> Result<Option<SavedReply>, OutOfMemory>
     ensures some { IfOk result (λ read. IfSome read (λ saved. tree_of value.now ≡ reply_tree saved)) }
     ensures none { IfOk result (λ read. IfNone read ((saved : SavedReply) → FitsSavedReply saved → tree_of value.now ≡ reply_tree saved → ⊥)) }
 {
-    let Some((cookie, moment, number, reply, source)) = fields_5(
-        value, b"cookie", b"moment", b"number", b"reply", b"source",
-    ) else {
+    let Some(fields) = reply_fields(value) else {
         return Ok(None);
     };
-    let Some(moment) = read_number(moment) else {
+    let Some(cookie) = read_text(alloc, fields.cookie)? else {
         return Ok(None);
     };
-    let Some(number) = read_number(number) else {
-        return Ok(None);
-    };
-    let Some(source) = source.as_bytes() else {
-        return Ok(None);
-    };
-    let Some(source) = read_source(source.as_slice()) else {
-        return Ok(None);
-    };
-    let Some(cookie) = read_text(alloc, cookie)? else {
-        return Ok(None);
-    };
-    let Some(reply) = read_text(alloc, reply)? else {
+    let Some(reply) = read_text(alloc, fields.reply)? else {
         return Ok(None);
     };
     Ok(Some(SavedReply {
-        source,
+        source: fields.source,
         cookie,
-        number,
+        number: fields.number,
         reply,
-        moment,
+        moment: fields.moment,
     }))
 }
 
@@ -110,26 +131,47 @@ pub fn cache_value(alloc: Global, saved: &CacheSaved) -> Result<Value, OutOfMemo
     Ok(Value::dict(pairs))
 }
 
+/// What a cache's dictionary holds.
+#[derive(Clone, Copy)]
+struct CacheFields<'a> {
+    count: u64,
+    kept: &'a Value,
+    last_moment: u64,
+}
+
+fn cache_fields(value: &Value) -> Option<CacheFields<'_>>
+    ensures some { IfSome result (λ found. tree_of value.now ≡ Dict
+        (entry (codes "count") (number_tree found.count)
+        (entry (codes "kept") (tree_of found.kept.now)
+        (entry (codes "moment") (number_tree found.last_moment) no_entries)))) }
+    ensures none { IfNone result ((saved : CacheSaved) → FitsCacheSaved saved → tree_of value.now ≡ cache_tree saved → ⊥) }
+{
+    let mut pairs = pairs_in(value)?;
+    let count = next_field(&mut pairs, b"count")?;
+    let kept = next_field(&mut pairs, b"kept")?;
+    let moment = next_field(&mut pairs, b"moment")?;
+    none_left(pairs)?;
+    Some(CacheFields {
+        count: read_number(count)?,
+        kept,
+        last_moment: read_number(moment)?,
+    })
+}
+
 /// The cache that is written so. `None`: no cache is.
 pub fn read_cache(alloc: Global, value: &Value) -> Result<Option<CacheSaved>, OutOfMemory>
     ensures some { IfOk result (λ read. IfSome read (λ saved. tree_of value.now ≡ cache_tree saved)) }
     ensures none { IfOk result (λ read. IfNone read ((saved : CacheSaved) → FitsCacheSaved saved → tree_of value.now ≡ cache_tree saved → ⊥)) }
 {
-    let Some((count, kept, moment)) = fields_3(value, b"count", b"kept", b"moment") else {
+    let Some(fields) = cache_fields(value) else {
         return Ok(None);
     };
-    let Some(count) = read_number(count) else {
-        return Ok(None);
-    };
-    let Some(last_moment) = read_number(moment) else {
-        return Ok(None);
-    };
-    let Some(kept) = read_replies(alloc, kept)? else {
+    let Some(kept) = read_replies(alloc, fields.kept)? else {
         return Ok(None);
     };
     Ok(Some(CacheSaved {
         kept,
-        count,
-        last_moment,
+        count: fields.count,
+        last_moment: fields.last_moment,
     }))
 }

@@ -23,6 +23,13 @@ pub(crate) fn number_value(alloc: Global, number: u64) -> Result<Value, OutOfMem
     Ok(Value::bytes(bytes))
 }
 
+/// A number below 2^32. It takes no memory.
+pub(crate) fn word_value(number: u32) -> Value
+    ensures { tree_of result ≡ number_tree number }
+{
+    Value::int(i64::from(number))
+}
+
 /// The number above 2^63 - 1 that these bytes are.
 fn large_number(bytes: &[u8]) -> Option<u64>
     ensures some { IfSome result (λ number. (bytes.now ≡ to_be_bytes w64 number) × (2 ^ 63 ≤ number)) }
@@ -58,7 +65,7 @@ pub(crate) fn read_number(value: &Value) -> Option<u64>
 }
 
 /// The number below 2^32 that is written so.
-fn read_word(value: &Value) -> Option<u32>
+pub(crate) fn read_word(value: &Value) -> Option<u32>
     ensures some { IfSome result (λ number. tree_of value.now ≡ number_tree number) }
     ensures none { IfNone result ((number : ℕ) → number < 2 ^ 32 → tree_of value.now ≡ number_tree number → ⊥) }
 {
@@ -67,6 +74,21 @@ fn read_word(value: &Value) -> Option<u32>
     };
     if number < 0x1_0000_0000 {
         Some(number as u32)
+    } else {
+        None
+    }
+}
+
+/// The number below 2^16 that is written so, as a port.
+pub(crate) fn read_port(value: &Value) -> Option<u16>
+    ensures some { IfSome result (λ number. tree_of value.now ≡ number_tree number) }
+    ensures none { IfNone result ((number : ℕ) → number < 2 ^ 16 → tree_of value.now ≡ number_tree number → ⊥) }
+{
+    let Some(number) = read_number(value) else {
+        return None;
+    };
+    if number < 0x1_0000 {
+        Some(number as u16)
     } else {
         None
     }
