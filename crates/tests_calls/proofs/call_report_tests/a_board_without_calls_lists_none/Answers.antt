@@ -5,4 +5,4 @@ use Rattle.tests_calls.proofs.call_report_tests.a_board_without_calls_lists_none
 
 pub encode-requires : goal.encode-requires
 encode-requires g c =
-    subst (λ (tree : Tree). depth tree ≤ 16) (sym (c.in-Ok-list.ensures _ _ c.in-Ok.ensures)) (listing_shallow _)
+    subst (λ (tree : Tree). depth tree ≤ 16) (sym (c.in-Ok-list.ensures _ _ c.in-Ok.ensures.stands)) (listing_shallow _)
