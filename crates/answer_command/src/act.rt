@@ -7,6 +7,7 @@ ghost use Rattle.offer_answer.specs.Rounds.{AnswerAsk};
 ghost use Rattle.offer_answer.specs.Widths.{WritesFrom};
 ghost use Rattle.call_board.specs.Acts.{Call, BoardEntry};
 ghost use Rattle.call_board.specs.Calls.{rounds};
+ghost use Rattle.call_board.specs.Shapes.{PlansReply};
 ghost use Rattle.media_ports.specs.Openings.{NoneOpened};
 ghost use Rattle.board_turns.specs.BoardTurns.{Begins, Does, Works, past_of};
 ghost use Rattle.answer_command.specs.Due.{IsAnswerOf};
@@ -42,6 +43,7 @@ pub fn answer_act<P: PortMaker, R: Wait>(
 )
     requires begins { Begins P.log turn.old }
     requires due { (e : BoardEntry) × (of : Call) × (ask : AnswerAsk) × IsAnswerOf turn.old.main.config.now (past_of turn.old.main) turn.old.main.entry_id.moment e of ask answer.sdp.now answer.plan }
+    requires plans { PlansReply turn.old.board.now answer.plan }
     requires writes { WritesFrom answer.plan.plan answer.sdp.now }
     requires room { (out.old.list ≡ []) × (answer.plan.plan.reply_len ≤ out.old.spare) }
     requires contexts { inbound_keys answer.plan.plan.signal ≤ answer.contexts }

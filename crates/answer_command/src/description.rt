@@ -6,6 +6,9 @@ ghost use Rattle.offer_answer.specs.Plan.{answer_text};
 ghost use Rattle.offer_answer.specs.Plans.{AnswerPlan, AnswerNext};
 ghost use Rattle.offer_answer.specs.Offers.{pairs_demanded, key_count};
 ghost use Rattle.offer_answer.specs.Widths.{WritesFrom};
+ghost use Rattle.offer_answer.specs.AnswerShapes.{AnswerShapes};
+ghost use Rattle.offer_answer.specs.OfferPlaces.{AnswerCounts};
+ghost use Rattle.offer_answer.specs.declared.dialog.Dialog.{Dialog};
 
 use call_board::BoardPlan;
 use sdp_text::{Bytes, Sdp};
@@ -24,6 +27,8 @@ pub(crate) fn write_answer(plan: &mut BoardPlan, sdp: &Sdp, out: &mut Bytes)
     ensures text { (config : Config) (rounds : List Round) (ask : AnswerAsk) → AnswerPlan config rounds ask sdp.now plan.old.plan →
         out.new.list ≡ out.old.list ++ answer_text config rounds ask }
     ensures within { length out.new.list ≤ length out.old.list + plan.old.plan.reply_len }
+    ensures shapes { (dialog : Dialog) → AnswerShapes plan.old.plan dialog plan.old.plan.next → AnswerShapes plan.old.plan dialog plan.new.plan.next }
+    ensures counts { (dialog : Dialog) → AnswerCounts plan.old.plan dialog → AnswerCounts plan.new.plan dialog }
 {
     plan.plan().fill(sdp, &[], 0, &[], out);
 }

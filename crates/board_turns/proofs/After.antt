@@ -1,5 +1,5 @@
 -- What the list says of a place after a nested step, there or elsewhere.
-use Rattle.std.proofs.Common.{◌≡◌, refl, sym, ◌∙◌, ap, subst, ℕ, zero, suc, ◌<◌, ◌≤◌, ◌⊎◌, inl, inr, List, [], ◌∷◌, ◌++◌, true, Some, None, map, filter, IsSome, arith}
+use Rattle.std.proofs.Common.{◌≡◌, refl, sym, ◌∙◌, ap, subst, ℕ, zero, suc, ◌<◌, ◌≤◌, ◌⊎◌, inl, inr, List, [], ◌∷◌, ◌++◌, true, Some, None, map, filter, arith}
 use Rattle.std.specs.List.{filter_map, cons_option}
 use Rattle.histories.specs.Words.{In, here, there}
 use Rattle.histories.proofs.Lists.{in_append, in_left, in_right, maps}
@@ -9,7 +9,7 @@ use Rattle.turn_table.specs.Hands.{entries}
 use Rattle.turn_table.specs.declared.machine.Entry as table
 use Rattle.port_pool.specs.declared.holder.Holder.{Holder}
 use Rattle.port_pool.specs.Signals.{NewKey}
-use Rattle.port_pool.specs.Boxes.{Open, Close, holder}
+use Rattle.port_pool.specs.Boxes.{Open, holder}
 use Rattle.call_cell.specs.declared.prepare.Prepare as prepared
 use Rattle.call_cell.specs.Preparations.{CanCome}
 use Rattle.call_cell.specs.Cells.{since_end, CellEvent, keys_of, key_numbered}
@@ -22,7 +22,6 @@ use Rattle.relay_core.proofs.Boards.{lt_or_eq}
 use Rattle.relay_core.proofs.Histories.{at_place, is_there}
 use Rattle.relay_core.proofs.Shut.{same_history}
 use Rattle.relay_core.proofs.Turns.{filter_append, filter_none, filter_every, false_if, nothing_more}
-use Rattle.board_turns.specs.NestedSteps.{IsShut, IsTurnOpen}
 use Rattle.board_turns.specs.InCells.{HasNewKeys, CanPrepare, in_cell_of}
 use Rattle.board_turns.proofs.Nesting.{map_rows}
 
@@ -139,11 +138,6 @@ opened l longer place leg s n above =
     ap (λ (es : List Entry). holder (filter_map box_event es)) (last_history l longer (record { place = place; event = Box (Open leg) }) n s above)
     ∙ ap (λ (v : Event). holder (cons_option (box_in v) (box_history l place s.entry.number))) (ap (λ (o : Owed). o.event) s.owes)
 
-pub closed : (l longer : List Entry) (place : ℕ) → IsLast l (record { place = place; event = Box Close }) longer → IsShut longer place
-closed l longer place s n above =
-    ap (λ (es : List Entry). holder (filter_map box_event es)) (last_history l longer (record { place = place; event = Box Close }) n s above)
-    ∙ ap (λ (v : Event). holder (cons_option (box_in v) (box_history l place s.entry.number))) (ap (λ (o : Owed). o.event) s.owes)
-
 -- the history of a cell has the step after what it had
 pub cell_more : (l longer : List Entry) (place : ℕ) (event : CellEvent) → (s : IsLast l (in_cell_of place event) longer) → (n : ℕ) → IsAbove longer place n
     → cell_history longer place n ≡ (record { moment = s.entry.moment; event = event }) ∷ cell_history l place s.entry.number
@@ -189,12 +183,6 @@ pub still : (P : List Entry → Type 0) (l longer : List Entry) (place : ℕ) �
     → (n : ℕ) → IsAbove longer place n → P (history longer place n)
 still P l longer place s holds n above =
     subst P (sym (other_history l longer place n s)) (holds n (other_above l longer place n s above))
-
-pub still_shut : (l longer : List Entry) (place : ℕ) → IsElsewhere l place longer → IsShut l place → IsShut longer place
-still_shut l longer place s shut = still (λ (es : List Entry). holder (filter_map box_event es) ≡ None) l longer place s shut
-
-pub still_open : (l longer : List Entry) (place : ℕ) → IsElsewhere l place longer → IsTurnOpen l place → IsTurnOpen longer place
-still_open l longer place s held = still (λ (es : List Entry). IsSome (holder (filter_map box_event es))) l longer place s held
 
 pub still_new : (l longer : List Entry) (place : ℕ) → IsElsewhere l place longer → HasNewKeys l place → HasNewKeys longer place
 still_new l longer place s keys = still (λ (es : List Entry). BringsNewKeys (filter_map cell_entry es)) l longer place s keys

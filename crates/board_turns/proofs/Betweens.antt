@@ -23,6 +23,7 @@ use Rattle.call_board.specs.Fits.{FitsBoard}
 use Rattle.call_board.specs.Futures.{closed_pairs}
 use Rattle.call_board.specs.Pairs.{held}
 use Rattle.call_board.specs.Views.{View, view_of, view_at_moment, board_last_moment}
+use Rattle.call_board.specs.Shapes.{BoardShape, board_shape}
 use Rattle.relay_core.specs.PartShapes.{board_shape_in}
 use Rattle.relay_core.specs.declared.part.Part.{Part}
 use Rattle.relay_core.specs.declared.part.Part.TheVariants as part
@@ -31,6 +32,9 @@ use Rattle.relay_core.specs.Legal.{Orderly}
 use Rattle.relay_core.specs.Records.{Made, entry_of, list_of, moment_of}
 use Rattle.relay_core.specs.Steps.{board_made, BoardSteps, Relates, IsReserved}
 use Rattle.relay_core.specs.FirstPlaces.{AreParts}
+use Rattle.relay_core.specs.WholeParts.{AreWholeParts}
+use Rattle.relay_core.specs.KeptAfter.{IsWholeWith, IsWholeNow}
+use Rattle.relay_core.specs.ReturnedPairs.{is_boards}
 use Rattle.relay_core.specs.Scripts.{Owed, owed_by, script}
 use Rattle.relay_core.specs.PlaceHistories.{BoardIs}
 use Rattle.relay_core.specs.Joins.{IsSound}
@@ -51,6 +55,7 @@ use Rattle.board_turns.specs.Acts.{InTurn}
 use Rattle.board_turns.specs.Between.{board_of, IsBetween, MakesTurn}
 use Rattle.board_turns.specs.CallEnds.{leg_pairs}
 use Rattle.board_turns.proofs.Closed.{list_gained}
+use Rattle.board_turns.proofs.Wholeness.{same_shape, begins_with, ends_with}
 
 -- The board's whole history.
 
@@ -114,6 +119,7 @@ module _ {M I O T : Type 0} {g : _} where
     pub at_board : place_of turn ≡ 0
     pub untouched : taken_of turn ≡ state_of turn
     pub orderly : Orderly config (made_by hand)
+    pub whole : (b : board.Board) → state_of turn ≡ part.Board b → IsWholeWith config hand (board_shape b)
     pub board : BoardIs config (state_of turn) (board_history (made_by hand) (front_of turn))
 
   -- the board's turn may be taken
@@ -133,6 +139,7 @@ module _ {M I O T : Type 0} {g : _} (it : I → EndLog InCall) (ic : I → ℕ) 
       main = same.0.3 ∙ b.main;
       alone = λ k has. alone k (eqb k 0) refl has;
       parts = subst (λ (l : List (Part I O)). AreParts config l) (sym same.0.1) b.parts;
+      whole_parts = subst (λ (l : List (Part I O)). AreWholeParts config l) (sym same.0.1) b.whole_parts;
       numbered = subst (λ (rows : List (table.Entry Made T)). Numbered (list_of rows)) (sym same.1) b.numbered;
     };
     above = subst (λ (rows : List (table.Entry Made T)). IsAbove (list_of rows) 0 (front_of turn)) (sym same.1)
@@ -144,6 +151,7 @@ module _ {M I O T : Type 0} {g : _} (it : I → EndLog InCall) (ic : I → ℕ) 
     orderly = subst (λ (rows : List (table.Entry Made T)). Orderly config (list_of rows)) (sym same.1) b.orderly;
     board = subst (λ (rows : List (table.Entry Made T)). BoardIs config (state_of turn) (board_history (list_of rows) (front_of turn))) (sym same.1)
         (given_board it ic ot oc config (view old) (front_of turn) (state_of turn) b.parts given.1 b.main b.orderly b.returned);
+    whole = λ now is. begins_with it ic ot oc config old mid (front_of turn) (state_of turn) now same given.1 b.main b.whole_parts b.whole is;
   }
     where
       alone : (k : ℕ) (t : Bool) → eqb k 0 ≡ t → HasPlace mid k → k ≡ 0
@@ -196,8 +204,8 @@ module _ {M I O T : Type 0} {g : _} where
       (was now : board.Board) (handed : ℕ) (log : Option (List PortCall)) → entries mid ≡ entries old → Begins config turns mid turn
       → entry_id.number ≡ front_of turn → state_of turn ≡ part.Board was
       → ((config : Config) (v : View) → BoardMatches config was v → BoardMatches config now (view_at_moment v handed) × (entry_id.moment ≡ max handed v.moment))
-      → LogsHeld config log (leg_pairs (held (board_of (made_by old)))) → InTurn config turns mid entry_id now log
-  in_turn config turns old mid turn entry_id was now handed log same begins number_is state_is advanced opens =
+      → board_shape now ≡ board_shape was → LogsHeld config log (leg_pairs (held (board_of (made_by old)))) → InTurn config turns mid entry_id now log
+  in_turn config turns old mid turn entry_id was now handed log same begins number_is state_is advanced shape_is opens =
       let n = front_of turn in
       let h = board_history (made_by mid) n in
       let stood : BoardIs {I = I} {O = O} config (part.Board was) h = subst (λ (x : Part I O). BoardIs config x h) state_is begins.board in
@@ -215,6 +223,7 @@ module _ {M I O T : Type 0} {g : _} where
             (at_turn config h now handed entry_id.moment moment a.0);
         opens = subst (λ (k : ℕ). LogsHeld config log (leg_pairs (held (board_history (made_by mid) k)))) q
             (subst (λ (l : List BoardEntry). LogsHeld config log (leg_pairs (held l))) (sym whole) opens);
+        whole = same_shape config mid was now shape_is (begins.whole was state_is);
       }
 
 -- The turn is put.
@@ -253,7 +262,8 @@ module _ {M I O T : Type 0} {g : _} where
       (gains : GainsNested (front_of turn) moment (script config (board_history (made_by mid) (front_of turn)) (board_made made event)) mid nested)
       (is_event : made.event ≡ Board event) (gives : closed_pairs (board_history (made_by mid) (front_of turn)) (board_made made event) ≡ made.returned) (is_moment : moment ≡ made.moment)
       (fits : FitsBoard config (board_history (made_by mid) (front_of turn)) (board_made made event))
-      (again : IsSameHand nested new) (ended : EndsTurn (place_of turn) (front_of turn) made outcome nested new) where
+      (again : IsSameHand nested new) (ended : EndsTurn (place_of turn) (front_of turn) made outcome nested new)
+      (shape : BoardShape) (kept : made.kept ≡ Some shape) (goes_on : IsWholeWith config nested shape) where
     row : table.Entry Made T
     row = entry 0 (front_of turn) made outcome
 
@@ -291,6 +301,19 @@ module _ {M I O T : Type 0} {g : _} where
         (known_turn config (entries old) gains.rows row (between_known config turns old b) turn_is (λ r i. gains.handed r i ∙ is_moment)
         (board_made made event) is (ap (λ (l : List Entry). closed_pairs (board_history l (front_of turn)) (board_made made event)) (sym list_same) ∙ gives))
 
+    -- the nested entries are at other places than the board's
+    apart : (w : Owed) → In w (script config (board_history (made_by mid) (front_of turn)) (board_made made event)) → w.place ≡ 0 → ⊥
+    apart w i =
+        (owed_elsewhere config (board_history (made_by mid) (front_of turn)) (board_made made event) w
+        (good_history config (made_by mid) (subst (λ (l : List Entry). Orderly config l) (sym list_same) b.orderly) (front_of turn)) fits i).1
+
+    whole_now : IsWholeNow config new
+    unfolding row
+    whole_now =
+        ends_with config (front_of turn) moment (script config (board_history (made_by mid) (front_of turn)) (board_made made event)) mid nested new row shape gains apart above
+        again.1 (ended.0 ∙ ap (λ (k : ℕ). entries nested ++ entry k (front_of turn) made outcome ∷ []) turned.0) refl refl
+        (ap (λ (v : Event). is_boards v) is_event) kept goes_on
+
     idle_case : (k : ℕ) (t : Bool) → eqb k 0 ≡ t → LacksPlace new k
     idle_case k true q =
         subst (λ (j : ℕ). LacksPlace new j) (sym (eqb-true k 0 q)) (subst (λ (j : ℕ). LacksPlace new j) turned.0 ended.2)
@@ -307,6 +330,8 @@ module _ {M I O T : Type 0} {g : _} where
         main = all_same.3 ∙ b.main;
         idle = λ k. idle_case k (eqb k 0) refl;
         parts = subst (λ (l : List (Part I O)). AreParts config l) (sym all_same.1) b.parts;
+        whole_parts = subst (λ (l : List (Part I O)). AreWholeParts config l) (sym all_same.1) b.whole_parts;
+        whole = whole_now;
         numbered = known.orderly.numbered;
         orderly = known.orderly;
         handed = known.handed;

@@ -1,27 +1,26 @@
 -- What the main hand is given at a box, and what its ends then are.
-use Rattle.std.proofs.Common.{◌≡◌, refl, sym, subst, ℕ, ◌≤◌, List, ◌∷◌, Option, Some, None, IsSome, arith}
+use Rattle.std.proofs.Common.{◌≡◌, refl, sym, subst, ℕ, ◌<◌, ◌≤◌, List, ◌∷◌, Option, Some, None, IsSome, arith}
 use Rattle.relay_outside.specs.declared.settings.Config.{Config}
 use Rattle.relay_outside.specs.declared.ports.InCall.{InCall}
 use Rattle.relay_outside.specs.declared.ports.OutCall.{OutCall}
 use Rattle.relay_outside.specs.DeviceLogs.{EndLog}
 use Rattle.turn_table.specs.declared.hands.Turns.{Turns}
 use Rattle.turn_table.specs.declared.hands.Hand.{Hand}
-use Rattle.turn_table.specs.Hands.{view, entries, IsGiven}
+use Rattle.turn_table.specs.Hands.{view, IsGiven}
 use Rattle.port_pool.specs.declared.holder.Holder.{Holder}
 use Rattle.port_pool.specs.declared.boxes.Opened.{Opened}
-use Rattle.port_pool.specs.Boxes.{BoxEvent, FitsBox, Open, holder}
+use Rattle.port_pool.specs.Boxes.{BoxEvent, FitsBox, Open}
 use Rattle.port_pool.specs.declared.boxes.PairBox.{PairBox}
 use Rattle.port_pool.specs.PairBoxes.{BoxFor, holder_of, pair_ends, ends_in, at_of, cells_of}
+use Rattle.port_pool.specs.Ports.{pair_count}
 use Rattle.relay_core.specs.declared.part.Part.{Part}
 use Rattle.relay_core.specs.declared.part.Part.TheVariants as part
-use Rattle.relay_core.specs.Entries.{Box, box_history, box_of}
+use Rattle.relay_core.specs.Entries.{Box, box_of}
 use Rattle.relay_core.specs.Records.{Made}
-use Rattle.relay_core.specs.PlaceHistories.{BoxIs}
 use Rattle.relay_core.specs.Steps.{Relates, IsReserved}
-use Rattle.relay_core.specs.Turns.{made_by}
-use Rattle.relay_core.proofs.Given.{given_box}
-use Rattle.board_turns.proofs.Nesting.{above_rows}
-use Rattle.board_turns.specs.NestedSteps.{MayNest, IsShut, IsTurnOpen, OpensBox, Shuts, nested}
+use Rattle.relay_core.proofs.Shaped.{HasHolder}
+use Rattle.relay_core.proofs.KeptGiven.{kept_box}
+use Rattle.board_turns.specs.NestedSteps.{MayNest, holder_now, IsShut, IsTurnOpen, OpensBox, Shuts, nested}
 use Rattle.board_turns.specs.BoxStates.{CanOpen, CanShut, FitEnds, HasEnds}
 
 -- a box without a holder has no ends
@@ -30,12 +29,12 @@ no_ends None q = refl
 no_ends (Some opened) q = absurd (let e : Some opened.holder ≡ None = q in cc)
 
 module _ {I O : Type 0} where
-  can_open : (cells : ℕ) (leg : Holder) (x : Part I O) → BoxIs cells x None → 1 ≤ leg.cell → leg.cell ≤ cells → CanOpen leg x
+  can_open : (cells : ℕ) (leg : Holder) (x : Part I O) → HasHolder cells x None → 1 ≤ leg.cell → leg.cell ≤ cells → CanOpen leg x
   can_open cells leg (part.Board board) is low high = absurd is
   can_open cells leg (part.Cell cell) is low high = absurd is
   can_open cells leg (part.Pair box) is low high = (is.0, low, let q = is.1 in omega (arith, q, high))
 
-  can_shut : (cells : ℕ) (held : Option Holder) (x : Part I O) → BoxIs cells x held → IsSome held → CanShut x
+  can_shut : (cells : ℕ) (held : Option Holder) (x : Part I O) → HasHolder cells x held → IsSome held → CanShut x
   can_shut cells held (part.Board board) is some = absurd is
   can_shut cells held (part.Cell cell) is some = absurd is
   can_shut cells held (part.Pair box) is some = subst (λ (o : Option Holder). IsSome o) (sym is.0) some
@@ -61,27 +60,25 @@ module _ {M I O T : Type 0} {g : _} (it : I → EndLog InCall) (ic : I → ℕ) 
   abbrev pub Gives : Hand M (Part I O) Made T g → ℕ → ℕ → Part I O → Type 0
   Gives hand place n x = IsGiven (λ (a : Part I O) (m : Made) (o : T) (b : Part I O). Relates it ic ot oc a m b) IsReserved hand place n x
 
-  -- the main hand is given a box with the holder of its list
+  -- the main hand is given a box that is open for the leg that the box's start and the hand's list say
   box_given : (config : Config) (turns : Turns M (Part I O) Made T) (hand : Hand M (Part I O) Made T g) (pair n : ℕ) (x : Part I O) → MayNest config turns hand
-      → Gives hand (box_of config pair) n x → BoxIs config.max_sessions x (holder (box_history (made_by hand) (box_of config pair) n))
-  box_given config turns hand pair n x may given =
-      given_box it ic ot oc config (view hand) (box_of config pair) n x may.parts (omega arith) given may.main may.numbered
+      → pair < pair_count config → Gives hand (box_of config pair) n x → HasHolder config.max_sessions x (holder_now config hand pair)
+  box_given config turns hand pair n x may below given =
+      kept_box it ic ot oc config (view hand) pair n x may.whole_parts below given may.main may.numbered
 
   pub shut_given : (config : Config) (turns : Turns M (Part I O) Made T) (hand : Hand M (Part I O) Made T g) (leg : Holder) (found n : ℕ) (x : Part I O)
-      → MayNest config turns hand → IsShut (made_by hand) (box_of config leg.pair) → 1 ≤ leg.cell → leg.cell ≤ config.max_sessions
+      → MayNest config turns hand → leg.pair < pair_count config → IsShut config hand leg.pair → 1 ≤ leg.cell → leg.cell ≤ config.max_sessions
       → found ≡ box_of config leg.pair → Gives hand found n x → CanOpen leg x
-  shut_given config turns hand leg found n x may shut low high at given =
+  shut_given config turns hand leg found n x may below shut low high at given =
       let there : Gives hand (box_of config leg.pair) n x = subst (λ (k : ℕ). Gives hand k n x) at given in
       can_open config.max_sessions leg x
-      (subst (λ (o : Option Holder). BoxIs config.max_sessions x o) (shut n (above_rows (entries hand) (box_of config leg.pair) n there.above))
-      (box_given config turns hand leg.pair n x may there)) low high
+      (subst (λ (o : Option Holder). HasHolder config.max_sessions x o) shut (box_given config turns hand leg.pair n x may below there)) low high
 
   pub open_given : (config : Config) (turns : Turns M (Part I O) Made T) (hand : Hand M (Part I O) Made T g) (pair found n : ℕ) (x : Part I O)
-      → MayNest config turns hand → IsTurnOpen (made_by hand) (box_of config pair) → found ≡ box_of config pair → Gives hand found n x → CanShut x
-  open_given config turns hand pair found n x may held at given =
+      → MayNest config turns hand → pair < pair_count config → IsTurnOpen config hand pair → found ≡ box_of config pair → Gives hand found n x → CanShut x
+  open_given config turns hand pair found n x may below held at given =
       let there : Gives hand (box_of config pair) n x = subst (λ (k : ℕ). Gives hand k n x) at given in
-      can_shut config.max_sessions (holder (box_history (made_by hand) (box_of config pair) n)) x (box_given config turns hand pair n x may there)
-      (held n (above_rows (entries hand) (box_of config pair) n there.above))
+      can_shut config.max_sessions (holder_now config hand pair) x (box_given config turns hand pair n x may below there) held
 
   shut_by : (hand : Hand M (Part I O) Made T g) (place n : ℕ) (x y : Part I O) (made : Made) (ends : I × I) → Gives hand place n x
       → Relates it ic ot oc x made y → HasEnds x ends → Shuts it ic ot oc hand place made ends

@@ -1,5 +1,6 @@
 -- What the main hand is given at a cell, and what the steps of a cell are.
-use Rattle.std.proofs.Common.{◌≡◌, refl, sym, ◌∙◌, ap, subst, ℕ, ◌<◌, ◌≤◌, ◌^◌, arith, max, Bool, List}
+use Rattle.std.proofs.Common.{◌≡◌, refl, sym, ◌∙◌, ap, subst, ℕ, ◌<◌, ◌≤◌, ◌^◌, arith, max, Bool, List, []}
+use Rattle.std.specs.List.{filter_map}
 use Rattle.relay_outside.specs.declared.settings.Config.{Config}
 use Rattle.relay_outside.specs.declared.ports.InCall.{InCall}
 use Rattle.relay_outside.specs.declared.ports.OutCall.{OutCall}
@@ -11,13 +12,14 @@ use Rattle.histories.specs.Words.{In}
 use Rattle.port_pool.specs.declared.pairs.Lease.{Lease}
 use Rattle.port_pool.specs.declared.reports.LegReport.{LegReport}
 use Rattle.port_pool.specs.Reports.{CountsFit}
+use Rattle.call_cell.specs.declared.leg.Leg.{Leg}
 use Rattle.call_cell.specs.declared.cell.Cell as cell
 use Rattle.call_cell.specs.Cells.{CellEntry, Expire, Read, End, since_end}
 use Rattle.call_cell.specs.Shapes.{cell_shape, cell_leg_shapes, ended_shape, IsSmall}
 use Rattle.call_cell.proofs.Shaped.{is_small}
 use Rattle.call_cell.specs.Demands.{CountsBelow}
 use Rattle.call_cell.specs.CellHistories.{CellFor}
-use Rattle.call_cell.specs.CellEnds.{CellEnds}
+use Rattle.call_cell.specs.CellEnds.{CellEnds, parts_of}
 use Rattle.call_cell.specs.Expiries.{CellExpires}
 use Rattle.call_cell.specs.LegReports.{CellReads}
 use Rattle.call_cell.proofs.Again.{counts_again}
@@ -86,12 +88,13 @@ module _ {I O : Type 0} where
 
 module _ {I O : Type 0} (it : I → EndLog InCall) (ic : I → ℕ) (ot : O → EndLog OutCall) (oc : O → ℕ) where
   pub end_relates : (x : Part I O) (old new : cell.Cell O) (gone : List (Lease × O × O)) (number handed : ℕ) → x ≡ part.Cell old
-      → cell_shape new ≡ ended_shape old.config
+      → cell_shape new ≡ ended_shape old.config → (IsSmall (cell_leg_shapes old.legs.items) → new.legs.items ≡ [])
+      → (IsSmall (cell_leg_shapes old.legs.items) → gone ≡ filter_map (λ (leg : Leg O). parts_of leg) old.legs.items)
       → ((config : Config) (h : List CellEntry) → CellFor config old h → CellEnds config old new h gone)
       → Relates it ic ot oc x (leaving number handed (moment_of_cell x) (Cell End) (gone_left ot gone)) (part.Cell new)
-  end_relates x old new gone number handed is shape steps =
+  end_relates x old new gone number handed is shape none went steps =
       subst (λ (z : Part I O). Relates it ic ot oc z (leaving number handed (moment_of_cell z) (Cell End) (gone_left ot gone)) (part.Cell new)) (sym is)
-      (record { shape = shape; gone = gone; left_are = refl; steps = λ config h for. (for.moment, steps config h for) })
+      (record { shape = shape; gone = gone; left_are = refl; none = none; went = went; steps = λ config h for. (for.moment, steps config h for) })
 
   pub read_relates : (x : Part I O) (cell : cell.Cell O) (all_reports : List LegReport) (number handed : ℕ) → x ≡ part.Cell cell → TakesReading x
       → ((config : Config) (h : List CellEntry) → CellFor config cell h → CountsBelow (since_end h) → CellReads config cell h all_reports)
@@ -101,12 +104,12 @@ module _ {I O : Type 0} (it : I → EndLog InCall) (ic : I → ℕ) (ot : O → 
       subst (λ (z : Part I O). Relates it ic ot oc z (nested number handed (moment_of_cell z) (Cell (Read all_reports))) z) (sym is)
       (record { same = refl; steps = λ config h for. (for.moment, all config h for) })
 
-  pub expire_relates : (x : Part I O) (old new : cell.Cell O) (number now : ℕ) (due : Bool) → x ≡ part.Cell old → cell_shape new ≡ cell_shape old
+  pub expire_relates : (x : Part I O) (old new : cell.Cell O) (number now : ℕ) (due : Bool) → x ≡ part.Cell old → cell_shape new ≡ cell_shape old → new.legs ≡ old.legs
       → ((config : Config) (h : List CellEntry) → CellFor config old h → CellExpires config old new h now due)
       → Relates it ic ot oc x (nested number now (max now (moment_of_cell x)) (Cell (Expire due))) (part.Cell new)
-  expire_relates x old new number now due is shape steps =
+  expire_relates x old new number now due is shape legs steps =
       subst (λ (z : Part I O). Relates it ic ot oc z (nested number now (max now (moment_of_cell z)) (Cell (Expire due))) (part.Cell new)) (sym is)
-      (record { shape = shape; steps = λ config h for. (ap (λ (m : ℕ). max now m) for.moment, steps config h for) })
+      (record { shape = shape; legs = legs; steps = λ config h for. (ap (λ (m : ℕ). max now m) for.moment, steps config h for) })
 
 module _ {M I O T : Type 0} {g : _} (it : I → EndLog InCall) (ic : I → ℕ) (ot : O → EndLog OutCall) (oc : O → ℕ) where
   -- the main hand is given a cell whose history is that of its list but for relays

@@ -11,11 +11,13 @@ use Rattle.call_board.specs.Acts.{Call, Act, Turn, Tick, Stop, BoardEvent, Board
 use Rattle.call_board.specs.Boards.{BoardMatches, KeepsReplies}
 use Rattle.call_board.specs.Calls.{due_after}
 use Rattle.call_board.specs.Pairs.{held}
+use Rattle.call_board.specs.Shapes.{board_shape}
 use Rattle.call_board.specs.Views.{View, view_of, view_at_moment}
 use Rattle.call_board.specs.Whole.{with_due_call}
 use Rattle.call_board.proofs.Repeats.{repeat_alike}
 use Rattle.relay_core.specs.declared.part.Part.{Part}
 use Rattle.relay_core.specs.Entries.{board_history}
+use Rattle.relay_core.specs.KeptAfter.{IsWholeWith}
 use Rattle.relay_core.specs.Records.{Made}
 use Rattle.relay_core.specs.Scripts.{Owed, script, script_of, script_of_act}
 use Rattle.relay_core.specs.Turns.{GainsNested, made_by}
@@ -31,6 +33,7 @@ use Rattle.board_turns.specs.BoardTurns.{Begins, Nests, Works}
 use Rattle.board_turns.proofs.Nesting.{gains_nothing}
 use Rattle.board_turns.proofs.Staying.{nests_none}
 use Rattle.board_turns.proofs.Tying.{ties_none}
+use Rattle.board_turns.proofs.Wholeness.{same_shape}
 
 -- It owes nothing.
 
@@ -83,8 +86,8 @@ module _ {M I O T : Type 0} {g : _} where
 module _ {P I O : Type 0} {g : _} (log : P → Option (List PortCall)) (faults : P → ℕ) where
   -- in the turn all else stays
   pub delay_works : (old now : BoardTurn P I O g) → Begins log old → now.main ≡ old.main → now.board.ghost_name ≡ old.board.ghost_name → now.ports ≡ old.ports → now.gone ≡ old.gone
-      → KeepsReplies old.board.now now.board.now → Works log faults old now
-  delay_works old now begins main_is board_is ports_are gone_is replies =
+      → KeepsReplies old.board.now now.board.now → board_shape now.board.now ≡ board_shape old.board.now → Works log faults old now
+  delay_works old now begins main_is board_is ports_are gone_is replies shape_is =
       let faulty = ap (λ ports. faults ports.now) ports_are in
       record {
         stays = record {
@@ -97,4 +100,7 @@ module _ {P I O : Type 0} {g : _} (log : P → Option (List PortCall)) (faults :
             (subst (λ (told : Option (List PortCall)). PortsFollowRows old.main.config.now (log old.ports.now) told (entries old.main.hand.now) (entries old.main.hand.now))
             (sym (ap (λ ports. log ports.now) ports_are)) (ties_none old.main.config.now (log old.ports.now) (entries old.main.hand.now)));
         empty = ap (λ gone. gone.now) gone_is ∙ begins.empty;
+        whole = λ w.
+            subst (λ (main : MainHand I O g). IsWholeWith main.config.now main.hand.now (board_shape now.board.now)) (sym main_is)
+            (same_shape old.main.config.now old.main.hand.now old.board.now now.board.now shape_is w);
       }

@@ -1,5 +1,5 @@
 -- A delete, as the end of one call.
-use Rattle.std.proofs.Common.{◌≡◌, ◌∙◌, refl, sym, ap, subst, ℕ, Bool, true, false, not, cond, List, [], ◌∷◌, ◌++◌, Option, map, filter}
+use Rattle.std.proofs.Common.{◌≡◌, ◌∙◌, refl, sym, ap, subst, ℕ, Bool, true, false, not, cond, List, [], ◌∷◌, ◌++◌, Option, map, filter, append-nil}
 use Rattle.std.specs.Prelude.{◌&&◌, ◌==◌}
 use Rattle.relay_outside.specs.declared.ports.PortCall.{PortCall}
 use Rattle.relay_outside.specs.declared.settings.Config.{Config}
@@ -12,8 +12,9 @@ use Rattle.call_board.specs.declared.board.Board.{Board}
 use Rattle.call_board.specs.Acts as act
 use Rattle.call_board.specs.Acts.{Call, Act, Control, Turn, Tick, Stop, BoardEvent, BoardEntry, act_in, act}
 use Rattle.call_board.specs.Calls.{live, ended_by, ended_in, ended_by_act}
+use Rattle.call_board.specs.Boards.{IsLive}
 use Rattle.call_board.specs.Fits.{IsFitting}
-use Rattle.call_board.specs.Pairs.{held, closed_of, closes_leg, closes_leg_act, legs_of_act}
+use Rattle.call_board.specs.Pairs.{held, free, closed_of, closes_leg, closes_leg_act, legs_of_act}
 use Rattle.call_board.specs.Views.{View, view_of, view_at_moment}
 use Rattle.relay_core.specs.declared.part.Part.{Part}
 use Rattle.relay_core.specs.Entries.{Entry, board_history}
@@ -23,12 +24,13 @@ use Rattle.relay_core.specs.Turns.{made_by}
 use Rattle.relay_core.proofs.Turns.{nothing_more}
 use Rattle.board_turns.specs.declared.board_turn.BoardEntryId.{BoardEntryId}
 use Rattle.board_turns.specs.Closings.{pairs_left}
-use Rattle.board_turns.specs.CallEnds.{CanEnd, leg_pairs, with_call_ended}
+use Rattle.board_turns.specs.CallEnds.{CanEnd, IsCallOf, leg_pairs, with_call_ended}
 use Rattle.board_turns.specs.Acts.{acted, InTurn}
 use Rattle.call_board.proofs.Free.{held_once}
 use Rattle.board_turns.proofs.Lefts.{told_alike, left_none}
 use Rattle.board_turns.proofs.Next.{next_can}
 use Rattle.board_turns.proofs.StayHeld.{stay_left}
+use Rattle.board_turns.proofs.TakenPairs.{may_end}
 
 -- Which legs a delete closes.
 
@@ -114,14 +116,21 @@ deleted_acts h e of v is = ap (λ (a : Act). acted h e a v) is
 -- It may be done.
 
 module _ {M I O T : Type 0} {g : _} where
-  -- the call may be ended for any entry that ends it
-  pub may_delete : (config : Config) (turns : Turns M (Part I O) Made T) (hand : Hand M (Part I O) Made T g) (entry_id : BoardEntryId) (board : Board) (log : Option (List PortCall))
+  -- the call, for any entry that ends it
+  pub deleted_call : (config : Config) (turns : Turns M (Part I O) Made T) (hand : Hand M (Part I O) Made T g) (entry_id : BoardEntryId) (board : Board) (log : Option (List PortCall))
       (e : BoardEntry) (of : Call) → InTurn config turns hand entry_id board log → In of (live (board_history (made_by hand) entry_id.number)) → In of (ended_by e)
-      → CanEnd config (made_by hand) board log of.number of (closed_of (board_history (made_by hand) entry_id.number) e of)
-  may_delete config turns hand entry_id board log e of turn alive ends =
+      → IsCallOf config (made_by hand) board of.number of (closed_of (board_history (made_by hand) entry_id.number) e of)
+  deleted_call config turns hand entry_id board log e of turn alive ends =
       let l = made_by hand in
       let h = board_history l entry_id.number in
-      subst (λ (k : List Entry). CanEnd config k board log of.number of (closed_of h e of)) (nothing_more l)
-      (next_can config l [] turn.orderly entry_id.number e [] of board log turn.above alive ends (λ i. elim i [ ]) (λ d i. elim i [ ]) refl
-      (view_at_moment (view_of config h) entry_id.moment) refl refl refl turn.shows
-      (told_alike config log (leg_pairs (held h)) (pairs_left [] (leg_pairs (held h))) (left_none (leg_pairs (held h))) turn.opens))
+      subst (λ (k : List Entry). IsCallOf config k board of.number of (closed_of h e of)) (nothing_more l)
+      (next_can config l [] turn.orderly entry_id.number e [] of board turn.above alive ends (λ i. elim i [ ]) (λ d i. elim i [ ]) refl
+      (view_at_moment (view_of config h) entry_id.moment) refl turn.shows)
+
+  -- it may be ended
+  pub may_delete : (config : Config) (turns : Turns M (Part I O) Made T) (hand : Hand M (Part I O) Made T g) (entry_id : BoardEntryId) (board : Board) (log : Option (List PortCall))
+      (call : ℕ) → InTurn config turns hand entry_id board log → IsLive board call → CanEnd config hand board log call
+  may_delete config turns hand entry_id board log call turn live =
+      let h = board_history (made_by hand) entry_id.number in
+      may_end config hand board log call h [] (view_at_moment (view_of config h) entry_id.moment) turn.whole turn.shows (sym (append-nil (free config h))) live
+      (told_alike config log (leg_pairs (held h)) (pairs_left [] (leg_pairs (held h))) (left_none (leg_pairs (held h))) turn.opens)

@@ -1,31 +1,24 @@
 -- A call that ends: what its legs and their leases are.
-use Rattle.std.proofs.Common.{◌≡◌, ◌∙◌, refl, sym, ap, subst, ℕ, ◌<◌, ◌≤◌, true, List, [], ◌∷◌, Option, Some, map, arith}
+use Rattle.std.proofs.Common.{◌≡◌, ◌∙◌, refl, sym, ap, subst, ℕ, ◌<◌, List, [], ◌∷◌, Some, map}
 use Rattle.std.specs.Prelude.{option_map}
-use Rattle.relay_outside.specs.declared.ports.PortCall.{PortCall}
 use Rattle.relay_outside.specs.declared.settings.Config.{Config}
-use Rattle.turn_table.specs.declared.hands.Hand.{Hand}
-use Rattle.histories.specs.Words.{In, here, there, has}
-use Rattle.histories.proofs.Lists.{mapped}
+use Rattle.histories.specs.Words.{has}
 use Rattle.port_pool.specs.Ports.{pair_count}
 use Rattle.port_pool.specs.declared.pairs.Lease.{Lease}
 use Rattle.port_pool.specs.declared.holder.Holder.{Holder}
-use Rattle.call_cell.specs.Cells.{End}
 use Rattle.call_board.specs.Acts.{Call}
 use Rattle.call_board.specs.declared.board.Board.{Board}
 use Rattle.call_board.specs.Views.{View, CallView, call_numbered, without_call}
 use Rattle.call_board.specs.Boards.{BoardMatches, CellsApart, pairs_in}
 use Rattle.call_board.specs.Returns.{leg_lease, MayReturnAll}
-use Rattle.relay_core.specs.Entries.{Entry, box_of}
-use Rattle.relay_core.specs.Scripts.{Owed, closing}
-use Rattle.relay_core.specs.Records.{Made}
-use Rattle.relay_core.specs.Turns.{IsAbove, GainsNested, made_by}
+use Rattle.relay_core.specs.Entries.{Entry}
+use Rattle.relay_core.specs.Scripts.{closing}
+use Rattle.relay_core.specs.Turns.{IsAbove}
 use Rattle.media_ports.specs.Addresses.{AreLeased}
-use Rattle.board_turns.specs.NestedSteps.{IsTurnOpen, closing_of}
-use Rattle.board_turns.specs.InCells.{in_cell_of}
+use Rattle.board_turns.specs.NestedSteps.{closing_of}
 use Rattle.board_turns.specs.Departures.{AreLeasesOf, AllRemoved}
-use Rattle.board_turns.specs.Closings.{CanClose, leases_of_legs, closings_of}
-use Rattle.board_turns.specs.CallEnds.{CanEnd, leg_pairs}
-use Rattle.board_turns.proofs.Closed.{still_open}
+use Rattle.board_turns.specs.Closings.{leases_of_legs, closings_of}
+use Rattle.board_turns.specs.CallEnds.{IsCallOf, leg_pairs}
 
 module _ {O : Type 0} where
   -- the pairs that went are those of the legs
@@ -68,9 +61,9 @@ module _ {O : Type 0} where
       their_pairs (one ∷ those) = ap (λ (ps : List ℕ). one.pair ∷ ps) (their_pairs those)
 
   -- the legs that went from the cell are those of the call
-  pub went_are : (config : Config) (l : List Entry) (board : Board) (log : Option (List PortCall)) (call : ℕ) (of : Call) (legs : List Holder) (cell n : ℕ)
-      (gone : List (Lease × O × O)) → CanEnd config l board log call of legs → cell ≡ of.cell → AllRemoved config l cell gone → IsAbove l cell n → AreLeasesOf config gone legs
-  went_are config l board log call of legs cell n gone can is went above =
+  pub went_are : (config : Config) (l : List Entry) (board : Board) (call : ℕ) (of : Call) (legs : List Holder) (cell n : ℕ)
+      (gone : List (Lease × O × O)) → IsCallOf config l board call of legs → cell ≡ of.cell → AllRemoved config l cell gone → IsAbove l cell n → AreLeasesOf config gone legs
+  went_are config l board call of legs cell n gone can is went above =
       let there_above : IsAbove l of.cell n = subst (λ (k : ℕ). IsAbove l k n) is above in
       let there_went : AllRemoved config l of.cell gone = subst (λ (k : ℕ). AllRemoved config l k gone) is went in
       subst (λ (ls : List Holder). AreLeasesOf config gone ls) (can.legs_are n there_above) (there_went n there_above)
@@ -81,36 +74,10 @@ may_be_leased config v [] may = record { differ = tt }
 may_be_leased config v (lease ∷ leases) may = record { differ = (may.0.of_range, may.1, (may_be_leased config v leases may.2).differ) }
 
 -- the board's answer is the cell of the call
-pub cell_is : (config : Config) (l : List Entry) (board : Board) (log : Option (List PortCall)) (call : ℕ) (of : Call) (legs : List Holder) (cell : ℕ) →
-    CanEnd config l board log call of legs →
+pub cell_is : (config : Config) (l : List Entry) (board : Board) (call : ℕ) (of : Call) (legs : List Holder) (cell : ℕ) →
+    IsCallOf config l board call of legs →
     ((config : Config) (v : View) → BoardMatches config board v → option_map (λ (c : CallView). c.of.cell) (call_numbered v call) ≡ Some cell) → cell ≡ of.cell
-cell_is config l board log call of legs cell can answers =
+cell_is config l board call of legs cell can answers =
     let found : Some can.seen.of.cell ≡ Some cell = sym (ap (option_map (λ (c : CallView). c.of.cell)) can.found) ∙ answers config can.view can.shows in
     let same : can.seen.of.cell ≡ cell = cc in
     sym same ∙ ap (λ (c : Call). c.cell) can.of_is
-
-not_box : (config : Config) (cell pair : ℕ) → cell ≤ config.max_sessions → (w : Owed) → In w (in_cell_of cell End ∷ []) → w.place ≡ box_of config pair → ⊥
-not_box config cell pair high w (here q) at = let is = ap (λ (v : Owed). v.place) q in omega (arith, is, at, high)
-not_box config cell pair high w (there i) at = elim i [ ]
-
-module _ {M S T O : Type 0} {g : _} where
-  -- its legs may be closed when it has ended
-  pub can_close : (config : Config) (number moment : ℕ) (old new : Hand M S Made T g) (before after : Board) (log : Option (List PortCall)) (call : ℕ) (of : Call) (legs : List Holder)
-      (cell : ℕ) (gone : List (Lease × O × O)) → CanEnd config (made_by old) before log call of legs → cell ≡ of.cell →
-      GainsNested number moment (in_cell_of cell End ∷ []) old new →
-      ((config : Config) (v : View) → BoardMatches config before v → CellsApart v.calls → BoardMatches config after (without_call v call)) →
-      AreLeasesOf config gone legs → CanClose config (made_by new) after log gone
-  can_close config number moment old new before after log call of legs cell gone can is gains ended are =
-      let pairs = pairs_are config gone legs are in
-      let its = λ (pair : ℕ) (i : In pair (pairs_in (leases_of_legs gone))). mapped (λ (leg : Holder). leg.pair) legs (subst (λ (ps : List ℕ). In pair ps) pairs i) in
-      let high = can.high in
-      record {
-        view = without_call can.view call;
-        shows = ended config can.view can.shows can.apart;
-        may_return = may_return_alike config (without_call can.view call) gone legs are can.may_return;
-        boxes_open = λ pair i. still_open number moment (box_of config pair) (in_cell_of cell End ∷ []) old new gains (not_box config cell pair (omega (arith, high, is)))
-            (subst (λ (p : ℕ). IsTurnOpen (made_by old) (box_of config p)) (its pair i).makes (can.boxes_open (its pair i).from (its pair i).is_in));
-        held = can.held;
-        opens = can.opens;
-        are_held = λ pair i. subst (λ (p : ℕ). has can.held p ≡ true) (its pair i).makes (can.are_held (its pair i).from (its pair i).is_in);
-      }

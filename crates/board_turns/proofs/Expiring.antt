@@ -1,6 +1,6 @@
 -- A call that is asked whether it has timed out may still be ended.
 use Rattle.std.proofs.Common.{◌≡◌, ◌∙◌, refl, sym, ap, subst, ℕ, zero, suc, max, ◌<◌, ◌≤◌, Bool, true, false, cond, List, [], ◌∷◌, ◌++◌, Option, Some, map, filter, length, arith}
-use Rattle.std.specs.Prelude.{slice_get, if◌then◌else◌}
+use Rattle.std.specs.Prelude.{◌==◌, slice_get, if◌then◌else◌}
 use Rattle.std.specs.List.{filter_map, cons_option}
 use Rattle.std.proofs.lemmas.List.Elements.{filter-append, filter_map-append}
 use Rattle.relay_outside.specs.declared.ports.PortCall.{PortCall}
@@ -14,6 +14,7 @@ use Rattle.histories.specs.Words.{In, here, there}
 use Rattle.histories.proofs.Lists.{in_left, filtered, maps}
 use Rattle.port_pool.specs.declared.holder.Holder.{Holder}
 use Rattle.call_cell.specs.Cells.{CellEntry, Expire, since_end, legs}
+use Rattle.call_cell.specs.Shapes.{CellShape}
 use Rattle.call_cell.specs.SignalEntries.{is_lasting, lasting_entries}
 use Rattle.call_cell.specs.Demands.{is_due}
 use Rattle.call_cell.specs.CellHistories.{CellFor, cell_last_moment}
@@ -25,28 +26,32 @@ use Rattle.call_cell.proofs.NewKeys.{brings_same}
 use Rattle.call_board.specs.Acts.{Call}
 use Rattle.call_board.specs.declared.board.Board.{Board}
 use Rattle.call_board.specs.Calls.{is_due_by}
+use Rattle.call_board.specs.Shapes.{board_shape, shape_numbered}
 use Rattle.call_board.specs.Views.{View, CallView, call_numbered}
 use Rattle.call_board.specs.Boards.{BoardMatches, IsLive}
 use Rattle.call_board.proofs.Found.{found_is_live}
 use Rattle.relay_core.specs.Entries as event
-use Rattle.relay_core.specs.Entries.{Event, Cell, Box, Entry, is_at, cell_at, cell_entry, cell_history, history, box_of}
+use Rattle.relay_core.specs.Entries.{Event, Cell, Box, Entry, is_at, cell_at, cell_entry, cell_history, history}
 use Rattle.relay_core.specs.Scripts.{Owed, owed_by}
 use Rattle.relay_core.specs.Records.{Made, list_of}
 use Rattle.relay_core.specs.Turns.{IsAbove, GainsNested, Numbered, made_by}
 use Rattle.relay_core.specs.FirstPlaces.{AreParts}
+use Rattle.relay_core.specs.KeptAfter.{IsWholeWith, cells_after, cell_shape_after}
 use Rattle.relay_core.specs.PlaceHistories.{Stands}
 use Rattle.relay_core.specs.declared.part.Part.{Part}
 use Rattle.relay_core.specs.declared.part.Part.TheVariants as part
 use Rattle.relay_core.proofs.Given.{given_whole_cell}
 use Rattle.relay_core.proofs.Histories.{at_place}
+use Rattle.relay_core.proofs.KeptGained.{hand_cells}
 use Rattle.relay_core.proofs.Shut.{same_history}
 use Rattle.relay_core.proofs.Lasting.{lasts}
 use Rattle.relay_core.proofs.Turns.{filter_append, nothing_more}
 use Rattle.board_turns.specs.InCells.{Expires, HasNewKeys, in_cell_of}
 use Rattle.board_turns.proofs.Nesting.{above_rows}
-use Rattle.board_turns.specs.CallEnds.{CanEnd}
+use Rattle.board_turns.specs.CallEnds.{CanEnd, IsCallOf}
+use Rattle.board_turns.specs.Departures.{cell_kept}
 use Rattle.board_turns.specs.Ticks.{CanExpire, IsDueBy}
-use Rattle.board_turns.proofs.Closed.{list_gained, open_elsewhere}
+use Rattle.board_turns.proofs.Closed.{list_gained}
 use Rattle.board_turns.proofs.Stopped.{calls_long, get_map}
 use Rattle.board_turns.proofs.Tying.{NothingLeaves}
 
@@ -85,31 +90,25 @@ still_lasting l ns place (suc n) passes =
     ∙ ap (λ (es : List CellEntry). lasting_of (filter (is_at place n) l) ++ es) (still_lasting l ns place n passes)
     ∙ sym (lasting_both (filter (is_at place n) l) (history l place n))
 
--- The call may still be ended.
+-- It is still the call.
 
-pub still_can : (config : Config) (l ns : List Entry) (board : Board) (log : Option (List PortCall)) (call : ℕ) (of : Call) (legs : List Holder)
-    → CanEnd config l board log call of legs → ((x : Entry) → In x ns → x.place ≡ of.cell → lasts x.event ≡ false)
-    → ((x : Entry) → In x ns → (pair : ℕ) → x.place ≡ box_of config pair → ⊥) → CanEnd config (l ++ ns) board log call of legs
-still_can config l ns board log call of its can passes apart =
+pub still_call : (config : Config) (l ns : List Entry) (board : Board) (call : ℕ) (of : Call) (legs : List Holder)
+    → IsCallOf config l board call of legs → ((x : Entry) → In x ns → x.place ≡ of.cell → lasts x.event ≡ false) → IsCallOf config (l ++ ns) board call of legs
+still_call config l ns board call of its is passes =
     let before = λ (m : ℕ) (a : IsAbove (l ++ ns) of.cell m). let b : IsAbove l of.cell m = (λ x i p. a x (in_left l ns i) p) in b in
     let same = λ (m : ℕ). still_lasting l ns of.cell m passes in
     record {
-      view = can.view;
-      shows = can.shows;
-      apart = can.apart;
-      seen = can.seen;
-      found = can.found;
-      of_is = can.of_is;
-      low = can.low;
-      high = can.high;
-      keys = λ m a. brings_same (cell_history l of.cell m) (cell_history (l ++ ns) of.cell m) (sym (same m)) (can.keys m (before m a));
+      view = is.view;
+      shows = is.shows;
+      apart = is.apart;
+      seen = is.seen;
+      found = is.found;
+      of_is = is.of_is;
+      low = is.low;
+      high = is.high;
+      keys = λ m a. brings_same (cell_history l of.cell m) (cell_history (l ++ ns) of.cell m) (sym (same m)) (is.keys m (before m a));
       legs_are = λ m a. sym (legs_kept (cell_history (l ++ ns) of.cell m)) ∙ ap (λ (es : List CellEntry). legs (since_end es)) (same m)
-          ∙ legs_kept (cell_history l of.cell m) ∙ can.legs_are m (before m a);
-      may_return = can.may_return;
-      boxes_open = λ leg i. open_elsewhere l ns (box_of config leg.pair) (λ x j. apart x j leg.pair) (can.boxes_open leg i);
-      held = can.held;
-      opens = can.opens;
-      are_held = can.are_held;
+          ∙ legs_kept (cell_history l of.cell m) ∙ is.legs_are m (before m a);
     }
 
 -- The question as a step, before the end of a call: one that is overdue isn't asked.
@@ -126,17 +125,42 @@ only_asked : (cell : ℕ) (overdue : Bool) (ns : List Entry) → map owed_by ns 
 only_asked cell overdue ns owes x i = in_question cell overdue (owed_by x) (subst (λ (ws : List Owed). In (owed_by x) ws) owes (maps owed_by ns i))
 
 module _ {M S T : Type 0} {g : _} where
-  pub asked_can : (config : Config) (number moment cell : ℕ) (overdue : Bool) (old new : Hand M S Made T g) (board : Board) (log : Option (List PortCall)) (call : ℕ) (of : Call) (legs : List Holder)
-      → CanEnd config (made_by old) board log of.number of legs → call ≡ of.number → cell ≡ of.cell
-      → GainsNested number moment (question cell overdue) old new → CanEnd config (made_by new) board log call of legs
-  asked_can config number moment cell overdue old new board log call of legs can call_is cell_is gains =
+  pub asked_call : (config : Config) (number moment cell : ℕ) (overdue : Bool) (old new : Hand M S Made T g) (board : Board) (call : ℕ) (of : Call) (legs : List Holder)
+      → IsCallOf config (made_by old) board of.number of legs → call ≡ of.number → cell ≡ of.cell
+      → GainsNested number moment (question cell overdue) old new → IsCallOf config (made_by new) board call of legs
+  asked_call config number moment cell overdue old new board call of legs is call_is cell_is gains =
       let ns = list_of gains.rows in
-      let is = only_asked cell overdue ns gains.gained.owes in
-      let high = can.high in
-      subst (λ (k : ℕ). CanEnd config (made_by new) board log k of legs) (sym call_is)
-      (subst (λ (l : List Entry). CanEnd config l board log of.number of legs) (sym (list_gained number moment (question cell overdue) old new gains))
-      (still_can config (made_by old) ns board log of.number of legs can (λ x i p. ap (λ (v : Owed). lasts v.event) (is x i))
-      (λ x i pair p. let place = ap (λ (v : Owed). v.place) (is x i) in omega (arith, place, cell_is, high, p))))
+      let asks = only_asked cell overdue ns gains.gained.owes in
+      subst (λ (k : ℕ). IsCallOf config (made_by new) board k of legs) (sym call_is)
+      (subst (λ (l : List Entry). IsCallOf config l board of.number of legs) (sym (list_gained number moment (question cell overdue) old new gains))
+      (still_call config (made_by old) ns board of.number of legs is (λ x i p. ap (λ (v : Owed). lasts v.event) (asks x i))))
+
+-- And it may still be ended.
+
+either_shape : (t : Bool) (shape : CellShape) → cond t shape shape ≡ shape
+either_shape true shape = refl
+either_shape false shape = refl
+
+question_keeps : (cell : ℕ) (overdue : Bool) (cells : ℕ → CellShape) (k : ℕ) → cells_after (question cell overdue) cells k ≡ cells k
+question_keeps cell true cells k = refl
+question_keeps cell false cells k = either_shape (cell == k) (cells k)
+
+module _ {M I O T : Type 0} {g : _} where
+  pub asked_can : (config : Config) (number moment cell : ℕ) (overdue : Bool) (old new : Hand M (Part I O) Made T g) (board : Board) (log : Option (List PortCall)) (call number_of : ℕ)
+      → CanEnd config old board log number_of → call ≡ number_of → starts new ≡ starts old → GainsNested number moment (question cell overdue) old new
+      → IsWholeWith config new (board_shape board) → CanEnd config new board log call
+  asked_can config number moment cell overdue old new board log call number_of can call_is same gains whole =
+      let kept : cell_kept config new can.live.cell ≡ cell_kept config old can.live.cell
+      = hand_cells config number moment (question cell overdue) old new same gains can.live.cell
+      ∙ question_keeps cell overdue (cell_shape_after config (starts old) (made_by old)) can.live.cell in
+      record {
+        whole = whole;
+        live = can.live;
+        found = ap (λ (k : ℕ). shape_numbered (board_shape board) k) call_is ∙ can.found;
+        held = can.held;
+        opens = can.opens;
+        are_held = λ leg i. can.are_held leg (subst (λ (shape : CellShape). In leg shape.legs) kept i);
+      }
 
 -- What the cell of a hand with all parts returns follows from its whole history.
 
@@ -185,8 +209,8 @@ below [] i x at = absurd (let q = at in cc)
 below (y ∷ ys) zero x at = omega arith
 below (y ∷ ys) (suc i) x at = let rest = below ys i x at in omega (arith, rest)
 
-module _ (config : Config) (l : List Entry) (board : Board) (log : Option (List PortCall)) (moment index : ℕ) (of : Call) (legs : List Holder) (overdue : Bool)
-    (asks : CanExpire config l board log moment index of legs overdue) where
+module _ {M I O T : Type 0} {g : _} (config : Config) (hand : Hand M (Part I O) Made T g) (board : Board) (log : Option (List PortCall)) (moment index : ℕ) (of : Call)
+    (legs : List Holder) (overdue : Bool) (asks : CanExpire config hand board log moment index of legs overdue) where
   pub index_below : index < length board.calls.list
   index_below =
       let long = calls_long config board.calls.list asks.view.calls asks.shows.calls_for in

@@ -1,5 +1,5 @@
 -- What a list without an entry says of each place, and of what comes first.
-use Rattle.std.proofs.Common.{◌≡◌, refl, sym, ◌∙◌, ap, subst, ℕ, zero, suc, List, [], ◌∷◌, arith}
+use Rattle.std.proofs.Common.{◌≡◌, refl, sym, ◌∙◌, ap, subst, ℕ, zero, suc, ◌<◌, List, [], ◌∷◌, Some, arith}
 use Rattle.std.specs.List.{AllPairs, filter_map}
 use Rattle.relay_outside.specs.declared.ports.OutCall.{OutCall}
 use Rattle.relay_outside.specs.declared.settings.Config.{Config}
@@ -7,21 +7,31 @@ use Rattle.relay_outside.specs.DeviceLogs.{EndLog}
 use Rattle.histories.specs.Words.{In, here, there}
 use Rattle.histories.proofs.Lists.{maps}
 use Rattle.turn_table.specs.declared.hands.Hand.{Hand}
+use Rattle.turn_table.specs.Hands.{starts}
 use Rattle.port_pool.specs.declared.holder.Holder.{Holder}
 use Rattle.port_pool.specs.declared.signal.SectionSignal.{SectionSignal}
 use Rattle.port_pool.specs.Signals.{NewKey}
-use Rattle.port_pool.specs.Boxes.{holder}
+use Rattle.port_pool.specs.Ports.{pair_count}
 use Rattle.call_cell.specs.declared.leg.Leg.{Leg}
 use Rattle.call_cell.specs.declared.prepare.Prepare as prepared
 use Rattle.call_cell.specs.Cells.{CellEvent, CellEntry, key_numbered, since_end}
 use Rattle.call_cell.specs.Commits.{contexts_due_after}
+use Rattle.call_shapes.specs.Events.{holder_by}
 use Rattle.call_cell.specs.Preparations.{CanCome, AreTwo, PrepareFor, added}
-use Rattle.relay_core.specs.Entries.{Entry, history, cell_history, box_event, cell_entry}
+use Rattle.relay_core.specs.declared.part.Part.{Part}
+use Rattle.relay_core.specs.declared.part.Part.TheVariants as part
+use Rattle.relay_core.specs.Entries.{Entry, history, front, cell_history, box_history, cell_entry, box_of}
+use Rattle.relay_core.specs.FirstPlaces.{AreParts}
 use Rattle.relay_core.specs.Records.{Made}
 use Rattle.relay_core.specs.PlaceHistories.{BringsNewKeys}
 use Rattle.relay_core.specs.Steps.{AreOpened}
+use Rattle.relay_core.specs.Scripts.{open_owed}
 use Rattle.relay_core.specs.Turns.{GainsNested, made_by}
-use Rattle.board_turns.specs.NestedSteps.{IsShut}
+use Rattle.relay_core.specs.WholeParts.{AreWholeParts, holder_of_part, box_holder_at}
+use Rattle.relay_core.proofs.Given.{begins_as}
+use Rattle.relay_core.proofs.KeptGained.{hand_holders}
+use Rattle.relay_core.proofs.KeptScripts.{opened_for}
+use Rattle.board_turns.specs.NestedSteps.{holder_now, IsShut}
 use Rattle.board_turns.specs.InCells.{HasNewKeys, CanPrepare, HasRoomForContexts, in_cell_of}
 use Rattle.board_turns.proofs.After.{gained_last, keys_after}
 
@@ -34,8 +44,24 @@ nothing_at : (l : List Entry) → l ≡ [] → (place n : ℕ) → history l pla
 nothing_at l none place n = ap (λ (k : List Entry). history k place n) none ∙ nothing_there place n
 
 -- each box is shut
-pub first_shut : (l : List Entry) (place : ℕ) → l ≡ [] → IsShut l place
-first_shut l place none n above = ap (λ (es : List Entry). holder (filter_map box_event es)) (nothing_at l none place n)
+pub first_shut : {M I O T : Type 0} {g : _} (config : Config) (hand : Hand M (Part I O) Made T g) (pair : ℕ) → AreParts config (starts hand) → AreWholeParts config (starts hand)
+    → made_by hand ≡ [] → pair < pair_count config → IsShut config hand pair
+first_shut config hand pair parts whole none below =
+    let box = whole.boxes pair below in
+    let begins = begins_as config (starts hand) parts (box_of config pair) (part.Pair box.0) box.1 in
+    ap (λ (l : List Entry). holder_by (box_history l (box_of config pair) (front l (box_of config pair))) (box_holder_at config (starts hand) pair)) none
+    ∙ ap holder_of_part box.1 ∙ sym begins.1.0.holder_is
+
+-- one that is opened is open
+pub opened_now : {M I O T : Type 0} {g : _} (config : Config) (number moment : ℕ) (leg : Holder) (old new : Hand M (Part I O) Made T g) → starts new ≡ starts old
+    → GainsNested number moment (open_owed config leg ∷ []) old new → holder_now config new leg.pair ≡ Some leg
+opened_now config number moment leg old new same gains =
+    hand_holders config number moment (open_owed config leg ∷ []) old new same gains leg.pair
+    ∙ opened_for config (leg ∷ []) (holder_now config old) leg (here refl) (λ a b i j same. only a i ∙ sym (only b j))
+  where
+    only : (x : Holder) → In x (leg ∷ []) → x ≡ leg
+    only x (here q) = q
+    only x (there i) = elim i [ ]
 
 cell_nothing : (l : List Entry) (place n : ℕ) → l ≡ [] → cell_history l place n ≡ []
 cell_nothing l place n none = ap (λ (es : List Entry). filter_map cell_entry es) (nothing_at l none place n)

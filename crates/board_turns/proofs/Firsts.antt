@@ -10,8 +10,10 @@ use Rattle.relay_core.specs.declared.part.Part.{Part}
 use Rattle.relay_core.specs.Entries.{Entry}
 use Rattle.relay_core.specs.Records.{Made, list_of}
 use Rattle.relay_core.specs.FirstPlaces.{AreParts}
+use Rattle.relay_core.specs.WholeParts.{AreWholeParts}
 use Rattle.relay_core.specs.Turns.{made_by}
 use Rattle.relay_core.proofs.Known.{IsKnown}
+use Rattle.relay_core.proofs.KeptGiven.{whole_first}
 use Rattle.relay_core.proofs.Turns.{nothing_is_orderly}
 use Rattle.media_ports.specs.OpenPorts.{OpensHeld}
 use Rattle.board_turns.specs.Between.{board_of, IsBetween}
@@ -27,14 +29,17 @@ nothing_known config = record {
 module _ {M I O T : Type 0} {g : _} where
   -- the hand of a table that began with the parts of the configuration
   pub first_between : (config : Config) (turns : Turns M (Part I O) Made T) (hand : Hand M (Part I O) Made T g) (parts : List (Part I O)) → IsHandOf turns hand
-      → IsFirstHand parts hand → AreParts config parts → IsBetween config turns hand
-  first_between config turns hand parts of_table first are =
+      → IsFirstHand parts hand → AreParts config parts → AreWholeParts config parts → IsBetween config turns hand
+  first_between config turns hand parts of_table first are whole =
       let known : IsKnown config (entries hand) = subst (λ (rows : List (table.Entry Made T)). IsKnown config rows) (sym first.1) (nothing_known config) in
+      let whole_parts = subst (λ (l : List (Part I O)). AreWholeParts config l) (sym first.0) whole in
       record {
         of_table = of_table;
         main = first.3;
         idle = first.4;
         parts = subst (λ (l : List (Part I O)). AreParts config l) (sym first.0) are;
+        whole_parts = whole_parts;
+        whole = whole_first config hand first.1 whole_parts;
         numbered = known.orderly.numbered;
         orderly = known.orderly;
         handed = known.handed;

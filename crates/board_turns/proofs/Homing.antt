@@ -1,5 +1,5 @@
 -- The ends of what the main hand is given, and so of what leaves its place, are those that were opened for its ports.
-use Rattle.std.proofs.Common.{◌≡◌, sym, subst, ℕ, ◌≤◌, List, Option, filter}
+use Rattle.std.proofs.Common.{◌≡◌, sym, subst, ℕ, ◌<◌, ◌≤◌, List, Option, filter}
 use Rattle.relay_outside.specs.declared.ports.InCall.{InCall}
 use Rattle.relay_outside.specs.declared.ports.OutCall.{OutCall}
 use Rattle.relay_outside.specs.declared.settings.Config.{Config}
@@ -10,7 +10,7 @@ use Rattle.turn_table.specs.declared.hands.Hand.{Hand}
 use Rattle.turn_table.specs.Hands.{view, entries}
 use Rattle.histories.specs.Words.{has}
 use Rattle.histories.proofs.Lists.{filtered}
-use Rattle.port_pool.specs.Ports.{port_address, rtcp_address, AreOfPair}
+use Rattle.port_pool.specs.Ports.{pair_count, port_address, rtcp_address, AreOfPair}
 use Rattle.port_pool.specs.declared.pairs.Lease.{Lease}
 use Rattle.port_pool.specs.declared.signal.SectionSignal.{SectionSignal}
 use Rattle.port_pool.specs.Signals.{NewKey}
@@ -26,6 +26,7 @@ use Rattle.relay_core.specs.Records.{Made}
 use Rattle.relay_core.specs.PlaceHistories.{CellIs, AreHome, BoxHome, LegsHome, GoneHome}
 use Rattle.relay_core.specs.Steps.{AreOpened}
 use Rattle.relay_core.specs.Turns.{made_by}
+use Rattle.relay_core.proofs.KeptGiven.{IsBoxAt, kept_box_at}
 use Rattle.relay_core.proofs.GivenHomes.{given_box_home, given_cell_home}
 use Rattle.relay_core.proofs.Homes.{gone_home}
 use Rattle.board_turns.specs.NestedSteps.{MayNest, Shuts}
@@ -35,12 +36,12 @@ use Rattle.board_turns.proofs.Nesting.{above_rows}
 use Rattle.board_turns.proofs.Boxing.{Gives}
 
 module _ {I O : Type 0} (it : I → EndLog InCall) (ot : O → EndLog OutCall) where
-  ends_fit : (config : Config) (pair : ℕ) (x : Part I O) (ends : I × I) → BoxHome it config pair x → IsOpenedFor (port_address config pair Rtp) (it ends.0)
+  ends_fit : (config : Config) (pair : ℕ) (x : Part I O) (ends : I × I) → IsBoxAt (port_address config pair Rtp) x → IsOpenedFor (port_address config pair Rtp) (it ends.0)
       → IsOpenedFor (port_address config pair Rtcp) (it ends.1) → FitEnds it x ends
-  ends_fit config pair (part.Board b) ends home rtp rtcp = absurd home
-  ends_fit config pair (part.Cell c) ends home rtp rtcp = absurd home
-  ends_fit config pair (part.Pair box) ends home rtp rtcp =
-      (subst (λ (at : _). IsOpenedFor at (it ends.0)) (sym home.0) rtp, subst (λ (at : _). IsOpenedFor (rtcp_address at) (it ends.1)) (sym home.0) rtcp)
+  ends_fit config pair (part.Board b) ends at rtp rtcp = absurd at
+  ends_fit config pair (part.Cell c) ends at rtp rtcp = absurd at
+  ends_fit config pair (part.Pair box) ends at rtp rtcp =
+      (subst (λ (a : _). IsOpenedFor a (it ends.0)) (sym at) rtp, subst (λ (a : _). IsOpenedFor (rtcp_address a) (it ends.1)) (sym at) rtcp)
 
   pub opened_for : (config : Config) (x : Part I O) (h : List CellEntry) (signal : prepared.Prepare O) → CellIs config x h → AreOpened ot config signal → OpenedFor ot x signal
   opened_for config (part.Board b) h signal is opened = absurd is
@@ -52,12 +53,12 @@ module _ {M I O T : Type 0} {g : _} (it : I → EndLog InCall) (ic : I → ℕ) 
 
   -- the ends that come fit the box that the hand is given
   pub fit_given : (config : Config) (turns : Turns M (Part I O) Made T) (hand : Hand M (Part I O) Made T g) (pair found n : ℕ) (x now : Part I O) (ends : I × I)
-      → MayNest config turns hand → found ≡ box_of config pair → now ≡ x → Gives it ic ot oc hand found n x → IsOpenedFor (port_address config pair Rtp) (it ends.0)
-      → IsOpenedFor (port_address config pair Rtcp) (it ends.1) → FitEnds it now ends
-  fit_given config turns hand pair found n x now ends may at same given rtp rtcp =
+      → MayNest config turns hand → pair < pair_count config → found ≡ box_of config pair → now ≡ x → Gives it ic ot oc hand found n x
+      → IsOpenedFor (port_address config pair Rtp) (it ends.0) → IsOpenedFor (port_address config pair Rtcp) (it ends.1) → FitEnds it now ends
+  fit_given config turns hand pair found n x now ends may below at same given rtp rtcp =
       let there : Gives it ic ot oc hand (box_of config pair) n now
       = subst (λ (k : ℕ). Gives it ic ot oc hand k n now) at (subst (λ (z : Part I O). Gives it ic ot oc hand found n z) (sym same) given) in
-      ends_fit it ot config pair now ends (given_box_home it ic ot oc config (view hand) pair n now may.parts there) rtp rtcp
+      ends_fit it ot config pair now ends (kept_box_at it ic ot oc config (view hand) pair n now may.whole_parts below there) rtp rtcp
 
   -- the ends of the box that was shut are those of its pair
   pub shut_home : (config : Config) (turns : Turns M (Part I O) Made T) (hand : Hand M (Part I O) Made T g) (pair : ℕ) (made : Made) (ends : I × I)

@@ -6,7 +6,7 @@ use Rattle.relay_outside.specs.declared.ports.InCall.{InCall}
 use Rattle.relay_outside.specs.declared.ports.OutCall.{OutCall}
 use Rattle.relay_outside.specs.DeviceLogs.{EndLog}
 use Rattle.rtp_packet.specs.declared.head.Half.TheVariants.{Rtp}
-use Rattle.histories.specs.Words.{In, here, there, has}
+use Rattle.histories.specs.Words.{In, has}
 use Rattle.histories.proofs.Lists.{filtered}
 use Rattle.turn_table.specs.declared.hands.Hand.{Hand}
 use Rattle.turn_table.specs.Hands.{entries}

@@ -14,18 +14,21 @@ use Rattle.histories.proofs.Lists.{in_left}
 use Rattle.relay_core.specs.declared.part.Part.{Part}
 use Rattle.relay_core.specs.Entries.{Entry}
 use Rattle.relay_core.specs.FirstPlaces.{AreParts}
+use Rattle.relay_core.specs.WholeParts.{AreWholeParts}
 use Rattle.relay_core.specs.NestedMoments.{IsHanded}
 use Rattle.relay_core.specs.Joins.{TakesOwnPairs, IsLaneRows, IsSound}
 use Rattle.relay_core.specs.Legal.{Orderly}
 use Rattle.relay_core.specs.Records.{Made, entry_of, list_of}
 use Rattle.relay_core.specs.ReturnedPairs.{AreReturned, is_boards}
 use Rattle.relay_core.specs.Turns.{Numbered, IsAbove, IsReceiving, made_by}
-use Rattle.relay_core.proofs.Joins.{joined}
+use Rattle.relay_core.proofs.Joins.{joined, numbered_left}
+use Rattle.relay_core.proofs.KeptWhole.{lanes_whole}
 use Rattle.relay_core.proofs.Recording.{lane_no_boards, unseen_rows}
 use Rattle.relay_core.proofs.Whole.{known_numbered}
 use Rattle.board_turns.specs.Between.{board_of, IsBetween}
 use Rattle.board_turns.specs.Joins.{IsBetweenJoins}
 use Rattle.board_turns.proofs.Betweens.{between_sound, whole_board}
+use Rattle.board_turns.proofs.Wholeness.{same_now}
 
 -- A number above all.
 
@@ -58,6 +61,8 @@ module _ {M I O T : Type 0} {g : _} (config : Config) (turns : Turns M (Part I O
     main = left.4 ∙ b.main;
     idle = left.5;
     parts = subst (λ (l : List (Part I O)). AreParts config l) (sym left.1) b.parts;
+    whole_parts = subst (λ (l : List (Part I O)). AreWholeParts config l) (sym left.1) b.whole_parts;
+    whole = same_now config old new left.1 left.2 b.whole;
     numbered = subst (λ (rows : List (table.Entry Made T)). Numbered (list_of rows)) (sym left.2) b.numbered;
     orderly = subst (λ (rows : List (table.Entry Made T)). Orderly config (list_of rows)) (sym left.2) b.orderly;
     handed = subst (λ (rows : List (table.Entry Made T)). IsHanded rows) (sym left.2) b.handed;
@@ -66,7 +71,15 @@ module _ {M I O T : Type 0} {g : _} (config : Config) (turns : Turns M (Part I O
   }
 
   pub begun_joins : (hand : Hand M (Part I O) Made T g) → IsBetween config turns hand → IsBetweenJoins config turns hand
-  begun_joins hand b = record { of_table = b.of_table; main = b.main; idle = b.idle; parts = b.parts; sound = between_sound config turns hand b }
+  begun_joins hand b = record {
+    of_table = b.of_table;
+    main = b.main;
+    idle = b.idle;
+    parts = b.parts;
+    whole_parts = b.whole_parts;
+    sound = between_sound config turns hand b;
+    whole = λ numbered. b.whole;
+  }
 
   pub joined_joins : (old other new : Hand M (Part I O) Made T g) → IsBetweenJoins config turns old → IsLaneRows config (entries other) → IsJoined old other new
       → IsBetweenJoins config turns new
@@ -75,7 +88,12 @@ module _ {M I O T : Type 0} {g : _} (config : Config) (turns : Turns M (Part I O
     main = is.4 ∙ b.main;
     idle = is.5;
     parts = subst (λ (l : List (Part I O)). AreParts config l) (sym is.1) b.parts;
+    whole_parts = subst (λ (l : List (Part I O)). AreWholeParts config l) (sym is.1) b.whole_parts;
     sound = subst (λ (rows : List (table.Entry Made T)). IsSound config rows) (sym is.2) (joined config (entries old) (entries other) b.sound lane);
+    whole = λ numbered.
+        let both = ap (λ (rows : List (table.Entry Made T)). list_of rows) is.2 ∙ map-append entry_of (entries old) (entries other) in
+        let once = numbered_left (made_by old) (list_of (entries other)) (subst Numbered both numbered) in
+        lanes_whole config old new is.1 (entries other) is.2 lane.of_lane (b.whole once);
   }
 
   pub surveyed_between : (old new : Hand M (Part I O) Made T g) → IsBetweenJoins config turns old → IsUnchanged old new → KnowsAll new → IsBetween config turns new
@@ -87,6 +105,9 @@ module _ {M I O T : Type 0} {g : _} (config : Config) (turns : Turns M (Part I O
         main = ap (λ (v : View (Part I O) Made T). v.main) same.1 ∙ b.main;
         idle = λ k. ap (λ (v : View (Part I O) Made T). phase_at v.turns k) same.1 ∙ b.idle k;
         parts = subst (λ (v : View (Part I O) Made T). AreParts config v.starts) (sym same.1) b.parts;
+        whole_parts = subst (λ (v : View (Part I O) Made T). AreWholeParts config v.starts) (sym same.1) b.whole_parts;
+        whole = same_now config old new (ap (λ (v : View (Part I O) Made T). v.starts) same.1) (ap (λ (v : View (Part I O) Made T). v.entries) same.1)
+            (b.whole (subst (λ (v : View (Part I O) Made T). Numbered (list_of v.entries)) same.1 numbered));
         numbered = numbered;
         orderly = sound.orderly numbered;
         handed = sound.handed numbered;

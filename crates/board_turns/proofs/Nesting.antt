@@ -18,6 +18,7 @@ use Rattle.relay_core.specs.Entries.{Event, Entry}
 use Rattle.relay_core.specs.Scripts.{Owed}
 use Rattle.relay_core.specs.Records.{Left, Made, entry_of, list_of}
 use Rattle.relay_core.specs.FirstPlaces.{AreParts}
+use Rattle.relay_core.specs.WholeParts.{AreWholeParts}
 use Rattle.relay_core.specs.Turns.{Numbered, IsAbove, GainedOwed, GainsNested, made_by}
 use Rattle.relay_core.proofs.Own.{IsRow, in_rows}
 use Rattle.relay_core.proofs.Gains.{gained_nothing, gained_one, gained_more, rising_numbered}
@@ -128,6 +129,7 @@ module _ {M I O T : Type 0} {g : _} where
     main = same.3 ∙ may.main;
     alone = λ k has. may.alone k (λ q. has (held k ∙ q));
     parts = subst (λ (l : List (Part I O)). AreParts config l) (sym same.1) may.parts;
+    whole_parts = subst (λ (l : List (Part I O)). AreWholeParts config l) (sym same.1) may.whole_parts;
     numbered = still_numbered number moment events old new may.numbered gains;
   }
 

@@ -1,54 +1,36 @@
 -- The next call may be ended, while calls end one after the other in a turn of the board.
-use Rattle.std.proofs.Common.{◌≡◌, ◌∙◌, refl, sym, ap, subst, ℕ, Bool, true, false, not, List, [], ◌∷◌, ◌++◌, Option, map, arith, IsSome}
-use Rattle.std.specs.Prelude.{◌&&◌}
+use Rattle.std.proofs.Common.{◌≡◌, ◌∙◌, refl, sym, ap, subst, ℕ, List, [], ◌∷◌, ◌++◌, map, arith}
 use Rattle.std.specs.List.{filter_map, flat_map}
-use Rattle.relay_outside.specs.declared.ports.PortCall.{PortCall}
 use Rattle.relay_outside.specs.declared.settings.Config.{Config}
-use Rattle.relay_outside.specs.DeviceLogs.{WhereLogged}
-use Rattle.histories.specs.Words.{In, here, there, has}
-use Rattle.histories.proofs.Lists.{in_left, maps, mapped, spread, it_has, has_it}
-use Rattle.port_pool.specs.declared.pairs.Lease.{Lease}
+use Rattle.histories.specs.Words.{In, here, there}
+use Rattle.histories.proofs.Lists.{in_left, maps, mapped, spread}
 use Rattle.port_pool.specs.declared.holder.Holder.{Holder}
 use Rattle.call_cell.specs.Cells.{since_end, legs}
 use Rattle.call_cell.specs.Numbers.{BringsNewKeys}
 use Rattle.call_board.specs.Acts.{Call, BoardEntry}
 use Rattle.call_board.specs.Calls.{live, ended_by}
-use Rattle.call_board.specs.Pairs.{held, closed_of}
+use Rattle.call_board.specs.Pairs.{closed_of}
 use Rattle.call_board.specs.Fits.{IsFitting}
 use Rattle.call_board.specs.declared.board.Board.{Board}
-use Rattle.call_board.specs.Views.{View, call_view, view_of, without_call}
+use Rattle.call_board.specs.Views.{View, call_view}
 use Rattle.call_board.specs.Boards.{BoardMatches}
-use Rattle.call_board.specs.Returns.{leg_lease, MayReturnAll}
 use Rattle.call_board.specs.Whole.{with_ended}
 use Rattle.call_board.proofs.Cells.{live_cells, live_cell}
 use Rattle.call_board.proofs.Held.{closed_of_held}
 use Rattle.call_board.proofs.Found.{found_while_ending, cells_while_ending}
-use Rattle.call_board.proofs.Outs.{ended_return}
 use Rattle.relay_core.specs.Entries.{Entry, cell_entry, board_history, box_of}
 use Rattle.relay_core.specs.Scripts.{Owed, owed_by, closing, ending}
 use Rattle.relay_core.specs.Legal.{Orderly}
 use Rattle.relay_core.specs.Turns.{IsAbove}
 use Rattle.relay_core.proofs.Histories.{good_history}
-use Rattle.relay_core.proofs.Shut.{same_history, closed_open, closed_apart}
+use Rattle.relay_core.proofs.Shut.{same_history, closed_apart}
 use Rattle.relay_core.proofs.LegsHeld.{ended_closes}
 use Rattle.relay_core.proofs.KeysOnce.{keys_once}
-use Rattle.media_ports.specs.OpenPorts.{OpensHeld}
-use Rattle.board_turns.specs.Closings.{pairs_left}
-use Rattle.board_turns.specs.CallEnds.{CanEnd, leg_pairs}
-use Rattle.board_turns.proofs.Closed.{placed_by, open_elsewhere}
-use Rattle.board_turns.proofs.Lefts.{has_left}
-
-return_anyway : (config : Config) (v : View) (number : ℕ) (leases : List Lease) → MayReturnAll config v leases → MayReturnAll config (without_call v number) leases
-return_anyway config v number [] may = tt
-return_anyway config v number (lease ∷ leases) may =
-    (record { of_range = may.0.of_range; not_free = may.0.not_free; last = may.0.last }, may.1, return_anyway config v number leases may.2)
+use Rattle.board_turns.specs.CallEnds.{IsCallOf}
+use Rattle.board_turns.proofs.Closed.{placed_by}
 
 abbrev numbers_of : List Call → List ℕ
 numbers_of calls = map (λ (c : Call). c.number) calls
-
--- the pairs of the legs that the entry closes of these calls
-abbrev pub closed_pairs : List BoardEntry → BoardEntry → List Call → List ℕ
-closed_pairs h e calls = leg_pairs (flat_map (closed_of h e) calls)
 
 -- What the ends of other calls leave.
 
@@ -76,31 +58,15 @@ box_case config l o n e gone of d leg i living out k w (there j) at =
     let one : d.number ≡ of.number = sym (closed_of_held (board_history l n) e d m.from m.is_in).1 ∙ ap (λ (x : Holder). x.call) same ∙ (closed_of_held (board_history l n) e of leg k).1 in
     out (subst (λ (number : ℕ). In number (numbers_of gone)) one (maps (λ (c : Call). c.number) gone i))
 
--- no two calls have a pair
-pair_case : (config : Config) (l : List Entry) → Orderly config l → (n : ℕ) (e : BoardEntry) (gone : List Call) (of : Call) (leg : Holder) → (In of.number (numbers_of gone) → ⊥) →
-    In leg (closed_of (board_history l n) e of) → In leg.pair (closed_pairs (board_history l n) e gone) → ⊥
-pair_case config l o n e gone of leg out k i =
-    let m = mapped (λ (x : Holder). x.pair) (flat_map (closed_of (board_history l n) e) gone) i in
-    let s = spread (closed_of (board_history l n) e) gone m.is_in in
-    let same = closed_apart config l o n e s.from of m.from leg s.has_it k (ap (box_of config) m.makes) in
-    let one : s.from.number ≡ of.number = sym (closed_of_held (board_history l n) e s.from m.from s.has_it).1 ∙ ap (λ (x : Holder). x.call) same ∙ (closed_of_held (board_history l n) e of leg k).1 in
-    out (subst (λ (number : ℕ). In number (numbers_of gone)) one (maps (λ (c : Call). c.number) gone s.is_in))
-
-is_not : (b : Bool) → (b ≡ true → ⊥) → not b ≡ true
-is_not true no_way = absurd (no_way refl)
-is_not false no_way = refl
-
 -- Calls end one after the other in the turn of the entry, which the list did not have before: these have ended. Where what came meanwhile
 -- stands elsewhere, the next one may be ended
-pub next_among : (config : Config) (l ns : List Entry) → Orderly config l → (n : ℕ) (e : BoardEntry) (gone : List Call) (of : Call) (board : Board) (log : Option (List PortCall)) →
+pub next_among : (config : Config) (l ns : List Entry) → Orderly config l → (n : ℕ) (e : BoardEntry) (gone : List Call) (of : Call) (board : Board) →
     IsAbove l 0 n → In of (live (board_history l n)) → In of (ended_by e) → (In of.number (numbers_of gone) → ⊥) →
     ((x : Entry) → In x ns → x.place ≡ of.cell → ⊥) →
-    ((leg : Holder) → In leg (closed_of (board_history l n) e of) → (x : Entry) → In x ns → x.place ≡ box_of config leg.pair → ⊥) →
-    (v : View) → v.calls ≡ map (call_view (board_history l n)) (live (board_history l n)) → v.free ≡ (view_of config (board_history l n)).free → v.leases ≡ (view_of config (board_history l n)).leases →
+    (v : View) → v.calls ≡ map (call_view (board_history l n)) (live (board_history l n)) →
     BoardMatches config board (with_ended (board_history l n) e gone v) →
-    WhereLogged log (λ calls. OpensHeld config calls (pairs_left (closed_pairs (board_history l n) e gone) (leg_pairs (held (board_history l n))))) →
-    CanEnd config (l ++ ns) board log of.number of (closed_of (board_history l n) e of)
-next_among config l ns o n e gone of board log above alive ends out cell_apart box_apart v calls_are free_is leases_are shows opens =
+    IsCallOf config (l ++ ns) board of.number of (closed_of (board_history l n) e of)
+next_among config l ns o n e gone of board above alive ends out cell_apart v calls_are shows =
     let h = board_history l n in
     let fits = good_history config l o n in
     let cell = live_cell config h of fits alive in
@@ -117,32 +83,19 @@ next_among config l ns o n e gone of board log above alive ends out cell_apart b
       high = cell.1;
       keys = λ m a. subst BringsNewKeys (sym (same_cell m)) (keys_once config l o of.cell m);
       legs_are = λ m a. ap (λ s. legs (since_end s)) (same_cell m) ∙ sym (ended_closes config l o n m e of above (before of.cell m a) alive ends);
-      may_return = return_anyway config (with_ended h e gone v) of.number (map (leg_lease config) (closed_of h e of))
-          (ended_return config h e gone of v fits free_is leases_are out);
-      boxes_open = λ leg k. open_elsewhere l ns (box_of config leg.pair) (box_apart leg k)
-          (λ m a. subst (λ (x : Option Holder). IsSome x) (sym (closed_open config l o n m e of leg above a k)) refl);
-      held = pairs_left (closed_pairs h e gone) (leg_pairs (held h));
-      opens = opens;
-      are_held = λ leg k. has_left (closed_pairs h e gone) (leg_pairs (held h)) leg.pair
-          ∙ ap (λ (b : Bool). b && has (leg_pairs (held h)) leg.pair)
-          (is_not (has (closed_pairs h e gone) leg.pair) (λ t. pair_case config l o n e gone of leg out k (has_it leg.pair (closed_pairs h e gone) t)))
-          ∙ it_has leg.pair (leg_pairs (held h)) (maps (λ (x : Holder). x.pair) (held h) (closed_of_held h e of leg k).0);
     }
 
 -- the same where the calls that have ended are in the list with their closings, and nothing else is
-pub next_can : (config : Config) (l ns : List Entry) → Orderly config l → (n : ℕ) (e : BoardEntry) (gone : List Call) (of : Call) (board : Board) (log : Option (List PortCall)) →
+pub next_can : (config : Config) (l ns : List Entry) → Orderly config l → (n : ℕ) (e : BoardEntry) (gone : List Call) (of : Call) (board : Board) →
     IsAbove l 0 n → In of (live (board_history l n)) → In of (ended_by e) → (In of.number (numbers_of gone) → ⊥) → ((d : Call) → In d gone → In d (live (board_history l n))) →
     map owed_by ns ≡ flat_map (ending config (board_history l n) e) gone →
-    (v : View) → v.calls ≡ map (call_view (board_history l n)) (live (board_history l n)) → v.free ≡ (view_of config (board_history l n)).free → v.leases ≡ (view_of config (board_history l n)).leases →
+    (v : View) → v.calls ≡ map (call_view (board_history l n)) (live (board_history l n)) →
     BoardMatches config board (with_ended (board_history l n) e gone v) →
-    WhereLogged log (λ calls. OpensHeld config calls (pairs_left (closed_pairs (board_history l n) e gone) (leg_pairs (held (board_history l n))))) →
-    CanEnd config (l ++ ns) board log of.number of (closed_of (board_history l n) e of)
-next_can config l ns o n e gone of board log above alive ends out living owes v calls_are free_is leases_are shows opens =
+    IsCallOf config (l ++ ns) board of.number of (closed_of (board_history l n) e of)
+next_can config l ns o n e gone of board above alive ends out living owes v calls_are shows =
     let h = board_history l n in
     let fits = good_history config l o n in
-    next_among config l ns o n e gone of board log above alive ends out
+    next_among config l ns o n e gone of board above alive ends out
     (placed_by (flat_map (ending config h e) gone) ns of.cell owes
     (λ w i. let s = spread (ending config h e) gone i in cell_case config h e gone of s.from fits alive s.is_in (living s.from s.is_in) out w s.has_it))
-    (λ leg k. placed_by (flat_map (ending config h e) gone) ns (box_of config leg.pair) owes
-    (λ w i. let s = spread (ending config h e) gone i in box_case config l o n e gone of s.from leg s.is_in (living s.from s.is_in) out k w s.has_it))
-    v calls_are free_is leases_are shows opens
+    v calls_are shows

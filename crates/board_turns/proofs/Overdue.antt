@@ -9,17 +9,20 @@ use Rattle.port_pool.specs.declared.holder.Holder.{Holder}
 use Rattle.call_cell.specs.Cells.{Expire}
 use Rattle.call_board.specs.Acts.{Call}
 use Rattle.call_board.specs.declared.board.Board.{Board}
+use Rattle.call_board.specs.Shapes.{board_shape}
+use Rattle.relay_core.specs.KeptAfter.{IsWholeWith}
 use Rattle.relay_core.specs.Scripts.{Owed}
 use Rattle.board_turns.specs.declared.board_turn.MainHand.{MainHand}
 use Rattle.board_turns.specs.declared.board_turn.BoardTurn.{BoardTurn}
 use Rattle.board_turns.specs.InCells.{Expires, in_cell_of}
-use Rattle.board_turns.specs.CallEnds.{CanEnd, ending_of}
+use Rattle.board_turns.specs.CallEnds.{CanEnd, IsCallOf, ending_of}
 use Rattle.board_turns.specs.Ticks.{asking_of}
-use Rattle.board_turns.specs.BoardTurns.{CanNest, MakesNested, MayEnd, Nests, Works, hand_list}
+use Rattle.board_turns.specs.BoardTurns.{CanNest, IsTurnCall, MakesNested, MayEnd, Nests, Works, hand_list}
 use Rattle.board_turns.proofs.Nesting.{gains_nothing}
 use Rattle.board_turns.proofs.Staying.{same_config, works_none, makes_both}
-use Rattle.board_turns.proofs.Expiring.{question, asked_can, nothing_parts}
+use Rattle.board_turns.proofs.Expiring.{question, asked_call, asked_can, nothing_parts}
 use Rattle.board_turns.proofs.Tying.{ties_gained}
+use Rattle.board_turns.proofs.Wholeness.{asked_whole}
 
 question_first : (config : Config) (of : Call) (legs : List Holder) (overdue : Bool) → question of.cell overdue ++ ending_of config of legs ≡ asking_of config of legs overdue true
 question_first config of legs true = refl
@@ -44,6 +47,9 @@ module _ {P I O : Type 0} {g : _} (log : P → Option (List PortCall)) (faults :
     ties = ties_gained old.main.config.now (log old.ports.now) old.main.entry_id.number old.main.entry_id.moment (in_cell_of cell (Expire ends) ∷ []) old.main.hand.now main.hand.now
         gained (nothing_parts cell ends);
     empty = empty;
+    whole = λ w.
+        subst (λ (config : Config). IsWholeWith config main.hand.now (board_shape old.board.now)) (sym (same_config old.main main nests))
+        (asked_whole old.main.config.now old.main.entry_id.number old.main.entry_id.moment cell ends old.main.hand.now main.hand.now (board_shape old.board.now) nests.same.1 gained w);
   }
 
 module _ {P I O : Type 0} {g : _} (log : P → Option (List PortCall)) (faults : P → ℕ) (it : I → EndLog InCall) (ic : I → ℕ) (ot : O → EndLog OutCall) (oc : O → ℕ) where
@@ -75,16 +81,26 @@ module _ {P I O : Type 0} {g : _} (log : P → Option (List PortCall)) (faults :
   }
 
   module _ (old now : BoardTurn P I O g) (cell : ℕ) (said : Bool) (ends : HasToEnd old now cell said) (of : Call) (legs : List Holder) (cell_is : cell ≡ of.cell) where
-    -- so it may be ended
-    pub then_can : (call : ℕ) → CanEnd old.main.config.now (hand_list old.main) old.board.now (log old.ports.now) of.number of legs → call ≡ of.number
-        → MayEnd log now call of legs
-    then_can call can call_is =
+    -- so it is still the call, and may be ended
+    pub then_call : (call : ℕ) → IsCallOf old.main.config.now (hand_list old.main) old.board.now of.number of legs → call ≡ of.number → IsTurnCall now call of legs
+    then_call call is call_is =
         let l = hand_list now.main in
-        subst (λ (config : Config). CanEnd config l now.board.now (log now.ports.now) call of legs) (sym (same_config old.main now.main ends.works.stays.nests))
-        (subst (λ (board : Board). CanEnd old.main.config.now l board (log now.ports.now) call of legs) (sym ends.board_is)
-        (subst (λ (ports : P). CanEnd old.main.config.now l old.board.now (log ports) call of legs) (sym ends.ports_are)
-        (asked_can old.main.config.now old.main.entry_id.number old.main.entry_id.moment cell said old.main.hand.now now.main.hand.now old.board.now (log old.ports.now) call of legs
-        can call_is cell_is ends.gained)))
+        subst (λ (config : Config). IsCallOf config l now.board.now call of legs) (sym (same_config old.main now.main ends.works.stays.nests))
+        (subst (λ (board : Board). IsCallOf old.main.config.now l board call of legs) (sym ends.board_is)
+        (asked_call old.main.config.now old.main.entry_id.number old.main.entry_id.moment cell said old.main.hand.now now.main.hand.now old.board.now call of legs
+        is call_is cell_is ends.gained))
+
+    pub then_can : (call : ℕ) → CanEnd old.main.config.now old.main.hand.now old.board.now (log old.ports.now) of.number → call ≡ of.number → MayEnd log now call
+    then_can call can call_is =
+        let hand = now.main.hand.now in
+        let same = same_config old.main now.main ends.works.stays.nests in
+        let whole = subst (λ (board : Board). IsWholeWith old.main.config.now hand (board_shape board)) ends.board_is
+        (subst (λ (config : Config). IsWholeWith config hand (board_shape now.board.now)) same (ends.works.whole can.whole)) in
+        subst (λ (config : Config). CanEnd config hand now.board.now (log now.ports.now) call) (sym same)
+        (subst (λ (board : Board). CanEnd old.main.config.now hand board (log now.ports.now) call) (sym ends.board_is)
+        (subst (λ (ports : P). CanEnd old.main.config.now hand old.board.now (log ports) call) (sym ends.ports_are)
+        (asked_can old.main.config.now old.main.entry_id.number old.main.entry_id.moment cell said old.main.hand.now now.main.hand.now old.board.now (log old.ports.now) call of.number
+        can call_is ends.works.stays.nests.same.1 ends.gained whole)))
 
     -- and with its end all is done that is owed for it
     pub then_gained : (main : MainHand I O g) (overdue : Bool) → said ≡ overdue → MakesNested (ending_of now.main.config.now of legs) now.main main

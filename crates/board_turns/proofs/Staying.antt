@@ -83,6 +83,7 @@ module _ {P I O : Type 0} {g : _} (log : P → Option (List PortCall)) (faults :
     stays = stays_none turn may;
     ties = ties_none turn.main.config.now (log turn.ports.now) (entries turn.main.hand.now);
     empty = empty;
+    whole = λ w. w;
   }
 
   pub works_both : (old mid new : BoardTurn P I O g) → Works log faults old mid → Works log faults mid new → Works log faults old new
@@ -93,4 +94,5 @@ module _ {P I O : Type 0} {g : _} (log : P → Option (List PortCall)) (faults :
         (subst (λ (config : Config). PortsFollowRows config (log mid.ports.now) (log new.ports.now) (entries mid.main.hand.now) (entries new.main.hand.now))
         (same_config old.main mid.main first.stays.nests) second.ties);
     empty = second.empty;
+    whole = λ w. second.whole (first.whole w);
   }

@@ -1,5 +1,5 @@
 -- The turn of a stop.
-use Rattle.std.proofs.Common.{◌≡◌, sym, subst, refl, ℕ, max, List, [], ◌∷◌, Option, arith}
+use Rattle.std.proofs.Common.{◌≡◌, sym, subst, refl, ℕ, max, List, [], ◌∷◌, Option, Some, arith}
 use Rattle.relay_outside.specs.declared.ports.InCall.{InCall}
 use Rattle.relay_outside.specs.declared.ports.OutCall.{OutCall}
 use Rattle.relay_outside.specs.declared.ports.PortCall.{PortCall}
@@ -16,6 +16,7 @@ use Rattle.call_board.specs.Fits.{IsFitting}
 use Rattle.call_board.specs.Calls.{live}
 use Rattle.call_board.specs.Views.{View, view_of, view_at_moment, board_last_moment}
 use Rattle.call_board.specs.Shapes.{BoardShape}
+use Rattle.relay_core.specs.KeptAfter.{IsWholeWith}
 use Rattle.relay_core.specs.PartShapes.{board_shape_in}
 use Rattle.relay_core.specs.declared.part.Part.{Part}
 use Rattle.relay_core.specs.declared.part.Part.TheVariants as part
@@ -73,13 +74,14 @@ module _ {M I O T : Type 0} {g : _} where
       → GainsNested (front_of turn) (board_last_moment (board_history (made_by mid) (front_of turn)))
       (script config (board_history (made_by mid) (front_of turn)) (stop_entry (board_history (made_by mid) (front_of turn)))) mid nested
       → IsSameHand nested new → EndsTurn (place_of turn) (front_of turn) (stop_made (board_history (made_by nested) (front_of turn)) kept) outcome nested new
-      → Ended config turns old new (stop_entry (board_of (made_by old)))
-  stop_ends kept config turns old mid nested new turn outcome b same turned begins sames gains again ended =
+      → (shape : BoardShape) → kept ≡ Some shape → IsWholeWith config nested shape → Ended config turns old new (stop_entry (board_of (made_by old)))
+  stop_ends kept config turns old mid nested new turn outcome b same turned begins sames gains again ended shape is_kept whole =
       let h = board_history (made_by mid) (front_of turn) in
       let is : EndsTurn (place_of turn) (front_of turn) (stop_made h kept) outcome nested new =
       subst (λ (k : List BoardEntry). EndsTurn (place_of turn) (front_of turn) (stop_made k kept) outcome nested new) (stop_history config turns mid nested turn begins gains) ended in
       subst (λ (k : List BoardEntry). Ended config turns old new (stop_entry k)) (begins_whole config turns old mid turn same.1 begins)
-      (turn_ends config turns old mid nested new turn (stop_made h kept) outcome (Stop (live h)) (board_last_moment h) b same turned begins.above sames gains refl refl refl refl again is)
+      (turn_ends config turns old mid nested new turn (stop_made h kept) outcome (Stop (live h)) (board_last_moment h) b same turned begins.above sames gains refl refl refl refl again is
+      shape is_kept whole)
 
 module _ {M I O T : Type 0} {g : _} where
   -- what is known when the board's turn was taken for a stop, and its board, with which the turn of this number goes on, was advanced

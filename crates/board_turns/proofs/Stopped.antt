@@ -4,8 +4,6 @@ use Rattle.std.specs.Prelude.{slice_get}
 use Rattle.std.specs.List.{flat_map}
 use Rattle.std.proofs.lemmas.List.{length-map, take-map}
 use Rattle.relay_outside.specs.declared.settings.Config.{Config}
-use Rattle.relay_outside.specs.declared.ports.PortCall.{PortCall}
-use Rattle.relay_outside.specs.DeviceLogs.{WhereLogged}
 use Rattle.turn_table.specs.declared.hands.Hand.{Hand}
 use Rattle.histories.specs.Words.{In, here, there, has}
 use Rattle.histories.proofs.Lists.{filtered, it_has}
@@ -27,10 +25,9 @@ use Rattle.relay_core.specs.Records.{Made, list_of}
 use Rattle.relay_core.specs.Scripts.{ending}
 use Rattle.relay_core.specs.Turns.{IsAbove, GainsNested, made_by}
 use Rattle.relay_core.proofs.Histories.{good_history}
-use Rattle.media_ports.specs.OpenPorts.{OpensHeld}
 use Rattle.media_ports.proofs.Leased.{drop_next}
-use Rattle.board_turns.specs.CallEnds.{CanEnd}
-use Rattle.board_turns.specs.Stops.{stop_entry, still_held}
+use Rattle.board_turns.specs.CallEnds.{IsCallOf}
+use Rattle.board_turns.specs.Stops.{stop_entry}
 use Rattle.board_turns.proofs.Closed.{list_gained}
 use Rattle.board_turns.proofs.Next.{next_can}
 
@@ -117,19 +114,18 @@ not_yet config h i of fits at among =
     out_case (has (take i nums) of.number) kept.1 (it_has of.number (take i nums) (subst (λ (ns : List ℕ). In of.number ns) (sym (take-map number_of i (live h))) among))
 
 module _ {M S T : Type 0} {g : _} where
-  -- and it may be ended
-  pub stop_can : (config : Config) (number moment : ℕ) (old now : Hand M S Made T g) (i : ℕ) (of : Call) (board : Board) (log : Option (List PortCall)) →
+  -- it is the call by its list
+  pub stop_call : (config : Config) (number moment : ℕ) (old now : Hand M S Made T g) (i : ℕ) (of : Call) (board : Board) →
       Orderly config (made_by old) → IsAbove (made_by old) 0 number → slice_get (live (board_history (made_by old) number)) i ≡ Some of →
       GainsNested number moment (flat_map (ending config (board_history (made_by old) number) (stop_entry (board_history (made_by old) number))) (take i (live (board_history (made_by old) number)))) old now →
       BoardMatches config board (with_ended (board_history (made_by old) number) (stop_entry (board_history (made_by old) number)) (take i (live (board_history (made_by old) number))) (view_of config (board_history (made_by old) number))) →
-      WhereLogged log (λ calls. OpensHeld config calls (still_held (board_history (made_by old) number) (stop_entry (board_history (made_by old) number)) (take i (live (board_history (made_by old) number))))) →
-      CanEnd config (made_by now) board log of.number of (closed_of (board_history (made_by old) number) (stop_entry (board_history (made_by old) number)) of)
-  stop_can config number moment old now i of board log o above at gains shows opens =
+      IsCallOf config (made_by now) board of.number of (closed_of (board_history (made_by old) number) (stop_entry (board_history (made_by old) number)) of)
+  stop_call config number moment old now i of board o above at gains shows =
       let l = made_by old in
       let h = board_history l number in
       let e = stop_entry h in
       let alive = in_at (live h) i of at in
-      subst (λ (es : List Entry). CanEnd config es board log of.number of (closed_of h e of))
+      subst (λ (es : List Entry). IsCallOf config es board of.number of (closed_of h e of))
       (sym (list_gained number moment (flat_map (ending config h e) (take i (live h))) old now gains))
-      (next_can config l (list_of gains.rows) o number e (take i (live h)) of board log above alive alive (not_yet config h i of (good_history config l o number) at)
-      (λ d j. in_taken i (live h) j) gains.gained.owes (view_of config h) refl refl refl shows opens)
+      (next_can config l (list_of gains.rows) o number e (take i (live h)) of board above alive alive (not_yet config h i of (good_history config l o number) at)
+      (λ d j. in_taken i (live h) j) gains.gained.owes (view_of config h) refl shows)

@@ -1,5 +1,5 @@
 -- The turn of a tick.
-use Rattle.std.proofs.Common.{◌≡◌, ◌∙◌, refl, sym, ap, subst, ℕ, max, Bool, true, false, not, List, [], ◌∷◌, Option, map, filter}
+use Rattle.std.proofs.Common.{◌≡◌, ◌∙◌, refl, sym, ap, subst, ℕ, max, Bool, true, false, not, List, [], ◌∷◌, Option, Some, map, filter}
 use Rattle.relay_outside.specs.declared.ports.InCall.{InCall}
 use Rattle.relay_outside.specs.declared.ports.OutCall.{OutCall}
 use Rattle.relay_outside.specs.declared.ports.PortCall.{PortCall}
@@ -22,6 +22,8 @@ use Rattle.call_board.specs.Views.{View, CallView, call_view, view_of, view_at_m
 use Rattle.call_board.proofs.Calls.{live_numbers}
 use Rattle.call_board.proofs.Cells.{live_step}
 use Rattle.call_board.proofs.Sieves.{filter_alike}
+use Rattle.call_board.specs.Shapes.{BoardShape}
+use Rattle.relay_core.specs.KeptAfter.{IsWholeWith}
 use Rattle.relay_core.specs.PartShapes.{board_shape_in}
 use Rattle.relay_core.specs.declared.part.Part.{Part}
 use Rattle.relay_core.specs.declared.part.Part.TheVariants as part
@@ -123,12 +125,13 @@ module _ {M I O T : Type 0} {g : _} where
     pub tick_ends : (old new : Hand M (Part I O) Made T g) (outcome : T) → IsBetween config turns old → IsSameHand old mid × (entries mid ≡ entries old) → GainsTurn 0 turn old mid
         → IsSameHand mid nested × SameTurns mid nested → IsSameHand nested new
         → EndsTurn (place_of turn) (front_of turn) (made_after nested (front_of turn) now x) outcome nested new
-        → Ended config turns old new (tick_entry (board_of (made_by old)) now calls)
-    tick_ends old new outcome b same turned sames again ended =
+        → (shape : BoardShape) → board_shape_in x ≡ Some shape → IsWholeWith config nested shape → Ended config turns old new (tick_entry (board_of (made_by old)) now calls)
+    tick_ends old new outcome b same turned sames again ended shape kept whole =
         let h = board_history (made_by mid) (front_of turn) in
         subst (λ (k : List BoardEntry). Ended config turns old new (tick_entry k now calls)) (begins_whole config turns old mid turn same.1 begins)
         (turn_ends config turns old mid nested new turn (tick_made h now calls (board_shape_in x)) outcome (Tick calls) (max now (board_last_moment h)) b same turned begins.above sames ends.gained refl refl refl
-        (ends.named, ends.none_passed) again (subst (λ (m : Made). EndsTurn (place_of turn) (front_of turn) m outcome nested new) made_is ended))
+        (ends.named, ends.none_passed) again (subst (λ (m : Made). EndsTurn (place_of turn) (front_of turn) m outcome nested new) made_is ended)
+        shape kept whole)
 
   -- what is known when the board's turn was taken for a tick, which goes on with this number and moment
   pub record TickBegins (config : Config) (mid : Hand M (Part I O) Made T g) (turn : Turn M (Part I O) Made T) (number moment now : ℕ) : Type 0 where

@@ -21,16 +21,18 @@ use Rattle.call_board.specs.Fits.{IsFitting, named_live, AreNamedWhenDue}
 use Rattle.call_board.specs.declared.board.Board.{Board}
 use Rattle.call_board.specs.Views.{View, CallView, call_view, view_of, view_at_moment, board_last_moment}
 use Rattle.call_board.specs.Boards.{BoardFor, BoardMatches, CellsApart}
+use Rattle.call_board.specs.Shapes.{board_shape}
 use Rattle.call_board.specs.Whole.{with_ended}
 use Rattle.call_board.proofs.Entries.{ended_more, entry_stands}
-use Rattle.call_board.proofs.Found.{ended_calls, cells_while_ending, found_while_ending}
+use Rattle.call_board.proofs.Found.{ended_calls, cells_while_ending, found_is_live, found_while_ending}
 use Rattle.call_board.proofs.Free.{held_once}
 use Rattle.call_board.proofs.FreeAfter.{live_once, once_taken}
 use Rattle.call_board.proofs.Held.{closed_of_held, closes_held}
 use Rattle.call_board.proofs.Outs.{closed_of_ended, ended_alike}
 use Rattle.call_board.proofs.Sieves.{is_out}
 use Rattle.relay_core.specs.declared.part.Part.{Part}
-use Rattle.relay_core.specs.Entries.{Entry, board_history, box_of}
+use Rattle.relay_core.specs.Entries.{Entry, board_history}
+use Rattle.relay_core.specs.KeptAfter.{IsWholeWith}
 use Rattle.relay_core.specs.Legal.{Orderly}
 use Rattle.relay_core.specs.Records.{Made, list_of}
 use Rattle.relay_core.specs.Scripts.{Owed, in_cell, ending, asking, expiring, script}
@@ -43,14 +45,15 @@ use Rattle.board_turns.specs.declared.board_turn.BoardEntryId.{BoardEntryId}
 use Rattle.board_turns.proofs.Nesting.{gains_more}
 use Rattle.board_turns.specs.Acts.{InTurn}
 use Rattle.board_turns.specs.Closings.{pairs_left}
-use Rattle.board_turns.specs.CallEnds.{CanEnd, ending_of, leg_pairs}
+use Rattle.board_turns.specs.CallEnds.{IsCallOf, ending_of, leg_pairs}
 use Rattle.board_turns.specs.Stops.{stop_entry, still_held}
 use Rattle.board_turns.specs.Ticks.{CanExpire, EndsDue, EndsRightly, IsDueBy, asking_of, tick_at, with_asked}
 use Rattle.board_turns.proofs.Answered.{asked_of, due_of, numbers_of, asked_more, due_more, is_asked, is_due, named, sieve, left_count, spread_asked}
 use Rattle.board_turns.proofs.Closed.{list_gained, placed_by, gains_nothing}
 use Rattle.board_turns.proofs.Expiring.{below, due_before}
 use Rattle.board_turns.proofs.Lefts.{has_left, left_none, left_twice, told_alike}
-use Rattle.board_turns.proofs.Next.{next_among, cell_case, box_case}
+use Rattle.board_turns.proofs.Next.{next_among, cell_case}
+use Rattle.board_turns.proofs.TakenPairs.{may_end, ended_free}
 use Rattle.board_turns.proofs.StayHeld.{stay_left}
 use Rattle.board_turns.proofs.Stopped.{get_map, in_at, in_taken, not_yet, spread_more}
 
@@ -113,20 +116,6 @@ asked_cell : (config : Config) (h : List BoardEntry) (moment : ℕ) (gone : List
     → (In of.number (numbers_of gone) → ⊥) → (w : Owed) → In w (owed_for config h moment a) → w.place ≡ of.cell → ⊥
 asked_cell config h moment gone of a fits alive i living out w k at =
     asked_cell_by config h gone of a fits alive i living out w (in_owed config h a.0 (is_due_at h a.0.number moment) a.1 w k) at
-
-asked_box_by : (config : Config) (l : List Entry) → Orderly config l → (n : ℕ) (gone : List Call) (of : Call) (a : Call × Bool) (leg : Holder) → In a.0 gone
-    → In a.0 (live (board_history l n)) → (In of.number (numbers_of gone) → ⊥) → In leg (closed_of (board_history l n) (stop_entry (board_history l n)) of)
-    → (w : Owed) → (w ≡ in_cell a.0 (Expire a.1)) ⊎ In w (ending config (board_history l n) (stop_entry (board_history l n)) a.0) → w.place ≡ box_of config leg.pair → ⊥
-asked_box_by config l o n gone of a leg i living out k w (inl q) at =
-    box_case config l o n (stop_entry (board_history l n)) gone of a.0 leg i living out k (in_cell a.0 End) (here refl) (sym (ap (λ (v : Owed). v.place) q) ∙ at)
-asked_box_by config l o n gone of a leg i living out k w (inr j) at =
-    box_case config l o n (stop_entry (board_history l n)) gone of a.0 leg i living out k w j at
-
-asked_box : (config : Config) (l : List Entry) → Orderly config l → (n moment : ℕ) (gone : List Call) (of : Call) (a : Call × Bool) (leg : Holder) → In a.0 gone
-    → In a.0 (live (board_history l n)) → (In of.number (numbers_of gone) → ⊥) → In leg (closed_of (board_history l n) (stop_entry (board_history l n)) of)
-    → (w : Owed) → In w (owed_for config (board_history l n) moment a) → w.place ≡ box_of config leg.pair → ⊥
-asked_box config l o n moment gone of a leg i living out k w j at =
-    asked_box_by config l o n gone of a leg i living out k w (in_owed config (board_history l n) a.0 (is_due_at (board_history l n) a.0.number moment) a.1 w j) at
 
 -- What the cells of live calls returned.
 
@@ -218,11 +207,11 @@ module _ {M I O T : Type 0} {g : _} where
 
   -- the next one may be asked
   pub next_asks : (config : Config) (number moment : ℕ) (old now : Hand M (Part I O) Made T g) (board : Board) (log : Option (List PortCall)) (i ended index : ℕ) (of : Call)
-      → Orderly config (made_by old) → IsAbove (made_by old) 0 number → slice_get (live (board_history (made_by old) number)) i ≡ Some of
+      → IsWholeWith config now (board_shape board) → Orderly config (made_by old) → IsAbove (made_by old) 0 number → slice_get (live (board_history (made_by old) number)) i ≡ Some of
       → Asked config (board_history (made_by old) number) number moment old now board log i ended → index + ended ≡ i
-      → CanExpire config (made_by now) board log moment index of (closed_of (board_history (made_by old) number) (stop_entry (board_history (made_by old) number)) of)
+      → CanExpire config now board log moment index of (closed_of (board_history (made_by old) number) (stop_entry (board_history (made_by old) number)) of)
       (is_due_at (board_history (made_by old) number) of.number moment)
-  next_asks config number moment old now board log i ended index of o above at asked place =
+  next_asks config number moment old now board log i ended index of whole o above at asked place =
       let l = made_by old in
       let h = board_history l number in
       let e = stop_entry h in
@@ -232,19 +221,15 @@ module _ {M I O T : Type 0} {g : _} where
       let gone = due_of answers in
       let alive = in_at (live h) i of at in
       let out = not_due config h answers i of fits asked.are at in
-      let not_asked : In of.number (numbers_of (asked_of answers)) → ⊥ =
-      λ k. not_yet config h i of fits at (subst (λ (cs : List Call). In of.number (numbers_of cs)) asked.are k) in
       let ns = list_of asked.gained.rows in
       let owed = flat_map (owed_for config h moment) answers in
-      let can : CanEnd config (l ++ ns) board log of.number of (closed_of h e of) =
-      next_among config l ns o number e gone of board log above alive alive out
-      (asked_elsewhere config number moment old now board log i ended of o at asked)
-      (λ leg k. placed_by owed ns (box_of config leg.pair) asked.gained.gained.owes
-      (λ w j. let s = spread (owed_for config h moment) answers j in
-      asked_box config l o number moment (asked_of answers) of s.from leg (maps (λ (a : Call × Bool). a.0) answers s.is_in) (asked_alive h answers i asked.are s.is_in) not_asked k w s.has_it))
-      v0 refl refl refl asked.shows asked.opens in
+      let found = found_while_ending config h e gone v0 of fits refl alive out in
+      let is_call : IsCallOf config (l ++ ns) board of.number of (closed_of h e of) =
+      next_among config l ns o number e gone of board above alive alive out (asked_elsewhere config number moment old now board log i ended of o at asked) v0 refl asked.shows in
       record {
-        can = subst (λ (es : List Entry). CanEnd config es board log of.number of (closed_of h e of)) (sym (list_gained number moment owed old now asked.gained)) can;
+        can = may_end config now board log of.number h (leg_pairs (flat_map (closed_of h e) gone)) (with_ended h e gone v0) whole asked.shows (ended_free h e gone v0)
+            (found_is_live config board (with_ended h e gone v0) of.number (call_view h of) asked.shows found) asked.opens;
+        is_call = subst (λ (es : List Entry). IsCallOf config es board of.number of (closed_of h e of)) (sym (list_gained number moment owed old now asked.gained)) is_call;
         view = with_ended h e gone v0;
         shows = asked.shows;
         seen = call_view h of;
@@ -252,7 +237,7 @@ module _ {M I O T : Type 0} {g : _} where
         at = ap (λ (cs : List CallView). slice_get cs index) (ended_calls config h e gone v0 fits refl)
             ∙ get_map (call_view h) (filter (λ (c : Call). not (has (numbers_of gone) c.number)) (live h)) index of
             (place_of_next config h answers i index of fits asked.are at (ap (λ (k : ℕ). index + k) asked.count ∙ place));
-        found = found_while_ending config h e gone v0 of fits refl alive out;
+        found = found;
         overdue_is = refl;
       }
 

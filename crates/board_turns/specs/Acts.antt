@@ -10,9 +10,11 @@ use Rattle.call_board.specs.Acts.{Lease, Offer, Act, Repeated, OutOfMemory, Fail
 use Rattle.call_board.specs.Calls.{due_after}
 use Rattle.call_board.specs.Pairs.{held}
 use Rattle.call_board.specs.Boards.{BoardMatches}
+use Rattle.call_board.specs.Shapes.{board_shape}
 use Rattle.call_board.specs.Views.{View, view_of, board_last_moment, view_at_moment, with_leases, with_returned, without_call}
 use Rattle.call_board.specs.Whole.{with_draws, with_closed, with_more, with_first, with_due_call}
 use Rattle.relay_core.specs.Entries.{board_history}
+use Rattle.relay_core.specs.KeptAfter.{IsWholeWith}
 use Rattle.relay_core.specs.Legal.{Orderly}
 use Rattle.relay_core.specs.Records.{Made}
 use Rattle.relay_core.specs.Scripts.{script}
@@ -63,6 +65,8 @@ module _ {M I O T : Type 0} {g : _} where
     pub timely : board_last_moment (board_history (made_by hand) entry_id.number) ≤ entry_id.moment
     pub shows : BoardMatches config board (view_at_moment (view_of config (board_history (made_by hand) entry_id.number)) entry_id.moment)
     pub opens : LogsHeld config log (leg_pairs (held (board_history (made_by hand) entry_id.number)))
+    -- what the board, the cells and the boxes keep goes together
+    pub whole : IsWholeWith config hand (board_shape board)
 
   -- The turn did what the entry owes: the hand's list gained its nested entries, the board keeps what the entry's act makes, and
   -- just the ports of the pairs that are held then are open

@@ -13,6 +13,8 @@ use Rattle.relay_core.specs.Records.{Made, entry_of, list_of}
 use Rattle.relay_core.specs.NestedMoments.{IsHanded}
 use Rattle.relay_core.specs.ReturnedPairs.{AreReturned}
 use Rattle.relay_core.specs.FirstPlaces.{AreParts}
+use Rattle.relay_core.specs.WholeParts.{AreWholeParts}
+use Rattle.relay_core.specs.KeptAfter.{IsWholeNow}
 use Rattle.relay_core.specs.Joins.{TakesOwnPairs}
 use Rattle.relay_core.specs.Turns.{Numbered, IsTurn, IsReceiving, made_by}
 
@@ -28,6 +30,9 @@ module _ {M I O T : Type 0} {g : _} where
     pub main : IsMain hand
     pub idle : HasNoTurn hand
     pub parts : AreParts config (starts hand)
+    pub whole_parts : AreWholeParts config (starts hand)
+    -- what the board, the cells and the boxes keep goes together
+    pub whole : IsWholeNow config hand
     pub numbered : Numbered (made_by hand)
     pub orderly : Orderly config (made_by hand)
     pub handed : IsHanded (entries hand)

@@ -8,7 +8,9 @@ use Rattle.port_pool.specs.declared.pairs.Lease.{Lease}
 use Rattle.call_board.specs.Acts.{Call, BoardEntry}
 use Rattle.call_board.specs.Boards.{KeepsReplies}
 use Rattle.call_board.specs.Pairs.{held}
+use Rattle.call_board.specs.Shapes.{board_shape}
 use Rattle.relay_core.specs.Entries.{Entry, board_history}
+use Rattle.relay_core.specs.KeptAfter.{IsWholeWith}
 use Rattle.relay_core.specs.Scripts.{Owed}
 use Rattle.relay_core.specs.Turns.{GainsNested, made_by}
 use Rattle.board_turns.specs.declared.board_turn.MainHand.{MainHand}
@@ -21,7 +23,7 @@ use Rattle.board_turns.specs.Commands.{ExecutesCommand}
 use Rattle.board_turns.specs.Controls.{RequestRecord}
 use Rattle.board_turns.specs.Ties.{PortsFollowRows}
 use Rattle.board_turns.specs.Closings.{CanClose}
-use Rattle.board_turns.specs.CallEnds.{CanEnd, leg_pairs}
+use Rattle.board_turns.specs.CallEnds.{CanEnd, IsCallOf, leg_pairs}
 use Rattle.board_turns.specs.Ticks.{CanExpire}
 use Rattle.media_ports.specs.OpenPorts.{LogsHeld}
 
@@ -53,6 +55,14 @@ module _ {I O : Type 0} {g : _} where
   MakesNested owed old new = GainsNested old.entry_id.number old.entry_id.moment owed old.hand.now new.hand.now
 
 module _ {P I O : Type 0} {g : _} where
+  -- by the hand's list, this is the live call of that number, and these are its legs
+  abbrev pub IsTurnCall : BoardTurn P I O g → ℕ → Call → List Holder → Type 0
+  IsTurnCall turn call of legs = IsCallOf turn.main.config.now (hand_list turn.main) turn.board.now call of legs
+
+  -- what the board, the cells and the boxes keep goes together, whatever their histories
+  abbrev pub IsWholeTurn : BoardTurn P I O g → Type 0
+  IsWholeTurn turn = IsWholeWith turn.main.config.now turn.main.hand.now (board_shape turn.board.now)
+
   -- the same board, port maker and list of legs
   pub record IsSameBoard (old new : BoardTurn P I O g) : Type 0 where
     pub board_is : new.board.ghost_name ≡ old.board.ghost_name
@@ -67,14 +77,14 @@ module _ {P I O : Type 0} {g : _} (log : P → Option (List PortCall)) where
 
   -- these legs may be closed, the call of this number may be ended, and the one at this place may be asked whether it is due
   abbrev pub MayClose : BoardTurn P I O g → List (Lease × O × O) → Type 0
-  MayClose turn gone = CanClose turn.main.config.now (hand_list turn.main) turn.board.now (log turn.ports.now) gone
+  MayClose turn gone = CanClose turn.main.config.now turn.main.hand.now turn.board.now (log turn.ports.now) gone
 
-  abbrev pub MayEnd : BoardTurn P I O g → ℕ → Call → List Holder → Type 0
-  MayEnd turn call of legs = CanEnd turn.main.config.now (hand_list turn.main) turn.board.now (log turn.ports.now) call of legs
+  abbrev pub MayEnd : BoardTurn P I O g → ℕ → Type 0
+  MayEnd turn call = CanEnd turn.main.config.now turn.main.hand.now turn.board.now (log turn.ports.now) call
 
   abbrev pub MayExpire : BoardTurn P I O g → ℕ → Call → List Holder → (overdue : Bool) → Type 0
   MayExpire turn index of legs overdue =
-      CanExpire turn.main.config.now (hand_list turn.main) turn.board.now (log turn.ports.now) turn.main.entry_id.moment index of legs overdue
+      CanExpire turn.main.config.now turn.main.hand.now turn.board.now (log turn.ports.now) turn.main.entry_id.moment index of legs overdue
 
   -- the turn did what the entry owes
   abbrev pub Does : (old new : BoardTurn P I O g) → BoardEntry → Type 0
@@ -111,8 +121,10 @@ module _ {P I O : Type 0} {g : _} (log : P → Option (List PortCall)) where
       pub replies : KeepsReplies old.board.now new.board.now
       pub later : faults old.ports.now ≤ faults new.ports.now
 
-    -- The same, what the port maker was given is what left boxes and cells, and no leg is left
+    -- The same, what the port maker was given is what left boxes and cells, and no leg is left. Where what the board, the cells and the boxes
+    -- keep went together, it does.
     pub record Works (old new : BoardTurn P I O g) : Type 0 where
       pub stays : StaysInTurn old new
       pub ties : PortsFollowRows old.main.config.now (log old.ports.now) (log new.ports.now) (entries old.main.hand.now) (entries new.main.hand.now)
       pub empty : new.gone.now ≡ []
+      pub whole : IsWholeTurn old → IsWholeTurn new

@@ -5,21 +5,25 @@ use Rattle.relay_outside.specs.declared.ports.PortCall.{PortCall}
 use Rattle.relay_outside.specs.declared.settings.Config.{Config}
 use Rattle.relay_outside.specs.DeviceLogs.{EndLog, WhereLogged}
 use Rattle.histories.specs.Words.{In, has}
+use Rattle.turn_table.specs.declared.hands.Hand.{Hand}
 use Rattle.port_pool.specs.declared.pairs.Lease as pairs
 use Rattle.port_pool.specs.declared.holder.Holder.{Holder}
 use Rattle.call_cell.specs.Cells.{End}
+use Rattle.call_cell.specs.Shapes.{CellLegShape}
 use Rattle.call_board.specs.Acts.{Call}
 use Rattle.call_board.specs.declared.board.Board.{Board}
 use Rattle.call_board.specs.Views.{View, CallView, call_numbered, with_returned, without_call}
 use Rattle.call_board.specs.Boards.{BoardMatches, CellsApart}
-use Rattle.call_board.specs.Returns.{leg_lease, MayReturnAll}
-use Rattle.relay_core.specs.Entries.{Entry, box_of}
+use Rattle.call_board.specs.Shapes.{LiveShape, board_shape, shape_numbered}
+use Rattle.relay_core.specs.declared.part.Part.{Part}
+use Rattle.relay_core.specs.Entries.{Entry}
+use Rattle.relay_core.specs.KeptAfter.{IsWholeWith}
+use Rattle.relay_core.specs.Records.{Made}
 use Rattle.relay_core.specs.Scripts.{Owed, in_cell, closing}
 use Rattle.relay_core.specs.Turns.{IsAbove}
 use Rattle.media_ports.specs.OpenPorts.{OpensHeld}
-use Rattle.board_turns.specs.NestedSteps.{IsTurnOpen}
 use Rattle.board_turns.specs.InCells.{HasNewKeys}
-use Rattle.board_turns.specs.Departures.{legs_in, AreLeasesOf}
+use Rattle.board_turns.specs.Departures.{legs_in, AreLeasesOf, cell_kept}
 use Rattle.board_turns.specs.Closings.{ClosesLegs}
 
 -- the pairs of legs
@@ -30,9 +34,19 @@ leg_pairs legs = map (λ leg. leg.pair) legs
 abbrev pub ending_of : Config → Call → List Holder → List Owed
 ending_of config of legs = in_cell of End ∷ map (closing config) legs
 
--- The call of this number is live on the board, and these are its legs: by the list those of its cell, whose boxes are open. The
--- board may take their pairs back, and, where the port maker tells, just the ports of some pairs are open, theirs among them
-pub record CanEnd (config : Config) (l : List Entry) (board : Board) (log : Option (List PortCall)) (call : ℕ) (of : Call) (legs : List Holder) : Type 0 where
+module _ {M I O T : Type 0} {g : _} where
+  -- The call of this number is live, what the board, the cells and the boxes keep goes together, and, where the port maker tells, just the
+  -- ports of some pairs are open, those of the call's legs among them
+  pub record CanEnd (config : Config) (hand : Hand M (Part I O) Made T g) (board : Board) (log : Option (List PortCall)) (call : ℕ) : Type 0 where
+    pub whole : IsWholeWith config hand (board_shape board)
+    pub live : LiveShape
+    pub found : shape_numbered (board_shape board) call ≡ Some live
+    pub held : List ℕ
+    pub opens : WhereLogged log (λ calls. OpensHeld config calls held)
+    pub are_held : (leg : CellLegShape) → In leg (cell_kept config hand live.cell).legs → has held leg.holder.pair ≡ true
+
+-- By the list, this is the live call of that number, and these are its legs: those of its cell
+pub record IsCallOf (config : Config) (l : List Entry) (board : Board) (call : ℕ) (of : Call) (legs : List Holder) : Type 0 where
   pub view : View
   pub shows : BoardMatches config board view
   pub apart : CellsApart view.calls
@@ -43,11 +57,6 @@ pub record CanEnd (config : Config) (l : List Entry) (board : Board) (log : Opti
   pub high : of.cell ≤ config.max_sessions
   pub keys : HasNewKeys l of.cell
   pub legs_are : (n : ℕ) → IsAbove l of.cell n → legs_in l of.cell n ≡ legs
-  pub may_return : MayReturnAll config (without_call view call) (map (leg_lease config) legs)
-  pub boxes_open : (leg : Holder) → In leg legs → IsTurnOpen l (box_of config leg.pair)
-  pub held : List ℕ
-  pub opens : WhereLogged log (λ calls. OpensHeld config calls held)
-  pub are_held : (leg : Holder) → In leg legs → has held leg.pair ≡ true
 
 -- the call ended, and the pairs of its legs were given back
 abbrev pub with_call_ended : View → ℕ → List Holder → View

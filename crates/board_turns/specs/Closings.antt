@@ -1,5 +1,5 @@
 -- The legs that went from a cell: when they may be closed, and what that adds to the lists.
-use Rattle.std.specs.Prelude.{◌≡◌, ℕ, not, true, Option, List, [], ◌∷◌, map, filter}
+use Rattle.std.specs.Prelude.{◌≡◌, ◌<◌, ℕ, not, true, Option, List, [], ◌∷◌, map, filter}
 use Rattle.relay_outside.specs.declared.ports.InCall.{InCall}
 use Rattle.relay_outside.specs.declared.ports.OutCall.{OutCall}
 use Rattle.relay_outside.specs.declared.ports.PortCall.{PortCall}
@@ -8,12 +8,13 @@ use Rattle.relay_outside.specs.declared.settings.Config.{Config}
 use Rattle.relay_outside.specs.DeviceLogs.{EndLog, WhereLogged}
 use Rattle.histories.specs.Words.{In, has}
 use Rattle.rtp_packet.specs.declared.head.Half.TheVariants.{Rtp, Rtcp}
+use Rattle.turn_table.specs.declared.hands.Hand.{Hand}
 use Rattle.port_pool.specs.declared.pairs.Lease.{Lease}
+use Rattle.port_pool.specs.Ports.{pair_count}
 use Rattle.call_board.specs.declared.board.Board.{Board}
-use Rattle.call_board.specs.Views.{View}
-use Rattle.call_board.specs.Boards.{BoardMatches, pairs_in}
-use Rattle.call_board.specs.Returns.{MayReturnAll}
-use Rattle.relay_core.specs.Entries.{Entry, box_of}
+use Rattle.call_board.specs.Boards.{AreOut, pairs_in}
+use Rattle.relay_core.specs.declared.part.Part.{Part}
+use Rattle.relay_core.specs.Records.{Made}
 use Rattle.relay_core.specs.Scripts.{Owed}
 use Rattle.media_ports.specs.Addresses.{port_address}
 use Rattle.media_ports.specs.OpenPorts.{OpensHeld}
@@ -27,13 +28,13 @@ leases_of_legs gone = map (λ leg. leg.0) gone
 abbrev pub closings_of : {O : Type 0} → Config → List (Lease × O × O) → List Owed
 closings_of config gone = map (λ leg. closing_of config leg.0.pair) gone
 
--- The legs may be closed: the board may take their leases back, the boxes of their pairs are open by the list, and, where the
--- port maker tells, just the ports of some pairs are open, theirs among them
-pub record CanClose {O : Type 0} (config : Config) (l : List Entry) (board : Board) (log : Option (List PortCall)) (gone : List (Lease × O × O)) : Type 0 where
-  pub view : View
-  pub shows : BoardMatches config board view
-  pub may_return : MayReturnAll config view (leases_of_legs gone)
-  pub boxes_open : (pair : ℕ) → In pair (pairs_in (leases_of_legs gone)) → IsTurnOpen l (box_of config pair)
+-- The legs may be closed: their leases are out and of different pairs of the range, the boxes of these are open, and, where the port
+-- maker tells, just the ports of some pairs are open, theirs among them
+pub record CanClose {M I O T : Type 0} {g : _} (config : Config) (hand : Hand M (Part I O) Made T g) (board : Board) (log : Option (List PortCall))
+    (gone : List (Lease × O × O)) : Type 0 where
+  pub out : AreOut board.pool (leases_of_legs gone)
+  pub of_range : (pair : ℕ) → In pair (pairs_in (leases_of_legs gone)) → pair < pair_count config
+  pub boxes_open : (pair : ℕ) → In pair (pairs_in (leases_of_legs gone)) → IsTurnOpen config hand pair
   pub held : List ℕ
   pub opens : WhereLogged log (λ calls. OpensHeld config calls held)
   pub are_held : (pair : ℕ) → In pair (pairs_in (leases_of_legs gone)) → has held pair ≡ true

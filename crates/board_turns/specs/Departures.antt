@@ -1,16 +1,22 @@
 -- Which leases and ends went from a cell: those of the legs that left it.
-use Rattle.std.specs.Prelude.{◌≡◌, ℕ, List, filter}
+use Rattle.std.specs.Prelude.{◌≡◌, ℕ, Bool, true, List, filter, map}
 use Rattle.std.specs.List.{AllZip}
 use Rattle.relay_outside.specs.declared.settings.Config.{Config}
-use Rattle.histories.specs.Words.{has}
+use Rattle.histories.specs.Words.{In, has}
+use Rattle.turn_table.specs.declared.hands.Hand.{Hand}
+use Rattle.turn_table.specs.Hands.{starts}
 use Rattle.port_pool.specs.Ports.{pair_family, pair_port}
 use Rattle.port_pool.specs.declared.pairs.Lease.{Lease}
 use Rattle.port_pool.specs.declared.holder.Holder.{Holder}
 use Rattle.port_pool.specs.declared.signal.SectionSignal.{SectionSignal}
 use Rattle.port_pool.specs.Signals.{is_rejected}
 use Rattle.call_cell.specs.Cells.{legs, since_end}
+use Rattle.call_cell.specs.Shapes.{CellLegShape, CellShape}
 use Rattle.relay_core.specs.Entries.{Entry, cell_history}
-use Rattle.relay_core.specs.Turns.{IsAbove}
+use Rattle.relay_core.specs.KeptAfter.{cell_shape_after}
+use Rattle.relay_core.specs.Records.{Made}
+use Rattle.relay_core.specs.Turns.{IsAbove, made_by}
+use Rattle.relay_core.specs.declared.part.Part.{Part}
 
 -- the lease is the leg's
 pub record IsLeaseOf {O : Type 0} (config : Config) (went : Lease × O × O) (leg : Holder) : Type 0 where
@@ -38,3 +44,17 @@ DroppedRemoved config l cell dropped gone = (n : ℕ) → IsAbove l cell n → A
 -- the legs of the rejected sections went
 abbrev pub RejectedRemoved : {O : Type 0} → Config → List Entry → ℕ → List SectionSignal → List (Lease × O × O) → Type 0
 RejectedRemoved config l cell signal gone = (n : ℕ) → IsAbove l cell n → AreLeasesOf config gone (filter (λ leg. is_rejected signal leg.section) (legs_in l cell n))
+
+-- By what a cell keeps, whatever its history.
+
+-- what the cell at a place keeps
+abbrev pub cell_kept : {M I O T : Type 0} {g : _} → Config → Hand M (Part I O) Made T g → (place : ℕ) → CellShape
+cell_kept config hand place = cell_shape_after config (starts hand) (made_by hand) place
+
+-- each leg has its out ends
+abbrev pub AllHaveEnds : CellShape → Type 0
+AllHaveEnds shape = (leg : CellLegShape) → In leg shape.legs → leg.has_ends ≡ true
+
+-- the leases of those legs that pass, in lease order
+abbrev pub leases_going : (goes : Holder → Bool) → CellShape → List Lease
+leases_going goes shape = map (λ (leg : CellLegShape). leg.lease) (filter (λ (leg : CellLegShape). goes leg.holder) shape.legs)

@@ -6,6 +6,9 @@ use Rattle.turn_table.specs.Hands.{IsHandOf, IsMain, HasNoTurn, starts, entries}
 use Rattle.relay_core.specs.declared.part.Part.{Part}
 use Rattle.relay_core.specs.Records.{Made}
 use Rattle.relay_core.specs.FirstPlaces.{AreParts}
+use Rattle.relay_core.specs.WholeParts.{AreWholeParts}
+use Rattle.relay_core.specs.KeptAfter.{IsWholeNow}
+use Rattle.relay_core.specs.Turns.{Numbered, made_by}
 use Rattle.relay_core.specs.Joins.{IsSound}
 
 module _ {M I O T : Type 0} {g : _} where
@@ -17,4 +20,6 @@ module _ {M I O T : Type 0} {g : _} where
     pub main : IsMain hand
     pub idle : HasNoTurn hand
     pub parts : AreParts config (starts hand)
+    pub whole_parts : AreWholeParts config (starts hand)
     pub sound : IsSound config (entries hand)
+    pub whole : Numbered (made_by hand) → IsWholeNow config hand

@@ -1,5 +1,5 @@
 -- Who may make nested steps, and what such a step tells.
-use Rattle.std.specs.Prelude.{◌≡◌, ◌++◌, ℕ, List, [], ◌∷◌, Some, None, IsSome}
+use Rattle.std.specs.Prelude.{◌≡◌, ◌++◌, ℕ, List, [], ◌∷◌, Option, Some, None, IsSome}
 use Rattle.relay_outside.specs.declared.settings.Config.{Config}
 use Rattle.relay_outside.specs.declared.ports.InCall.{InCall}
 use Rattle.relay_outside.specs.declared.ports.OutCall.{OutCall}
@@ -10,16 +10,19 @@ use Rattle.turn_table.specs.declared.machine.Entry as table
 use Rattle.turn_table.specs.Hands.{IsHandOf, IsMain, HasPlace, IsGiven, starts, entries}
 use Rattle.port_pool.specs.declared.pairs.Lease.{Lease}
 use Rattle.port_pool.specs.declared.boxes.PairBox.{PairBox}
-use Rattle.port_pool.specs.Boxes.{Close, holder}
+use Rattle.port_pool.specs.declared.holder.Holder.{Holder}
+use Rattle.port_pool.specs.Boxes.{Close}
 use Rattle.port_pool.specs.PairBoxes.{ends_in}
 use Rattle.relay_core.specs.declared.part.Part.{Part}
 use Rattle.relay_core.specs.declared.part.Part.TheVariants as part
-use Rattle.relay_core.specs.Entries.{Event, Box, Entry, box_history, box_of}
+use Rattle.relay_core.specs.Entries.{Event, Box, box_of}
 use Rattle.relay_core.specs.Scripts.{Owed}
 use Rattle.relay_core.specs.Records.{Left, Made, nothing_left}
 use Rattle.relay_core.specs.Steps.{Relates, IsReserved, legs_left}
 use Rattle.relay_core.specs.FirstPlaces.{AreParts}
-use Rattle.relay_core.specs.Turns.{Numbered, IsAbove, made_by}
+use Rattle.relay_core.specs.WholeParts.{AreWholeParts}
+use Rattle.relay_core.specs.KeptAfter.{holder_after}
+use Rattle.relay_core.specs.Turns.{Numbered, made_by}
 
 -- The hand is the main hand of this table, which began with the parts of the configuration; it has no turn but the board's, if
 -- any, and its list has each entry once
@@ -28,6 +31,7 @@ pub record MayNest {M I O T : Type 0} {g : _} (config : Config) (turns : Turns M
   pub main : IsMain hand
   pub alone : (k : ℕ) → HasPlace hand k → k ≡ 0
   pub parts : AreParts config (starts hand)
+  pub whole_parts : AreWholeParts config (starts hand)
   pub numbered : Numbered (made_by hand)
 
 -- a step that was handed this moment, as the table records it, and by which this leaves its place
@@ -56,12 +60,17 @@ pub record AddsRow {M S T : Type 0} {g : _} (place : ℕ) (event : Event) (left 
 
 -- Boxes.
 
--- by the list, the box of the place is shut, or open
-abbrev pub IsShut : List Entry → ℕ → Type 0
-IsShut l place = (n : ℕ) → IsAbove l place n → holder (box_history l place n) ≡ None
+module _ {M I O T : Type 0} {g : _} where
+  -- the leg that the box of a pair is open for: that of the start, after what the hand's list has of the box
+  abbrev pub holder_now : Config → Hand M (Part I O) Made T g → (pair : ℕ) → Option Holder
+  holder_now config hand pair = holder_after config (starts hand) (made_by hand) pair
 
-abbrev pub IsTurnOpen : List Entry → ℕ → Type 0
-IsTurnOpen l place = (n : ℕ) → IsAbove l place n → IsSome (holder (box_history l place n))
+  -- by that, the box of the pair is shut, or open
+  abbrev pub IsShut : Config → Hand M (Part I O) Made T g → (pair : ℕ) → Type 0
+  IsShut config hand pair = holder_now config hand pair ≡ None
+
+  abbrev pub IsTurnOpen : Config → Hand M (Part I O) Made T g → (pair : ℕ) → Type 0
+  IsTurnOpen config hand pair = IsSome (holder_now config hand pair)
 
 -- the closing of a pair's box
 abbrev pub closing_of : Config → ℕ → Owed

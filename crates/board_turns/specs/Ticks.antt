@@ -29,7 +29,7 @@ use Rattle.relay_core.specs.PlaceHistories.{logged_entry}
 use Rattle.relay_core.specs.Turns.{GainsNested, IsAbove, made_by}
 use Rattle.media_ports.specs.OpenPorts.{LogsHeld}
 use Rattle.board_turns.specs.Between.{board_of, MakesTurn}
-use Rattle.board_turns.specs.CallEnds.{CanEnd, ending_of, leg_pairs, with_call_ended}
+use Rattle.board_turns.specs.CallEnds.{CanEnd, IsCallOf, ending_of, leg_pairs, with_call_ended}
 
 -- the tick at this moment that ended these calls
 abbrev pub tick_at : ℕ → List Call → BoardEntry
@@ -78,19 +78,21 @@ pub record EndsRightly (config : Config) (h : List BoardEntry) (l : List Entry) 
   pub when_due : is_due_at h c.number moment ≡ true → ends ≡ true
   pub when_timed_out : is_due_at h c.number moment ≡ false → IsDueBy config l c.cell moment ends
 
--- The call at this place among the live ones, in order of their creation from 0, may be ended; and whether it is ending and due at
--- this moment
-pub record CanExpire (config : Config) (l : List Entry) (board : Board) (log : Option (List PortCall)) (moment index : ℕ) (of : Call) (legs : List Holder) (overdue : Bool) : Type 0 where
-  pub can : CanEnd config l board log of.number of legs
-  pub view : View
-  pub shows : BoardMatches config board view
-  pub seen : CallView
-  pub of_is : seen.of ≡ of
-  pub at : slice_get view.calls index ≡ Some seen
-  pub found : call_numbered view of.number ≡ Some seen
-  pub overdue_is : overdue ≡ is_due_by moment seen.due
-
 module _ {M I O T : Type 0} {g : _} where
+  -- The call at this place among the live ones, in order of their creation from 0, may be ended; its legs by the list; and whether it is
+  -- ending and due at this moment
+  pub record CanExpire (config : Config) (hand : Hand M (Part I O) Made T g) (board : Board) (log : Option (List PortCall)) (moment index : ℕ) (of : Call)
+      (legs : List Holder) (overdue : Bool) : Type 0 where
+    pub can : CanEnd config hand board log of.number
+    pub is_call : IsCallOf config (made_by hand) board of.number of legs
+    pub view : View
+    pub shows : BoardMatches config board view
+    pub seen : CallView
+    pub of_is : seen.of ≡ of
+    pub at : slice_get view.calls index ≡ Some seen
+    pub found : call_numbered view of.number ≡ Some seen
+    pub overdue_is : overdue ≡ is_due_by moment seen.due
+
   -- a live call is among these just where a tick at that moment has to end it, by its cell's history, which a hand with all parts knows in
   -- whole
   abbrev pub AreDue : Config → List BoardEntry → ℕ → Hand M (Part I O) Made T g → List Call → Type 0

@@ -2,7 +2,7 @@
 ghost use Rattle.std.specs.Prelude.{◌≡◌, ◌≤◌, ◌<◌, ℕ, [], ◌∷◌};
 ghost use Rattle.relay_outside.specs.DeviceLogs.{IsOpenedFor};
 ghost use Rattle.rtp_packet.specs.declared.head.Half.TheVariants.{Rtp, Rtcp};
-ghost use Rattle.board_turns.specs.BoardTurns.{CanNest, MakesNested, Nests, hand_list};
+ghost use Rattle.board_turns.specs.BoardTurns.{CanNest, MakesNested, Nests};
 ghost use Rattle.port_pool.specs.Boxes.{Open, Close};
 ghost use Rattle.port_pool.specs.Ports.{pair_count, port_address, AreOfPair};
 ghost use Rattle.relay_core.specs.Entries.{Box, box_of};
@@ -51,7 +51,7 @@ pub fn open_box<I: InEnd, O: OutEnd, R: Wait>(
     requires may { CanNest main.old }
     requires pair { holder.pair < pair_count main.old.config.now }
     requires cell { (1 ≤ holder.cell) × (holder.cell ≤ main.old.config.now.max_sessions) }
-    requires shut { IsShut (hand_list main.old) (box_of main.old.config.now holder.pair) }
+    requires shut { IsShut main.old.config.now main.old.hand.now holder.pair }
     requires ends { IsOpenedFor (port_address main.old.config.now holder.pair Rtp) (I.log rtp_end) × IsOpenedFor (port_address main.old.config.now holder.pair Rtcp) (I.log rtcp_end) }
     ensures nests { Nests main.old main.new }
     ensures gained { MakesNested (open_owed main.old.config.now holder ∷ []) main.old main.new }
@@ -77,7 +77,7 @@ pub fn shut_box<I: InEnd, O: OutEnd, R: Wait>(
 ) -> (I, I)
     requires may { CanNest main.old }
     requires pair { pair < pair_count main.old.config.now }
-    requires open { IsTurnOpen (hand_list main.old) (box_of main.old.config.now pair) }
+    requires open { IsTurnOpen main.old.config.now main.old.hand.now pair }
     ensures nests { Nests main.old main.new }
     ensures gained { MakesNested (closing_of main.old.config.now pair ∷ []) main.old main.new }
     ensures row { AddsRow (box_of main.old.config.now pair) (Box Close) (ends_left I.log result) main.old.hand.now main.new.hand.now }

@@ -9,7 +9,7 @@ ghost use Rattle.call_board.specs.Views.{View};
 ghost use Rattle.media_ports.specs.OpenPorts.{OpensHeld};
 ghost use Rattle.board_turns.specs.Closings.{pairs_left};
 ghost use Rattle.board_turns.specs.CallEnds.{ClosesTheirs, ending_of, leg_pairs, with_call_ended};
-ghost use Rattle.board_turns.specs.BoardTurns.{CanNest, MakesNested, MayEnd, Works};
+ghost use Rattle.board_turns.specs.BoardTurns.{CanNest, IsTurnCall, MakesNested, MayEnd, Works};
 
 use crate::board_turn::BoardTurn;
 use crate::cells::end_cell;
@@ -22,16 +22,17 @@ use std::sync::Wait;
 /// No leg has gone before it and none after it. It takes no memory.
 pub fn end_call<P: PortMaker, R: Wait>(rt: &R, turn: &mut BoardTurn<P>, call: u64)
     requires may { CanNest turn.old.main }
-    requires can { (of : Call) × (legs : List Holder) × MayEnd P.log turn.old call of legs }
+    requires can { MayEnd P.log turn.old call }
+    requires of { (of : Call) × (legs : List Holder) × IsTurnCall turn.old call of legs }
     requires empty { turn.old.gone.now ≡ [] }
     ensures works { Works P.log P.faults turn.old turn.new }
-    ensures gained { (of : Call) (legs : List Holder) → MayEnd P.log turn.old call of legs →
+    ensures gained { (of : Call) (legs : List Holder) → IsTurnCall turn.old call of legs →
         MakesNested (ending_of turn.old.main.config.now of legs) turn.old.main turn.new.main }
-    ensures ended { (of : Call) (legs : List Holder) → MayEnd P.log turn.old call of legs →
+    ensures ended { (of : Call) (legs : List Holder) → IsTurnCall turn.old call of legs →
         (config : Config) (v : View) → BoardMatches config turn.old.board.now v → CellsApart v.calls → BoardMatches config turn.new.board.now (with_call_ended v call legs) }
-    ensures closes { (of : Call) (legs : List Holder) → MayEnd P.log turn.old call of legs →
+    ensures closes { (of : Call) (legs : List Holder) → IsTurnCall turn.old call of legs →
         Gained (P.log turn.old.ports.now) (P.log turn.new.ports.now) (ClosesTheirs P.Out.log turn.old.main.config.now legs) }
-    ensures open { (of : Call) (legs : List Holder) → MayEnd P.log turn.old call of legs →
+    ensures open { (of : Call) (legs : List Holder) → IsTurnCall turn.old call of legs →
         (held : List ℕ) → WhereLogged (P.log turn.old.ports.now) (λ calls. OpensHeld turn.old.main.config.now calls held) →
         WhereLogged (P.log turn.new.ports.now) (λ calls. OpensHeld turn.old.main.config.now calls (pairs_left (leg_pairs legs) held)) }
 {

@@ -1,15 +1,17 @@
 //! The cell of a call: asked whether its call is due, asked what is told of its legs, and ended.
-ghost use Rattle.std.specs.Prelude.{◌≡◌, ◌≤◌, [], ◌∷◌};
+ghost use Rattle.std.specs.Prelude.{◌≡◌, ◌≤◌, [], ◌∷◌, map};
 ghost use Rattle.board_turns.specs.BoardTurns.{CanNest, MakesNested, Nests, hand_list};
 ghost use Rattle.histories.specs.Words.{In};
 ghost use Rattle.port_pool.specs.declared.reports.LegReport.{LegReport};
 ghost use Rattle.port_pool.specs.Reports.{CountsFit};
 ghost use Rattle.call_cell.specs.Cells.{Expire, Read, End};
+ghost use Rattle.call_cell.specs.Shapes.{CellLegShape};
 ghost use Rattle.relay_core.specs.Entries.{Cell};
 ghost use Rattle.relay_core.specs.PlaceHistories.{GoneHome};
 ghost use Rattle.board_turns.specs.NestedSteps.{gone_left, AddsRow};
 ghost use Rattle.board_turns.specs.InCells.{HasNewKeys, in_cell_of, Ends, Expires, Reads};
-ghost use Rattle.board_turns.specs.Departures.{AllRemoved};
+ghost use Rattle.board_turns.specs.Closings.{leases_of_legs};
+ghost use Rattle.board_turns.specs.Departures.{AllHaveEnds, AllRemoved, cell_kept};
 
 use crate::board_turn::MainHand;
 use crate::puts::put_step;
@@ -44,6 +46,8 @@ pub fn end_cell<I: InEnd, O: OutEnd, R: Wait>(
     ensures row { AddsRow cell (Cell End) (gone_left O.log gone.new) main.old.hand.now main.new.hand.now }
     ensures ended { Ends I.log I.faults O.log O.faults main.old.config.now main.old.hand.now cell gone.new }
     ensures went { AllRemoved main.old.config.now (hand_list main.old) cell gone.new }
+    ensures left { let kept = cell_kept main.old.config.now main.old.hand.now cell in AllHaveEnds kept →
+        leases_of_legs gone.new ≡ map (λ (leg : CellLegShape). leg.lease) kept.legs }
     ensures home { GoneHome O.log main.old.config.now gone.new }
 {
     let mut step = main

@@ -5,6 +5,7 @@ ghost use Rattle.relay_outside.specs.DeviceLogs.{Gained, WhereLogged};
 ghost use Rattle.turn_table.specs.Hands.{entries};
 ghost use Rattle.call_board.specs.Boards.{BoardMatches, KeepsCalls, pairs_in};
 ghost use Rattle.call_board.specs.Views.{View, with_returned};
+ghost use Rattle.call_board.specs.Shapes.{board_shape, shape_returns};
 ghost use Rattle.relay_core.specs.PlaceHistories.{GoneHome};
 ghost use Rattle.media_ports.specs.OpenPorts.{OpensHeld};
 ghost use Rattle.board_turns.specs.NestedSteps.{closing_of};
@@ -28,6 +29,7 @@ fn close_leg<P: PortMaker, R: Wait>(rt: &R, turn: &mut BoardTurn<P>, leg: (Lease
     ensures gained { MakesNested (closings_of turn.old.main.config.now (leg ∷ [])) turn.old.main turn.new.main }
     ensures returned { (config : Config) (v : View) → BoardMatches config turn.old.board.now v → BoardMatches config turn.new.board.now (with_returned v (leg.0.pair ∷ [])) }
     ensures calls { KeepsCalls turn.old.board.now turn.new.board.now }
+    ensures pool { board_shape turn.new.board.now ≡ shape_returns (leg.0.pair ∷ []) (board_shape turn.old.board.now) }
     ensures closes { Gained (P.log turn.old.ports.now) (P.log turn.new.ports.now) (ClosesLegs P.Out.log turn.old.main.config.now (leg ∷ [])) }
     ensures open { (held : List ℕ) → WhereLogged (P.log turn.old.ports.now) (λ calls. OpensHeld turn.old.main.config.now calls held) →
         WhereLogged (P.log turn.new.ports.now) (λ calls. OpensHeld turn.old.main.config.now calls (pairs_left (leg.0.pair ∷ []) held)) }
@@ -57,6 +59,7 @@ pub fn close_legs<P: PortMaker, R: Wait>(rt: &R, turn: &mut BoardTurn<P>)
     ensures gained { MakesNested (closings_of turn.old.main.config.now turn.old.gone.now) turn.old.main turn.new.main }
     ensures returned { (config : Config) (v : View) → BoardMatches config turn.old.board.now v → BoardMatches config turn.new.board.now (with_returned v (pairs_in (leases_of_legs turn.old.gone.now))) }
     ensures calls { KeepsCalls turn.old.board.now turn.new.board.now }
+    ensures pool { board_shape turn.new.board.now ≡ shape_returns (pairs_in (leases_of_legs turn.old.gone.now)) (board_shape turn.old.board.now) }
     ensures closes { Gained (P.log turn.old.ports.now) (P.log turn.new.ports.now) (ClosesLegs P.Out.log turn.old.main.config.now turn.old.gone.now) }
     ensures open { (held : List ℕ) → WhereLogged (P.log turn.old.ports.now) (λ calls. OpensHeld turn.old.main.config.now calls held) →
         WhereLogged (P.log turn.new.ports.now) (λ calls. OpensHeld turn.old.main.config.now calls (pairs_left (pairs_in (leases_of_legs turn.old.gone.now)) held)) }

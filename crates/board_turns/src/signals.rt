@@ -1,6 +1,8 @@
 //! The cell of a call: prepared by an offer, and committed by an answer.
 ghost use Rattle.std.specs.Prelude.{◌≡◌, ◌≤◌, [], ◌∷◌};
 ghost use Rattle.board_turns.specs.BoardTurns.{CanNest, MakesNested, Nests, hand_list};
+ghost use Rattle.histories.specs.Words.{has};
+ghost use Rattle.port_pool.specs.Signals.{is_rejected};
 ghost use Rattle.call_cell.specs.Cells.{Commit};
 ghost use Rattle.call_cell.specs.Preparations.{IsReady, PrepareFor, prepared_keys, drops_of};
 ghost use Rattle.relay_core.specs.Entries.{Cell};
@@ -9,7 +11,8 @@ ghost use Rattle.relay_core.specs.Steps.{AreOpened};
 ghost use Rattle.board_turns.specs.NestedSteps.{gone_left, AddsRow};
 ghost use Rattle.board_turns.specs.OfferEvents.{brings};
 ghost use Rattle.board_turns.specs.InCells.{HasNewKeys, in_cell_of, CanPrepare, CanCommit, HasSpace, Prepares, Commits};
-ghost use Rattle.board_turns.specs.Departures.{DroppedRemoved, RejectedRemoved};
+ghost use Rattle.board_turns.specs.Closings.{leases_of_legs};
+ghost use Rattle.board_turns.specs.Departures.{AllHaveEnds, DroppedRemoved, RejectedRemoved, cell_kept, leases_going};
 
 use crate::board_turn::MainHand;
 use crate::cells::cell_place;
@@ -46,6 +49,8 @@ pub fn prepare_cell<I: InEnd, O: OutEnd, R: Wait>(
     ensures row { AddsRow cell (Cell (brings call signal)) (gone_left O.log gone.new) main.old.hand.now main.new.hand.now }
     ensures prepared { Prepares I.log I.faults O.log O.faults main.old.config.now main.old.hand.now cell signal call (prepared_keys signal) (drops_of signal) main.old.entry_id.moment gone.new }
     ensures went { DroppedRemoved main.old.config.now (hand_list main.old) cell (drops_of signal) gone.new }
+    ensures left { let kept = cell_kept main.old.config.now main.old.hand.now cell in AllHaveEnds kept →
+        leases_of_legs gone.new ≡ leases_going (λ leg. has (drops_of signal) leg.section) kept }
     ensures home { GoneHome O.log main.old.config.now gone.new }
 {
     let brought = Snapshot::of(&signal);
@@ -90,6 +95,8 @@ pub fn commit_cell<I: InEnd, O: OutEnd, R: Wait>(
     ensures row { AddsRow cell (Cell (Commit signal.now)) (gone_left O.log gone.new) main.old.hand.now main.new.hand.now }
     ensures committed { Commits I.log I.faults O.log O.faults main.old.config.now main.old.hand.now cell signal.now main.old.entry_id.moment gone.new }
     ensures went { RejectedRemoved main.old.config.now (hand_list main.old) cell signal.now gone.new }
+    ensures left { let kept = cell_kept main.old.config.now main.old.hand.now cell in AllHaveEnds kept →
+        leases_of_legs gone.new ≡ leases_going (λ leg. is_rejected signal.now leg.section) kept }
     ensures home { GoneHome O.log main.old.config.now gone.new }
 {
     let mut step = main

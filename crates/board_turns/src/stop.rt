@@ -10,7 +10,7 @@ ghost use Rattle.relay_core.specs.Turns.{IsAbove, made_by};
 ghost use Rattle.media_ports.specs.Openings.{NoneOpened};
 ghost use Rattle.media_ports.specs.OpenPorts.{OpensHeld, LogsHeld};
 ghost use Rattle.board_turns.specs.Between.{MakesTurn, board_of};
-ghost use Rattle.board_turns.specs.BoardTurns.{CanNest, MakesNested, Rests, RestsAgain, Works, hand_list, past_of};
+ghost use Rattle.board_turns.specs.BoardTurns.{CanNest, IsWholeTurn, MakesNested, Rests, RestsAgain, Works, hand_list, past_of};
 ghost use Rattle.board_turns.specs.CallEnds.{leg_pairs};
 ghost use Rattle.board_turns.specs.Stops.{stop_entry, still_held};
 
@@ -31,6 +31,7 @@ pub fn end_live<P: PortMaker, R: Wait>(rt: &R, turn: &mut BoardTurn<P>) -> usize
     requires board { BoardFor turn.old.main.config.now turn.old.board.now (past_of turn.old.main) }
     requires open { WhereLogged (P.log turn.old.ports.now) (λ calls. OpensHeld turn.old.main.config.now calls (leg_pairs (held (past_of turn.old.main)))) }
     requires empty { turn.old.gone.now ≡ [] }
+    requires whole { IsWholeTurn turn.old }
     ensures works { Works P.log P.faults turn.old turn.new }
     ensures gained { let h = past_of turn.old.main in MakesNested (script turn.old.main.config.now h (stop_entry h)) turn.old.main turn.new.main }
     ensures board { let h = past_of turn.old.main in BoardFor turn.old.main.config.now turn.new.board.now (stop_entry h ∷ h) }

@@ -1,3 +1,4 @@
+pub mod Packets
 pub mod Splits
 pub mod Does
 pub mod Since

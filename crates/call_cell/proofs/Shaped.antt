@@ -19,6 +19,7 @@ use Rattle.port_pool.specs.Signals.{NewKey, is_rejected}
 use Rattle.srtp_sources.proofs.Knowing.{any-position}
 use Rattle.call_cell.specs.declared.contexts.Outbound.{Outbound}
 use Rattle.call_cell.specs.declared.sender.Sending.{Sending}
+use Rattle.call_cell.specs.declared.counts.Counts.{Counts}
 use Rattle.call_cell.specs.declared.leg.Leg.{Leg}
 use Rattle.call_cell.specs.declared.cell.Cell.{Cell}
 use Rattle.call_cell.specs.declared.prepare.PreparedKey.{PreparedKey}
@@ -30,7 +31,7 @@ use Rattle.call_cell.specs.CellEnds.{parts_of}
 use Rattle.call_cell.specs.DroppedLegs.{FlagsAre, goes, stays, Part}
 use Rattle.call_cell.specs.Commits.{LegCommitsBy, LegsCommit, said_of}
 use Rattle.call_cell.specs.Preparations.{IsPrepared, IsOutboundAnew, is_key_at, with_contexts}
-use Rattle.call_cell.specs.Shapes.{CellLegShape, IsSmall, LegsGo, cell_leg_shape, cell_leg_shapes, ends_of_legs, with_key_number, key_number_at, with_key_numbers, with_prepared, answered_leg}
+use Rattle.call_cell.specs.Shapes.{CellLegShape, IsSmall, LegsGo, cell_leg_shape, cell_leg_shapes, ends_of_legs, counts_of_legs, with_key_number, key_number_at, with_key_numbers, with_prepared, answered_leg}
 use Rattle.call_cell.proofs.Answered.{Pairwise, pairwise, kept_both, map_filter, picked_made}
 use Rattle.call_cell.proofs.Joined.{map_map}
 use Rattle.call_cell.proofs.Ended.{filter_none, filter_whole}
@@ -165,16 +166,23 @@ pub ends_put : {O : Type 0} (key : PreparedKey) (those : List (Leg O)) (at : ℕ
 ends_put {O} key those at x new is =
     put_ends those at x new (ap (λ (leg : Leg O). leg.sending.ends) is ∙ with_ends key.suite key.contexts (get_or those at x))
 
+pub counts_put : {O : Type 0} (key : PreparedKey) (those : List (Leg O)) (at : ℕ) (x new : Leg O)
+    → new ≡ with_sending (get_or those at x) (with_contexts key.suite key.contexts (get_or those at x).sending) → counts_of_legs (set those at new) ≡ counts_of_legs those
+counts_put {O} key those at x new is =
+    map-set_same (λ (leg : Leg O). leg.counts) those at new x (ap (λ (leg : Leg O). leg.counts) is)
+
 pub offered_go : {O : Type 0} (flags : List Bool) (old kept came joined new : List (Leg O)) (before after : List (Lease × O × O)) → before ≡ [] → length old ≤ 16
-    → Part flags old kept before after → joined ≡ kept ++ came → ends_of_legs new ≡ ends_of_legs joined
+    → Part flags old kept before after → joined ≡ kept ++ came → ends_of_legs new ≡ ends_of_legs joined → counts_of_legs new ≡ counts_of_legs joined
     → LegsGo (λ leg. get_or flags leg.section false) came old new after
-offered_go {O} flags old kept came joined new before after empty few part joins puts =
+offered_go {O} flags old kept came joined new before after empty few part joins puts counted =
     let room : length before + length old ≤ 16 = subst (λ (l : List (Lease × O × O)). length l + length old ≤ 16) (sym empty) (omega (arith, few)) in
     let parts = part room in
     record {
       went = parts.1 ∙ ap (λ (l : List (Lease × O × O)). l ++ filter_map (λ (leg : Leg O). parts_of leg) (filter (λ (leg : Leg O). goes flags leg) old)) empty;
       ends = puts ∙ ap ends_of_legs joins ∙ map-append (λ (leg : Leg O). leg.sending.ends) kept came
           ∙ ap (λ (l : List (Leg O)). ends_of_legs l ++ ends_of_legs came) parts.0;
+      counts = counted ∙ ap counts_of_legs joins ∙ map-append (λ (leg : Leg O). leg.counts) kept came
+          ∙ ap (λ (l : List (Leg O)). counts_of_legs l ++ counts_of_legs came) parts.0;
     }
 
 -- An answer.
@@ -184,6 +192,7 @@ record Shows {O : Type 0} (signal : List SectionSignal) (flags : List Bool) (a b
   pub shape : cell_leg_shape b ≡ answered_leg signal (cell_leg_shape a)
   pub parts : parts_of b ≡ parts_of a
   pub ends : b.sending.ends ≡ a.sending.ends
+  pub counts : b.counts ≡ a.counts
 
 answered_by : {O : Type 0} (signal : List SectionSignal) (a b : Leg O) (o : Option LegSignal) → said_of signal a.holder ≡ o → LegCommitsBy o a b
     → cell_leg_shape b ≡ answered_leg signal (cell_leg_shape a)
@@ -208,6 +217,7 @@ shows {O} signal flags a b are small does =
       shape = answered_by signal a b (said_of signal a.holder) refl does;
       parts = same_by (λ (l : Leg O). parts_of l) (said_of signal a.holder) a b (λ s d. ap (λ (l : Leg O). parts_of l) d.rest) does;
       ends = same_by (λ (l : Leg O). l.sending.ends) (said_of signal a.holder) a b (λ s d. ap (λ (l : Leg O). l.sending.ends) d.rest) does;
+      counts = same_by (λ (l : Leg O). l.counts) (said_of signal a.holder) a b (λ s d. ap (λ (l : Leg O). l.counts) d.rest) does;
     }
 
 pub small_in : {O : Type 0} (those : List (Leg O)) → IsSmall (cell_leg_shapes those) → (leg : Leg O) → In leg those → leg.holder.section < 8
@@ -234,6 +244,7 @@ shape_answered {O} signal flags old mid new before after small long does are emp
     let go_q : Leg O → Bool = λ (leg : Leg O). goes flags leg in
     let shape : Leg O → CellLegShape = λ (leg : Leg O). cell_leg_shape leg in
     let ends : Leg O → Option (O × O) = λ (leg : Leg O). leg.sending.ends in
+    let counts : Leg O → Counts = λ (leg : Leg O). leg.counts in
     let parts : Leg O → Option (Lease × O × O) = λ (leg : Leg O). parts_of leg in
     let pairs : Pairwise R old mid = pairwise R old mid long
     (λ i d below. shows signal flags (get_or old i d) (get_or mid i d) are (small_in old small (get_or old i d) (at_in old i d below)) (does i d below)) in
@@ -249,6 +260,8 @@ shape_answered {O} signal flags old mid new before after small long does are emp
             ∙ sym (picked_made parts (filter go_p old));
         ends = ap ends_of_legs (part room).0 ∙ kept_both R stay_p stay_q ends ends (λ a b r. (ap not r.flag, r.ends)) old mid pairs
             ∙ sym (append-nil (ends_of_legs (filter stay_p old)));
+        counts = ap counts_of_legs (part room).0 ∙ kept_both R stay_p stay_q counts counts (λ a b r. (ap not r.flag, r.counts)) old mid pairs
+            ∙ sym (append-nil (counts_of_legs (filter stay_p old)));
       };
     }
   where

@@ -1,5 +1,5 @@
 -- The packets of a leg, counted by halves: those that were accepted from its side, and those that were sent to it.
-use Rattle.std.specs.Prelude.{◌≡◌, ℕ, ◌+◌, ◌-◌, ◌^◌, Bool, min, List, if◌then◌else◌}
+use Rattle.std.specs.Prelude.{◌≡◌, ◌<◌, ◌≤◌, ℕ, ◌+◌, ◌-◌, ◌^◌, Bool, min, List, if◌then◌else◌}
 use Rattle.rtp_packet.specs.declared.head.Half.{Half}
 use Rattle.rtp_packet.specs.declared.head.Half.TheVariants.{Rtp, Rtcp}
 use Rattle.port_pool.specs.declared.holder.Holder.{Holder}
@@ -40,3 +40,23 @@ more_sent half ok counts = if ok then one_sent half counts else counts
 pub record IsCounted (h : List CellEntry) (leg : Holder) (counts : Counts) : Type 0 where
   pub accepted : (half : Half) → accepted_in half counts ≡ as_counted (accepted_count h leg half)
   pub sent : (half : Half) → sent_in half counts ≡ as_counted (sent_count h leg half)
+
+-- each count is below that
+pub record CountsUnder (bound : ℕ) (counts : Counts) : Type 0 where
+  pub accepted : (half : Half) → accepted_in half counts < bound
+  pub sent : (half : Half) → sent_in half counts < bound
+
+-- no count rose by more than one
+pub record RoseByOne (old new : Counts) : Type 0 where
+  pub accepted : (half : Half) → accepted_in half new ≤ accepted_in half old + 1
+  pub sent : (half : Half) → sent_in half new ≤ sent_in half old + 1
+
+-- of accepted packets at most one more is counted, and no more of those that were sent
+pub record AcceptedOne (old new : Counts) : Type 0 where
+  pub accepted : (half : Half) → accepted_in half new ≤ accepted_in half old + 1
+  pub sent : (half : Half) → sent_in half new ≡ sent_in half old
+
+-- of packets that were sent at most one more is counted, and no more of accepted ones
+pub record SentOne (old new : Counts) : Type 0 where
+  pub accepted : (half : Half) → accepted_in half new ≡ accepted_in half old
+  pub sent : (half : Half) → sent_in half new ≤ sent_in half old + 1

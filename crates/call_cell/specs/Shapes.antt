@@ -1,8 +1,11 @@
 -- The shape of a cell, and what each call makes of it, whatever the cell's history: its configuration, the call, whether an answer
 -- committed it, and of each leg, in lease order, its holder, its lease, whether it has its out ends, whether an answer committed it,
--- and the numbers of its keys.
+-- and the numbers of its keys. Besides, whatever the history, what each call does to the legs' out ends and to what they count.
 use Rattle.std.specs.Prelude.{◌≡◌, ◌<◌, ◌≤◌, ℕ, ◌&&◌, ◌||◌, ◌==◌, not, Bool, true, false, List, [], ◌∷◌, ◌++◌, map, filter, filter_map, length, Option, Some, None, is_some, slice_index_or, if◌then◌else◌}
+use Rattle.std.specs.List.{AllZip}
 use Rattle.relay_outside.specs.declared.settings.Config.{Config}
+use Rattle.relay_outside.specs.declared.ports.OutCall.{OutCall}
+use Rattle.relay_outside.specs.DeviceLogs.{EndLog}
 use Rattle.sdes_lines.specs.declared.crypto_line.Suite.{Suite}
 use Rattle.sdes_lines.specs.declared.crypto_line.Suite.TheVariants.{Tag80, Tag32}
 use Rattle.histories.specs.Words.{In, or_else}
@@ -11,9 +14,11 @@ use Rattle.port_pool.specs.declared.holder.Holder.{Holder}
 use Rattle.port_pool.specs.declared.holder.Side.{Side}
 use Rattle.port_pool.specs.declared.signal.SectionSignal.{SectionSignal}
 use Rattle.port_pool.specs.Signals.{NewKey, side_eq, is_rejected}
+use Rattle.call_cell.specs.declared.counts.Counts.{Counts}
 use Rattle.call_cell.specs.declared.leg.Leg.{Leg}
 use Rattle.call_cell.specs.declared.cell.Cell.{Cell}
 use Rattle.call_cell.specs.declared.prepare.PreparedKey.{PreparedKey}
+use Rattle.call_cell.specs.Counts.{RoseByOne}
 use Rattle.call_cell.specs.Parts.{contexts_of, key_number_in}
 use Rattle.call_cell.specs.CellEnds.{parts_of}
 use Rattle.call_cell.specs.Commits.{said_of}
@@ -47,6 +52,37 @@ pub record CellShape : Type 0 where
 
 abbrev pub cell_shape : {O : Type 0} → Cell O → CellShape
 cell_shape cell = record { config = cell.config; call = cell.call; is_committed = cell.is_committed; legs = cell_leg_shapes cell.legs.items }
+
+-- Counts.
+
+-- what a leg counts
+abbrev pub counts_of : {O : Type 0} → Leg O → Counts
+counts_of leg = leg.counts
+
+abbrev pub counts_of_legs : {O : Type 0} → List (Leg O) → List Counts
+counts_of_legs {O} those = map (λ (leg : Leg O). counts_of leg) those
+
+-- no count of a leg rose by more than one, in the legs' order
+abbrev pub CountsRoseByOne : {O : Type 0} → List (Leg O) → List (Leg O) → Type 0
+CountsRoseByOne {O} old new = AllZip (λ (a b : Leg O). RoseByOne (counts_of a) (counts_of b)) old new
+
+-- A packet.
+
+-- the out ends are of the same ports; where there were none there are none
+abbrev pub SamePorts : {O : Type 0} → (O → EndLog OutCall) → Option (O × O) → Option (O × O) → Type 0
+SamePorts log None None = Unit {0}
+SamePorts log (Some old) (Some new) = ((log new.0).at ≡ (log old.0).at) × ((log new.1).at ≡ (log old.1).at)
+SamePorts log _ _ = ⊥
+
+-- the leg in this lease of its pair, with out ends of the same ports
+pub record KeepsPort {O : Type 0} (log : O → EndLog OutCall) (old new : Leg O) : Type 0 where
+  pub holder : new.holder ≡ old.holder
+  pub lease : new.lease ≡ old.lease
+  pub ends : SamePorts log old.sending.ends new.sending.ends
+
+-- the same of each leg, in their order
+abbrev pub KeepsPorts : {O : Type 0} → (O → EndLog OutCall) → List (Leg O) → List (Leg O) → Type 0
+KeepsPorts {O} log old new = AllZip (λ (a b : Leg O). KeepsPort log a b) old new
 
 -- An offer.
 
@@ -111,8 +147,9 @@ pub record IsSmall (legs : List CellLegShape) : Type 0 where
 abbrev pub ends_of_legs : {O : Type 0} → List (Leg O) → List (Option (O × O))
 ends_of_legs {O} those = map (λ (leg : Leg O). leg.sending.ends) those
 
--- of the old legs those that pass went with their leases and ends, in lease order, and the others have the ends that they had; the
--- new ones came after them with theirs
+-- of the old legs those that pass went with their leases and ends, in lease order, and the others have the ends that they had, and
+-- count what they counted; the new ones came after them with theirs
 pub record LegsGo {O : Type 0} (goes : Holder → Bool) (came old new : List (Leg O)) (gone : List (Lease × O × O)) : Type 0 where
   pub went : gone ≡ filter_map (λ (leg : Leg O). parts_of leg) (filter (λ (leg : Leg O). goes leg.holder) old)
   pub ends : ends_of_legs new ≡ ends_of_legs (filter (λ (leg : Leg O). not (goes leg.holder)) old) ++ ends_of_legs came
+  pub counts : counts_of_legs new ≡ counts_of_legs (filter (λ (leg : Leg O). not (goes leg.holder)) old) ++ counts_of_legs came

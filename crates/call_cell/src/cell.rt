@@ -1,4 +1,4 @@
-ghost use Rattle.std.specs.Prelude.{ℕ, ◌≡◌, ◌≤◌, ◌<◌, ◌+◌, true, false, [], List, filter_map, slice_index_or, IfOk, IfErr, IfSome, IsSome, Some, is_some, if◌then◌else◌};
+ghost use Rattle.std.specs.Prelude.{ℕ, ◌≡◌, ◌≤◌, ◌<◌, ◌+◌, ◌^◌, true, false, [], List, filter_map, slice_index_or, IfOk, IfErr, IfSome, IsSome, Some, is_some, if◌then◌else◌};
 ghost use Rattle.relay_outside.specs.declared.settings.Config.{Config};
 ghost use Rattle.histories.specs.Words.{or_else};
 ghost use Rattle.call_cell.specs.Cells.{CellEntry, since_end, is_accepted};
@@ -6,7 +6,7 @@ ghost use Rattle.call_cell.specs.Demands.{CountsBelow};
 ghost use Rattle.call_cell.specs.LegHistories.{LegsStandFor, LegsRelay, receipt_of};
 ghost use Rattle.call_cell.specs.Commits.{LegCommitsBy, LegsCommit, contexts_due, needs_contexts, said_of};
 ghost use Rattle.call_cell.specs.Expiries.{is_ago};
-ghost use Rattle.call_cell.specs.Shapes.{cell_leg_shapes};
+ghost use Rattle.call_cell.specs.Shapes.{cell_leg_shapes, KeepsPorts, CountsRoseByOne};
 
 use crate::dropped_legs::part;
 use crate::given_ends::give_ends;
@@ -106,6 +106,8 @@ fn relay_legs<O: OutEnd>(legs: &mut [Leg<O>], packet: &Incoming, buf: &mut Packe
     ensures shape { cell_leg_shapes legs.new ≡ cell_leg_shapes legs.old }
     ensures relays { (config : Config) (h : List CellEntry) (number : ℕ) → LegsStandFor config h legs.old →
         LegsRelay O.log O.faults config h (receipt_of number packet.now buf.old) legs.old legs.new buf.new result }
+    ensures counts { CountsRoseByOne legs.old legs.new }
+    ensures ports { KeepsPorts O.log legs.old legs.new }
 {
     let Some(at) = place_of(legs, &packet.holder) else {
         return Outcome::Refused(Refused::Stale);
@@ -226,7 +228,12 @@ impl<O: OutEnd> Cell<O> {
     ghost use Rattle.call_cell.specs.CellEnds.{CellEnds};
     ghost use Rattle.port_pool.specs.Signals.{NewKey, is_rejected};
     ghost use Rattle.call_cell.specs.CellEnds.{parts_of};
-    ghost use Rattle.call_cell.specs.Shapes.{IsSmall, LegsGo, cell_shape, offered_shape, answered_shape, ended_shape};
+    ghost use Rattle.histories.specs.Words.{In};
+    ghost use Rattle.port_pool.specs.Reports.{CountsFit};
+    ghost use Rattle.port_pool.specs.declared.reports.LegReport.{LegReport};
+    ghost use Rattle.call_cell.specs.declared.leg.Leg.{Leg};
+    ghost use Rattle.call_cell.specs.Shapes.{IsSmall, LegsGo, counts_of, cell_shape, offered_shape, answered_shape, ended_shape};
+    ghost use Rattle.call_cell.specs.Counts.{CountsUnder};
     ghost use Rattle.call_cell.specs.Commits.{CellCommits, NamesKeys};
     ghost use Rattle.call_cell.specs.Expiries.{CellExpires};
     ghost use Rattle.call_cell.specs.LegReports.{CellReads};
@@ -254,6 +261,8 @@ impl<O: OutEnd> Cell<O> {
         ensures shape { cell_shape self.new ≡ cell_shape self.old }
         ensures relays { (config : Config) (h : List CellEntry) (number : ℕ) → CellFor config self.old h →
             CellRelays O.log O.faults config self.old self.new h (receipt_of number packet.now buf.old) now buf.new result }
+        ensures counts { CountsRoseByOne self.old.legs.items self.new.legs.items }
+        ensures legs { KeepsPorts O.log self.old.legs.items self.new.legs.items }
     {
         self.moment = self.moment.max(now);
         let outcome = relay_legs(self.legs.as_mut_slice(), packet, buf);
@@ -313,6 +322,7 @@ impl<O: OutEnd> Cell<O> {
     pub fn expire(&mut self, now: u64) -> bool
         ensures shape { cell_shape self.new ≡ cell_shape self.old }
         ensures expires { (config : Config) (h : List CellEntry) → CellFor config self.old h → CellExpires config self.old self.new h now result }
+        ensures legs { self.new.legs ≡ self.old.legs }
     {
         self.moment = self.moment.max(now);
         self.is_due()
@@ -321,7 +331,8 @@ impl<O: OutEnd> Cell<O> {
     /// Replaces the list by a report of each leg of a committed section, by section and then side A first. The counts are of
     /// the packets since the leg came; from 2^64 - 1 on a count stands still.
     pub fn read_legs(&self, out: &mut LegReports)
-        ensures { (config : Config) (h : List CellEntry) → CellFor config self.now h → CountsBelow (since_end h) → CellReads config self.now h out.new }
+        ensures reads { (config : Config) (h : List CellEntry) → CellFor config self.now h → CountsBelow (since_end h) → CellReads config self.now h out.new }
+        ensures counts { ((leg : Leg O) → In leg self.now.legs.items → CountsUnder (2 ^ 63) (counts_of leg)) → (report : LegReport) → In report out.new → CountsFit report }
     {
         out.clear();
         tell_legs(self.legs.as_slice(), out);
@@ -333,6 +344,7 @@ impl<O: OutEnd> Cell<O> {
         ensures shape { IsSmall (cell_leg_shapes self.old.legs.items) → cell_shape self.new ≡ ended_shape self.old.config }
         ensures legs { IsSmall (cell_leg_shapes self.old.legs.items) → gone.new ≡ filter_map (λ leg. parts_of leg) self.old.legs.items }
         ensures ends { (config : Config) (h : List CellEntry) → CellFor config self.old h → CellEnds config self.old self.new h gone.new }
+        ensures none { IsSmall (cell_leg_shapes self.old.legs.items) → self.new.legs.items ≡ [] }
     {
         self.call = None;
         self.is_committed = false;

@@ -321,6 +321,8 @@ impl<O> Leg<O> {
 impl<O: OutEnd> Leg<O> {
     ghost use Rattle.call_cell.specs.Parts.{ReceivingFor, SendingFor, HasNamed, SameNumbers};
     ghost use Rattle.call_cell.specs.LegHistories.{outbound_of, length_in, LegAccepts, LegForwardsBy};
+    ghost use Rattle.call_cell.specs.Counts.{AcceptedOne, SentOne};
+    ghost use Rattle.call_cell.specs.Shapes.{SamePorts};
 
     /// Judges the packet in the buffer's first `len` bytes, which the leg's port for a half received, opens it in place, learns
     /// its source for that half, counts it as what it is and keeps its last report block. After a refusal nothing has changed.
@@ -339,6 +341,8 @@ impl<O: OutEnd> Leg<O> {
         ensures accepts { (known : Half → Option Addr) (notes : List Note) → ReceivingFor self.old.signal self.old.receiving known notes →
             LegAccepts (judged_leg self.old.signal (known half) notes (kind_on self.old.signal half (take len buf.old)) source (take len buf.old))
             half (kind_on self.old.signal half (take len buf.old)) source known notes self.old self.new buf.new (length_in result) }
+        ensures counts { AcceptedOne self.old.counts self.new.counts }
+        ensures ends { self.new.sending.ends ≡ self.old.sending.ends }
     {
         let Some(signal) = self.signal else {
             return Err(Refused::NotAnswered);
@@ -366,6 +370,8 @@ impl<O: OutEnd> Leg<O> {
             HasNamed (outbound_of self.old.signal) keys self.old.sending →
             LegForwardsBy O.log O.faults (in_force_with self.old.signal (learner_in (way_on self.old.signal (half_of head)) self.old.receiving)) keys notes
             (half_of head) (way_on self.old.signal (half_of head)) (take len buf.old) self.old self.new buf.new result }
+        ensures counts { SentOne self.old.counts self.new.counts }
+        ensures ports { SamePorts O.log self.old.sending.ends self.new.sending.ends }
     {
         let way = way_on(&self.signal, head.half());
         let Some((signal, learner)) = self.committed(way) else {

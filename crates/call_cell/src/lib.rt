@@ -17,8 +17,8 @@
 //! same of offers, answers, the question whether the call is due, and its end, `specs/LegReports.antt` of reports; they stand over
 //! `specs/LegHistories.antt` for legs, `specs/LegKeys.antt` for their keys, `specs/Counts.antt` for their counts,
 //! `specs/DroppedLegs.antt` for legs that go, `specs/TakenEnds.antt` for ends that are taken, `specs/GivenEnds.antt` for ends that are given again, `specs/Parts.antt` for the parts of a leg, `specs/Contexts.antt` for the contexts of
-//! one key, and `specs/Heads.antt` for the heads of packets. `specs/Shapes.antt` says what the calls make of a cell's legs, keys and
-//! leases whatever its history. `proofs/rows` has worked examples.
+//! one key, and `specs/Heads.antt` for the heads of packets. `specs/Shapes.antt` says what the calls make of a cell's legs, keys,
+//! leases, out ends and counts whatever its history. `proofs/rows` has worked examples.
 #![tactic(auto)]
 
 mod cell;

@@ -3,7 +3,7 @@ ghost use Rattle.call_cell.specs.declared.leg.Leg.{Leg};
 ghost use Rattle.port_pool.specs.Signals.{side_eq};
 ghost use Rattle.call_cell.specs.LegHistories.{AreApart};
 ghost use Rattle.call_cell.specs.Preparations.{is_key_at, put_if, with_keys};
-ghost use Rattle.call_cell.specs.Shapes.{ends_of_legs, cell_leg_shapes, with_prepared};
+ghost use Rattle.call_cell.specs.Shapes.{counts_of_legs, ends_of_legs, cell_leg_shapes, with_prepared};
 
 use crate::leg::Leg;
 use crate::prepare::PreparedKey;
@@ -47,6 +47,7 @@ fn put_key<O>(legs: &mut [Leg<O>], key: PreparedKey)
     ensures legs { AreApart legs.old → legs.new ≡ map (λ leg. put_if key leg) legs.old }
     ensures shape { cell_leg_shapes legs.new ≡ with_prepared (key ∷ []) (cell_leg_shapes legs.old) }
     ensures ends { ends_of_legs legs.new ≡ ends_of_legs legs.old }
+    ensures counts { counts_of_legs legs.new ≡ counts_of_legs legs.old }
 {
     if let Some(at) = place_for(legs, &key) {
         legs[at].put(key.suite, key.contexts);
@@ -58,6 +59,7 @@ pub(crate) fn put_keys<O>(legs: &mut [Leg<O>], keys: Vec<PreparedKey>)
     ensures legs { AreApart legs.old → legs.new ≡ map (λ leg. with_keys keys.items leg) legs.old }
     ensures shape { cell_leg_shapes legs.new ≡ with_prepared keys.items (cell_leg_shapes legs.old) }
     ensures ends { ends_of_legs legs.new ≡ ends_of_legs legs.old }
+    ensures counts { counts_of_legs legs.new ≡ counts_of_legs legs.old }
 {
     let mut keys = keys;
     while let Some(key) = keys.pop() {

@@ -171,6 +171,7 @@ impl<O> Sending<O> {
 impl<O: OutEnd> Sending<O> {
     ghost use Rattle.relay_outside.specs.declared.address.Addr.{Addr};
     ghost use Rattle.call_cell.specs.Parts.{SendingFor, HasNamed, ProtectsTo, SameEnds, SameKeys, SameNumbers, SendsBy, ForwardsTo, wrapped_by, wrapped_for};
+    ghost use Rattle.call_cell.specs.Shapes.{SamePorts};
 
     /// Protects in place the packet in the buffer's first `len` bytes, under the key of this number where there is one, and
     /// returns its length. After a refusal nothing has changed.
@@ -234,6 +235,7 @@ impl<O: OutEnd> Sending<O> {
         ensures ends { is_some self.new.ends ≡ is_some self.old.ends }
         ensures forwards { (leg : Holder) (keys : ℕ → Option NewKey) (notes : ℕ → List Note) → SendingFor leg keys notes self.old → HasNamed signal.now.outbound keys self.old →
             ForwardsTo O.log O.faults (wrapped_for keys notes signal.now (half_of head) (take len buf.old)) leg keys notes half from to self.old self.new buf.new result }
+        ensures ports { SamePorts O.log self.old.ends self.new.ends }
     {
         if signal.hold || self.ends.is_none() {
             return Err(Lost::Hold);

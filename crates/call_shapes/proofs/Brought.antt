@@ -1,6 +1,7 @@
 -- What an offer brings to a cell, by what was prepared and by the event.
-use Rattle.std.proofs.Common.{◌≡◌, refl, sym, ◌∙◌, ap, ℕ, zero, suc, ◌<◌, Bool, true, false, List, [], ◌∷◌, Option, filter, map, arith}
+use Rattle.std.proofs.Common.{◌≡◌, refl, sym, ◌∙◌, ap, ℕ, Bool, true, false, List, [], ◌∷◌, Option, filter, map}
 use Rattle.std.specs.Prelude.{not, is_some, slice_index_or, ◌++◌}
+use Rattle.std.specs.List.{filter_map}
 use Rattle.relay_outside.specs.declared.settings.Config.{Config}
 use Rattle.sdes_lines.specs.declared.crypto_line.Suite.TheVariants.{Tag80, Tag32}
 use Rattle.histories.specs.Words.{In, here, there, has}
@@ -12,9 +13,11 @@ use Rattle.call_cell.specs.declared.leg.Leg.{Leg}
 use Rattle.call_cell.specs.declared.prepare.Prepare as prepared
 use Rattle.call_cell.specs.declared.cell.Cell.{Cell}
 use Rattle.call_cell.specs.Cells as event
+use Rattle.call_cell.specs.CellEnds.{parts_of}
 use Rattle.call_cell.specs.Parts.{key_number_in}
 use Rattle.call_cell.specs.Preparations.{IsFreshLeg, PrepareFor, added}
-use Rattle.call_cell.specs.Shapes.{CellLegShape, cell_leg_shape, cell_leg_shapes, cell_shape, offered_shape, with_key_numbers, IsSmall}
+use Rattle.call_cell.specs.Shapes.{CellLegShape, LegsGo, ends_of_legs, counts_of_legs, cell_leg_shape, cell_leg_shapes, cell_shape, offered_shape, with_key_numbers, IsSmall}
+use Rattle.call_cell.proofs.Shaped.{small_in}
 use Rattle.call_board.specs.Returns.{leg_lease}
 use Rattle.call_board.proofs.Sieves.{filter_alike}
 use Rattle.call_shapes.proofs.Sieves.{flag_is}
@@ -72,3 +75,20 @@ offer_is_event old signal call keys dropped for leased small =
     (λ leg i. ap not (for.drops leg.holder.section (small.sections leg i) ∙ sym (flag_is dropped leg.holder.section (small.sections leg i)))) in
     ap (λ (those : List CellLegShape). record (cell_shape old) { call = (offered_shape signal.dropped those keys call (cell_shape old)).call; legs = with_key_numbers keys (filter (λ (leg : CellLegShape). not (slice_index_or signal.dropped leg.holder.section false)) (cell_leg_shapes old.legs.items) ++ those) }) news
     ∙ ap (λ (kept : List CellLegShape). record (cell_shape old) { call = (offered_shape signal.dropped [] keys call (cell_shape old)).call; legs = with_key_numbers keys (kept ++ map (brought_shape old.config) (added signal)) }) stay
+
+-- the legs that go by the flags of what was prepared are those of the dropped sections
+pub flagged_go : {O : Type 0} (signal : prepared.Prepare O) (keys : List NewKey) (dropped : List ℕ) (old new : List (Leg O)) (gone : List (Lease × O × O))
+    → PrepareFor signal keys dropped → IsSmall (cell_leg_shapes old)
+    → LegsGo (λ leg. slice_index_or signal.dropped leg.section false) signal.legs.items old new gone
+    → LegsGo (λ leg. has dropped leg.section) signal.legs.items old new gone
+flagged_go {O} signal keys dropped old new gone for small go =
+    let flagged : Leg O → Bool = λ (leg : Leg O). slice_index_or signal.dropped leg.holder.section false in
+    let named : Leg O → Bool = λ (leg : Leg O). has dropped leg.holder.section in
+    let agree : (leg : Leg O) → In leg old → flagged leg ≡ named leg = λ leg i. for.drops leg.holder.section (small_in old small leg i) in
+    let away = filter_alike flagged named old agree in
+    let stay = filter_alike (λ (leg : Leg O). not (flagged leg)) (λ (leg : Leg O). not (named leg)) old (λ leg i. ap not (agree leg i)) in
+    record {
+      went = go.went ∙ ap (λ (l : List (Leg O)). filter_map (λ (leg : Leg O). parts_of leg) l) away;
+      ends = go.ends ∙ ap (λ (l : List (Leg O)). ends_of_legs l ++ ends_of_legs signal.legs.items) stay;
+      counts = go.counts ∙ ap (λ (l : List (Leg O)). counts_of_legs l ++ counts_of_legs signal.legs.items) stay;
+    }

@@ -24,3 +24,4 @@ pub mod PlanOffers
 pub mod NewHolders
 pub mod NumberedSteps
 pub mod BoardOffers
+pub mod Comings

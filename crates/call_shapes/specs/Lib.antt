@@ -4,3 +4,4 @@ pub mod WholeRelay
 pub mod Turns
 pub mod OfferFits
 pub mod NumberedTurns
+pub mod Comings

@@ -20,6 +20,14 @@ ghost use Rattle.call_board.specs.Returns.{leg_lease};
 ghost use Rattle.call_board.specs.Boards.{AreOut};
 ghost use Rattle.offer_answer.specs.Shapes.{DialogShape};
 ghost use Rattle.call_board.specs.Shapes.{LiveShape, BoardShape, IsFreeCell, shape_numbered, after_returns, LeasesLegs};
+ghost use Rattle.call_cell.specs.CellHistories.{CellFor};
+ghost use Rattle.call_cell.specs.Cells.{CellEntry, since_end};
+ghost use Rattle.call_cell.specs.Commits.{NamesKeys};
+ghost use Rattle.call_cell.specs.Preparations.{CanCome};
+ghost use Rattle.call_cell.specs.Shapes.{cell_shape};
+ghost use Rattle.call_cell.specs.declared.cell.Cell as cell;
+ghost use Rattle.call_cell.specs.declared.prepare.Prepare as prepared;
+ghost use Rattle.call_shapes.specs.Comings.{AnswerComesTo, OfferComesTo, HaveNewNumbers};
 ghost use Rattle.call_shapes.specs.Events.{shape_after_event, section_flags};
 ghost use Rattle.call_shapes.specs.Agreement.{CallAgrees};
 ghost use Rattle.call_shapes.specs.OfferFits.{Offering, OfferFits, OfferAgrees, IsNewCall, offer_event, cell_holders};
@@ -177,4 +185,13 @@ pub fn numbered_returns()
         AreOut relay.board.pool (map (leg_lease config) (cell_holders (relay.cells call.cell))) }
     ensures undone { (config : Config) (relay : RelayShape) (legs : List NewLeg) (leases : List Lease) (between : Pairs) → IsWholeRelay config relay →
         LeasesLegs relay.board.pool legs leases between → AreOut between leases }
+{}
+
+/// Theorem (no run-time code): an offer or an answer that can come to a cell by what the cell keeps can come after each history that the cell stands
+/// for, an offer where no key that the history brought since the last end has the number of one of its keys.
+pub fn comings_are_for_all<O>()
+    ensures offer { (config : Config) (c : cell.Cell O) (h : List CellEntry) (signal : prepared.Prepare O) (call : ℕ) (keys : List NewKey) (dropped : List ℕ) →
+        CellFor config c h → OfferComesTo config (cell_shape c) signal keys dropped → HaveNewNumbers (since_end h) keys → CanCome config (since_end h) signal call keys dropped }
+    ensures answer { (config : Config) (c : cell.Cell O) (h : List CellEntry) (signal : List SectionSignal) →
+        CellFor config c h → AnswerComesTo (cell_shape c) signal → NamesKeys (since_end h) signal }
 {}

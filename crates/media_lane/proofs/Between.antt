@@ -13,11 +13,13 @@ use Rattle.relay_core.specs.declared.part.Part.{Part}
 use Rattle.relay_core.specs.Entries.{Entry}
 use Rattle.relay_core.specs.Records.{Made, entry_of, list_of}
 use Rattle.relay_core.specs.FirstPlaces.{AreParts}
+use Rattle.relay_core.specs.WholeParts.{AreWholeParts}
 use Rattle.relay_core.specs.NestedMoments.{IsHanded}
 use Rattle.relay_core.specs.Joins.{TakesOwnPairs}
 use Rattle.relay_core.specs.ReturnedPairs.{AreReturned, is_boards}
 use Rattle.relay_core.specs.Turns.{Numbered, IsOfLane, made_by}
 use Rattle.relay_core.proofs.Joins.{handed_joined}
+use Rattle.relay_core.proofs.KeptWhole.{lanes_whole}
 use Rattle.relay_core.proofs.Recording.{lane_no_boards, returned_behind}
 use Rattle.media_lane.specs.Receipts.{KeepsList}
 use Rattle.board_turns.specs.Between.{board_of, IsBetween}
@@ -59,6 +61,8 @@ module _ {M I O T : Type 0} {g : _} where
           main = s.same.3 ∙ b.main;
           idle = s.idle;
           parts = subst (λ (l : List (Part I O)). AreParts config l) (sym s.same.1) b.parts;
+          whole_parts = subst (λ (l : List (Part I O)). AreWholeParts config l) (sym s.same.1) b.whole_parts;
+          whole = lanes_whole config old new s.same.1 rows s.rows_are s.of_lane b.whole;
           numbered = numbered;
           orderly = s.list.orderly b.orderly;
           handed = subst (λ (xs : List (table.Entry Made T)). IsHanded xs) (sym s.rows_are)

@@ -23,7 +23,7 @@ use Rattle.relay_core.specs.declared.part.Part.TheVariants as part
 use Rattle.relay_core.specs.Entries.{Entry}
 use Rattle.relay_core.specs.Records.{Made, entry_of, logged_relay}
 use Rattle.relay_core.specs.Steps.{Relates, with_take, CellRelayed}
-use Rattle.call_cell.specs.Shapes.{cell_shape}
+use Rattle.call_cell.specs.Shapes.{KeepsPorts, CountsRoseByOne, cell_shape}
 use Rattle.relay_core.specs.Turns.{made_by}
 use Rattle.media_lane.specs.Busy.{Gives}
 use Rattle.media_lane.specs.Receipts.{IsReceiptOf, KeepsList}
@@ -53,19 +53,23 @@ put_packet number packet bytes front shown is within put =
 -- The step.
 
 pub part_relays : {I O : Type 0} (ot : O → EndLog OutCall) (oc : O → ℕ) (p q : cells.Receipt) (now : ℕ) (x : Part I O) (old new : cell.Cell O) (buf : List ℕ) (outcome : Outcome)
-    → x ≡ part.Cell old → q ≡ p → cell_shape new ≡ cell_shape old → ((config : Config) (h : List CellEntry) (take : ℕ) → CellFor config old h → CellRelays ot oc config old new h (with_take take q) now buf outcome)
+    → x ≡ part.Cell old → q ≡ p → cell_shape new ≡ cell_shape old → CountsRoseByOne old.legs.items new.legs.items → KeepsPorts ot old.legs.items new.legs.items
+    → ((config : Config) (h : List CellEntry) (take : ℕ) → CellFor config old h → CellRelays ot oc config old new h (with_take take q) now buf outcome)
     → RelaysPart ot oc p now x buf outcome (part.Cell new)
-part_relays {I} ot oc p q now x old new buf outcome is same shape relays =
+part_relays {I} ot oc p q now x old new buf outcome is same shape counts ports relays =
     subst (λ (y : Part I _). RelaysPart ot oc p now y buf outcome (part.Cell new)) (sym is)
-    (shape, λ config h take for. subst (λ (r : cells.Receipt). CellRelays ot oc config old new h (with_take take r) now buf outcome) same (relays config h take for))
+    (shape, counts, ports, λ config h take for. subst (λ (r : cells.Receipt). CellRelays ot oc config old new h (with_take take r) now buf outcome) same (relays config h take for))
 
 module _ {I O : Type 0} (it : I → EndLog InCall) (ic : I → ℕ) (ot : O → EndLog OutCall) (oc : O → ℕ) where
   cell_relayed : (p : cells.Receipt) (now : ℕ) (buf : List ℕ) (outcome : Outcome) (old new : cell.Cell O) → cell_shape new ≡ cell_shape old
+      → CountsRoseByOne old.legs.items new.legs.items → KeepsPorts ot old.legs.items new.legs.items
       → ((config : Config) (h : List CellEntry) (take : ℕ) → CellFor config old h → CellRelays ot oc config old new h (with_take take p) now buf outcome)
       → CellRelayed ot oc old (relay_made p now (max now old.moment) outcome) (logged_relay p outcome) new
-  cell_relayed p now buf outcome old new shape relays = record {
+  cell_relayed p now buf outcome old new shape counts ports relays = record {
     is_told = refl;
     shape = shape;
+    counts = counts;
+    legs = ports;
     buffer = buf;
     steps = λ config h take for. (ap (λ (m : ℕ). max now m) for.moment, relays config h take for);
   }
@@ -73,7 +77,7 @@ module _ {I O : Type 0} (it : I → EndLog InCall) (ic : I → ℕ) (ot : O → 
   -- it is a step of the machine
   pub relates : (p : cells.Receipt) (now : ℕ) (buf : List ℕ) (outcome : Outcome) (x y : Part I O) → RelaysPart ot oc p now x buf outcome y
       → Relates it ic ot oc x (relay_by x p now outcome) y
-  relates p now buf outcome (part.Cell old) (part.Cell new) r = cell_relayed p now buf outcome old new r.0 r.1
+  relates p now buf outcome (part.Cell old) (part.Cell new) r = cell_relayed p now buf outcome old new r.0 r.1 r.2 r.3
   relates p now buf outcome (part.Cell old) (part.Board new) r = absurd r
   relates p now buf outcome (part.Cell old) (part.Pair new) r = absurd r
   relates p now buf outcome (part.Board old) y r = absurd r
@@ -82,10 +86,11 @@ module _ {I O : Type 0} (it : I → EndLog InCall) (ic : I → ℕ) (ot : O → 
   module _ {M : Type 0} {g : _} (p : cells.Receipt) (now : ℕ) (outcome : Outcome) (old new : Hand M (Part I O) Made (Unit {0}) g) (number : ℕ) (buf bytes : List ℕ)
       (Tried : Type 0) (found : Tried) (are : bytes ≡ take (bytes_left outcome) buf) where
     made_of : (a b : cell.Cell O) → Gives it ic ot oc old p.holder.cell number (part.Cell a) → cell_shape b ≡ cell_shape a
+        → CountsRoseByOne a.legs.items b.legs.items → KeepsPorts ot a.legs.items b.legs.items
         → ((config : Config) (h : List CellEntry) (take : ℕ) → CellFor config a h → CellRelays ot oc config a b h (with_take take p) now buf outcome)
         → entries new ≡ entries old ++ entry p.holder.cell number (relay_made p now (max now a.moment) outcome) (tt {0}) ∷ []
         → MakesRelay it ic ot oc Tried p now outcome bytes old new
-    made_of a b given shape relays list_is = record {
+    made_of a b given shape counts ports relays list_is = record {
       number = number;
       moment = max now a.moment;
       list_is = list_is;
@@ -93,7 +98,7 @@ module _ {I O : Type 0} (it : I → EndLog InCall) (ic : I → ℕ) (ot : O → 
       before = a;
       after = b;
       given = given;
-      step = cell_relayed p now buf outcome a b shape relays;
+      step = cell_relayed p now buf outcome a b shape counts ports relays;
       are_sent = λ config h for. (let r = relays config h p.take for in
           subst (λ (s : List ℕ). AreSent outcome (deed config (since_end h) p (sent_ok outcome)).sending s) (sym are) (sent_bytes config h p buf outcome r.outcome r.front));
     }
@@ -101,7 +106,7 @@ module _ {I O : Type 0} (it : I → EndLog InCall) (ic : I → ℕ) (ot : O → 
     -- what a call that tried so has made
     pub relays_by : (x y : Part I O) → Gives it ic ot oc old p.holder.cell number x → RelaysPart ot oc p now x buf outcome y
         → entries new ≡ entries old ++ entry p.holder.cell number (relay_by x p now outcome) (tt {0}) ∷ [] → MakesRelay it ic ot oc Tried p now outcome bytes old new
-    relays_by (part.Cell a) (part.Cell b) given r list_is = made_of a b given r.0 r.1 list_is
+    relays_by (part.Cell a) (part.Cell b) given r list_is = made_of a b given r.0 r.1 r.2 r.3 list_is
     relays_by (part.Cell a) (part.Board b) given r list_is = absurd r
     relays_by (part.Cell a) (part.Pair b) given r list_is = absurd r
     relays_by (part.Board a) y given r list_is = absurd r

@@ -20,7 +20,7 @@ use Rattle.relay_core.specs.declared.part.Part.TheVariants as part
 use Rattle.relay_core.specs.Entries.{Cell}
 use Rattle.relay_core.specs.Records.{Made, nothing_left, logged_relay}
 use Rattle.relay_core.specs.Steps.{with_take, CellRelayed}
-use Rattle.call_cell.specs.Shapes.{cell_shape}
+use Rattle.call_cell.specs.Shapes.{KeepsPorts, CountsRoseByOne, cell_shape}
 use Rattle.media_lane.specs.declared.receipt.Receipt.{Receipt}
 use Rattle.media_lane.specs.declared.answers.Relayed.{Relayed}
 use Rattle.media_lane.specs.declared.answers.Relayed.TheVariants as answer
@@ -53,7 +53,7 @@ bytes_sent outcome buf = take (bytes_left outcome) buf
 -- a relay of this packet in a cell, whichever number its take has, handed this moment, after which the buffer holds these bytes
 abbrev pub RelaysPart : {I O : Type 0} → (O → EndLog OutCall) → (O → ℕ) → cells.Receipt → ℕ → Part I O → List ℕ → Outcome → Part I O → Type 0
 RelaysPart log faults p now (part.Cell old) buf outcome (part.Cell new) =
-    (cell_shape new ≡ cell_shape old)
+    (cell_shape new ≡ cell_shape old) × CountsRoseByOne old.legs.items new.legs.items × KeepsPorts log old.legs.items new.legs.items
     × ((config : Config) (h : List CellEntry) (take : ℕ) → CellFor config old h → CellRelays log faults config old new h (with_take take p) now buf outcome)
 RelaysPart log faults p now _ buf outcome _ = ⊥
 

@@ -22,12 +22,14 @@ use Rattle.call_board.specs.Fits.{FitsControl}
 use Rattle.call_board.specs.KeptReplies.{is_kept, kept_reply, keepings}
 use Rattle.call_board.specs.Pairs.{held}
 use Rattle.call_board.specs.Replies.{fault_datagram}
+use Rattle.call_board.specs.Shapes.{BoardShape, board_shape}
 use Rattle.call_board.specs.Views.{View, view_of, view_at_moment, board_last_moment, with_keeping}
 use Rattle.call_board.specs.Whole.{with_reply, view_after, after_act}
 use Rattle.call_board.proofs.Done.{IsDue, due_fits, repeated_due, out_of_memory_due}
 use Rattle.call_board.proofs.Entries.{whole, used_now}
 use Rattle.relay_core.specs.declared.part.Part.{Part}
 use Rattle.relay_core.specs.Entries.{board_history}
+use Rattle.relay_core.specs.KeptAfter.{IsWholeWith}
 use Rattle.relay_core.specs.Records.{Made}
 use Rattle.relay_core.specs.Scripts.{script}
 use Rattle.relay_core.specs.Turns.{GainsNested, made_by}
@@ -88,8 +90,9 @@ reply_case config h e c request (Some text) v board source cookie is shows =
 module _ {M I O T : Type 0} {g : _} where
   -- a board that shows as much stands in the turn as well
   pub turn_keeps : (config : Config) (turns : Turns M (Part I O) Made T) (hand : Hand M (Part I O) Made T g) (entry_id : BoardEntryId) (was board : Board) (log : Option (List PortCall))
-      → ((config : Config) (v : View) → BoardMatches config was v → BoardMatches config board v) → InTurn config turns hand entry_id was log → InTurn config turns hand entry_id board log
-  turn_keeps config turns hand entry_id was board log keeps turn = record {
+      → ((config : Config) (v : View) → BoardMatches config was v → BoardMatches config board v) → board_shape board ≡ board_shape was
+      → InTurn config turns hand entry_id was log → InTurn config turns hand entry_id board log
+  turn_keeps config turns hand entry_id was board log keeps same turn = record {
     may = turn.may;
     above = turn.above;
     low = turn.low;
@@ -97,6 +100,7 @@ module _ {M I O T : Type 0} {g : _} where
     timely = turn.timely;
     shows = keeps config (view_at_moment (view_of config (board_history (made_by hand) entry_id.number)) entry_id.moment) turn.shows;
     opens = turn.opens;
+    whole = subst (λ (shape : BoardShape). IsWholeWith config hand shape) (sym same) turn.whole;
   }
 
   -- what the board keeps after the entry

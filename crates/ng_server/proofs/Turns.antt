@@ -1,5 +1,5 @@
 -- The board's turn of a datagram, from its take to its put.
-use Rattle.std.proofs.Common.{◌≡◌, refl, sym, subst, ℕ, max, arith, List, ◌∷◌, Option}
+use Rattle.std.proofs.Common.{◌≡◌, ◌∙◌, refl, sym, subst, ℕ, max, arith, List, ◌∷◌, Option, Some}
 use Rattle.relay_outside.specs.declared.ports.InCall.{InCall}
 use Rattle.relay_outside.specs.declared.ports.OutCall.{OutCall}
 use Rattle.relay_outside.specs.declared.ports.PortCall.{PortCall}
@@ -16,8 +16,9 @@ use Rattle.call_board.specs.Boards.{BoardMatches}
 use Rattle.call_board.specs.Fits.{FitsBoard, IsFitting}
 use Rattle.call_board.specs.Pairs.{held}
 use Rattle.call_board.specs.Views.{View, view_of, view_at_moment, board_last_moment}
-use Rattle.call_board.specs.Shapes.{BoardShape}
+use Rattle.call_board.specs.Shapes.{BoardShape, board_shape}
 use Rattle.relay_core.specs.PartShapes.{board_shape_in}
+use Rattle.relay_core.specs.KeptAfter.{IsWholeWith}
 use Rattle.relay_core.specs.declared.part.Part.{Part}
 use Rattle.relay_core.specs.declared.part.Part.TheVariants as part
 use Rattle.relay_core.specs.Entries.{board_history}
@@ -30,6 +31,7 @@ use Rattle.media_ports.specs.OpenPorts.{LogsHeld}
 use Rattle.board_turns.specs.Acts.{InTurn}
 use Rattle.board_turns.specs.Between.{board_of, IsBetween}
 use Rattle.board_turns.specs.CallEnds.{leg_pairs}
+use Rattle.board_turns.proofs.Wholeness.{same_shape}
 use Rattle.board_turns.proofs.Betweens.{at_turn, Begins, Ended, begins_whole, nested_history, relates_put, turn_ends}
 use Rattle.board_turns.specs.Controls.{RequestRecord, control_of, entry_at, moment_at, control_made}
 use Rattle.board_turns.proofs.StopTurns.{moved, stood}
@@ -64,8 +66,8 @@ module _ {M I O T : Type 0} {g : _} where
   pub taken : (config : Config) (turns : Turns M (Part I O) Made T) (old mid : Hand M (Part I O) Made T g) (turn : Turn M (Part I O) Made T) (number moment now : ℕ) (place : Part I O)
       (was new : board.Board) (log : Option (List PortCall)) → entries mid ≡ entries old → Begins config turns mid turn → number ≡ front_of turn → place ≡ state_of turn → place ≡ part.Board was
       → ((config : Config) (v : View) → BoardMatches config was v → BoardMatches config new (view_at_moment v now) × (moment ≡ max now v.moment))
-      → LogsHeld config log (leg_pairs (held (board_of (made_by old)))) → Taken config turns mid turn number moment now new log
-  taken config turns old mid turn number moment now place was new log same begins number_is place_is is advances opens =
+      → board_shape new ≡ board_shape was → LogsHeld config log (leg_pairs (held (board_of (made_by old)))) → Taken config turns mid turn number moment now new log
+  taken config turns old mid turn number moment now place was new log same begins number_is place_is is advances shape_is opens =
       let n = front_of turn in
       let h = board_history (made_by mid) n in
       let stands = stood config h place was is (moved config h (state_of turn) place place_is begins.board) in
@@ -79,6 +81,7 @@ module _ {M I O T : Type 0} {g : _} where
         timely = omega (arith, late);
         shows = at_turn config h new now moment late advanced.0;
         opens = subst (λ (l : List BoardEntry). LogsHeld config log (leg_pairs (held l))) (sym (begins_whole config turns old mid turn same begins)) opens;
+        whole = same_shape config mid was new shape_is (begins.whole was (sym place_is ∙ is));
       } in
       record {
         in_turn = subst (λ (k : ℕ). InTurn config turns mid (record { number = k; moment = moment }) new log) (sym number_is) at;
@@ -123,18 +126,19 @@ module _ {M I O T : Type 0} {g : _} where
       nested_history config mid nested (front_of turn) (moment_at h now) (front_of turn) (entry_at config h (moment_at h now) x) begins.orderly deals.fits deals.gained
 
   -- the datagram's entry was put
-  pub control_ends : (kept : Option BoardShape) (config : Config) (turns : Turns M (Part I O) Made T) (old mid nested new : Hand M (Part I O) Made T g) (turn : Turn M (Part I O) Made T) (outcome : T)
+  pub control_ends : (shape : BoardShape) (config : Config) (turns : Turns M (Part I O) Made T) (old mid nested new : Hand M (Part I O) Made T g) (turn : Turn M (Part I O) Made T) (outcome : T)
       (now : ℕ) (x : RequestRecord) (place : Part I O) (log : Option (List PortCall))
       → IsBetween config turns old → IsSameHand old mid × (entries mid ≡ entries old) → GainsTurn 0 turn old mid → Begins config turns mid turn
       → IsSameHand mid nested × SameTurns mid nested
       → DealsAt config mid nested (front_of turn) (moment_at (board_history (made_by mid) (front_of turn)) now) x place log
-      → IsSameHand nested new → EndsTurn (place_of turn) (front_of turn) (control_made config (board_history (made_by nested) (front_of turn)) now x kept) outcome nested new
+      → IsSameHand nested new → EndsTurn (place_of turn) (front_of turn) (control_made config (board_history (made_by nested) (front_of turn)) now x (Some shape)) outcome nested new
+      → IsWholeWith config nested shape
       → Ended config turns old new (entry_at config (board_of (made_by old)) (moment_at (board_of (made_by old)) now) x)
-  control_ends kept config turns old mid nested new turn outcome now x place log b same turned begins sames deals again ended =
+  control_ends shape config turns old mid nested new turn outcome now x place log b same turned begins sames deals again ended whole =
       let h = board_history (made_by mid) (front_of turn) in
-      let is : EndsTurn (place_of turn) (front_of turn) (control_made config h now x kept) outcome nested new =
-      subst (λ (k : List BoardEntry). EndsTurn (place_of turn) (front_of turn) (control_made config k now x kept) outcome nested new)
+      let is : EndsTurn (place_of turn) (front_of turn) (control_made config h now x (Some shape)) outcome nested new =
+      subst (λ (k : List BoardEntry). EndsTurn (place_of turn) (front_of turn) (control_made config k now x (Some shape)) outcome nested new)
       (control_history config turns mid nested turn now x place log begins deals) ended in
       subst (λ (k : List BoardEntry). Ended config turns old new (entry_at config k (moment_at k now) x)) (begins_whole config turns old mid turn same.1 begins)
-      (turn_ends config turns old mid nested new turn (control_made config h now x kept) outcome (act.Turn (control_of config h (moment_at h now) x)) (moment_at h now)
-      b same turned begins.above sames deals.gained refl refl refl deals.fits again is)
+      (turn_ends config turns old mid nested new turn (control_made config h now x (Some shape)) outcome (act.Turn (control_of config h (moment_at h now) x)) (moment_at h now)
+      b same turned begins.above sames deals.gained refl refl refl deals.fits again is shape refl whole)

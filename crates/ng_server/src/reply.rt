@@ -5,6 +5,7 @@ ghost use Rattle.relay_outside.specs.DeviceLogs.{HasCause};
 ghost use Rattle.cookie_cache.specs.Keepings.{IsCookie};
 ghost use Rattle.cookie_cache.specs.Caches.{HasSparePlace};
 ghost use Rattle.call_board.specs.Boards.{BoardMatches};
+ghost use Rattle.call_board.specs.Shapes.{board_shape};
 ghost use Rattle.call_board.specs.Views.{View};
 ghost use Rattle.ng_server.specs.SentReplies.{SendsOnce};
 ghost use Rattle.ng_server.specs.Requests.{datagram_to_send, with_kept};
@@ -29,6 +30,7 @@ pub(crate) fn reply_to<N: ControlLink>(
     requires place { HasSparePlace board.old.replies }
     ensures sent { SendsOnce request.now.source (datagram_to_send request.now.cookie.now request.now.body.now reply) result (N.log link.old) (N.log link.new) }
     ensures kept { (config : Config) (v : View) → BoardMatches config board.old v → BoardMatches config board.new (with_kept request.now moment reply v) }
+    ensures shape { board_shape board.new ≡ board_shape board.old }
     ensures cause { HasCause (N.faults link.old) (N.faults link.new) result }
 {
     let Some(reply) = reply else {

@@ -2,13 +2,14 @@
 ghost use Rattle.std.specs.Prelude.{◌≡◌, ◌≤◌, [], None, false, IfOk, OnOk, length};
 ghost use Rattle.relay_outside.specs.DeviceLogs.{HasCause};
 ghost use Rattle.turn_table.specs.Hands.{entries};
-ghost use Rattle.board_turns.specs.BoardTurns.{Begins, IsSameBoard, Nests, past_of};
+ghost use Rattle.board_turns.specs.BoardTurns.{Begins, IsSameBoard, IsWholeTurn, Nests, past_of};
 ghost use Rattle.ng_command.specs.Meanings.{said};
 ghost use Rattle.cookie_cache.specs.Keepings.{IsCookie};
 ghost use Rattle.cookie_cache.specs.Caches.{HasSparePlace};
 ghost use Rattle.control_messages.specs.Bodies.{dictionary_in, said_by, description_in};
 ghost use Rattle.call_board.specs.Requests.{ReadsBody, command_in};
 ghost use Rattle.call_board.specs.Boards.{BoardMatches};
+ghost use Rattle.call_board.specs.Shapes.{board_shape};
 ghost use Rattle.call_board.specs.Views.{View};
 ghost use Rattle.relay_outside.specs.declared.settings.Config.{Config};
 ghost use Rattle.board_turns.specs.Controls.{control_of, entry_pairs};
@@ -92,6 +93,7 @@ fn prepare(alloc: Global, board: &mut Board, request: &Request) -> Result<Prepar
     ensures reads { IfOk result (λ prepared. request.now.too_long ≡ false → ReadsBody request.now.body.now (dictionary_in prepared.asked)) }
     ensures command { IfOk result (λ prepared. command_in request.now.too_long (dictionary_in prepared.asked) ≡ said_by prepared.asked.command) }
     ensures small { IfOk result (λ prepared. IfOk prepared.asked.command (λ command. length (description_in (said command)) ≤ length request.now.body.now)) }
+    ensures shape { board_shape board.new ≡ board_shape board.old }
 {
     board.reserve_reply()?;
     let Ok(cookie) = Text::copy_of(alloc, request.cookie) else {
@@ -126,6 +128,7 @@ pub(crate) fn deal<N: ControlLink, P: PortMaker, K: KeySource, R: Wait>(
         result.sent (N.log link.old) (N.log link.new) }
     ensures cause { HasCause (N.faults link.old) (N.faults link.new) result.sent }
     ensures empty { turn.new.gone.now ≡ [] }
+    ensures whole { IsWholeTurn turn.old → IsWholeTurn turn.new }
     ensures ties { PortsFollowRows turn.old.main.config.now (P.log turn.old.ports.now) (P.log turn.new.ports.now) (entries turn.old.main.hand.now) (entries turn.new.main.hand.now) }
     ensures later { (P.faults turn.old.ports.now ≤ P.faults turn.new.ports.now) × (K.faults keys.old ≤ K.faults keys.new) }
     ensures given { IsGivenBy turn.old.main.config.now (entry_pairs turn.old.main.config.now (past_of turn.old.main) turn.old.main.entry_id.moment (record_of request.now result.turn_record)) (given_by result.turn_record.device_answers) (P.faults turn.old.ports.now) (P.faults turn.new.ports.now)

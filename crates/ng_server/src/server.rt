@@ -13,6 +13,8 @@ ghost use Rattle.relay_core.specs.FirstPlaces.{AreParts};
 ghost use Rattle.relay_core.specs.Joins.{IsSound, AreStanding};
 ghost use Rattle.relay_core.specs.RowMoments.{AreTimed};
 ghost use Rattle.relay_core.specs.Continued.{AreLeftBy, IsSoundAfter, continued};
+ghost use Rattle.relay_core.specs.KeptAfter.{IsWholeNow};
+ghost use Rattle.relay_core.specs.WholeParts.{AreWholeParts};
 ghost use Rattle.relay_core.specs.EndLogs.{InOrder, InsAreTold, OutsAreTold};
 ghost use Rattle.media_ports.specs.Openings.{NoneOpened};
 ghost use Rattle.media_ports.specs.OpenPorts.{LogsHeld};
@@ -253,7 +255,8 @@ impl<P: PortMaker> Server<P> {
     ///
     /// The hand's list is then that of all steps of all places. With what each relay noted, protected and sent added to its outcome
     /// it is legal, and so safe. Where the places began with what an earlier list had left, it goes on from that one: both together
-    /// are legal, and leave what the places hold now.
+    /// are legal, and leave what the places hold now. Where what the board, the cells and the boxes keep goes together, so do the states
+    /// that are returned: a node may begin with them.
     pub fn close(self, hand: Hand<Relay<P::In, P::Out>>) -> Vec<Part<P::In, P::Out>>
         requires table { IsHandOf self.turns hand }
         requires all { parts hand ≡ 1024 }
@@ -264,6 +267,7 @@ impl<P: PortMaker> Server<P> {
         ensures legal { AreParts self.config (starts hand) → IsSound self.config (entries hand) → (l : List Entry) × (map as_logged l ≡ made_by hand) × Legal self.config l × Safe self.config l × OutsAreTold (entries hand) l }
         ensures ins { AreParts self.config (starts hand) → IsSound self.config (entries hand) → InOrder (made_by hand) → InsAreTold self.config (entries hand) }
         ensures timed { AreParts self.config (starts hand) → IsSound self.config (entries hand) → AreTimed (entries hand) }
+        ensures whole { AreWholeParts self.config (starts hand) → IsWholeNow self.config hand → AreWholeParts self.config result.items }
     {
         let Server { config: _, turns } = self;
         close_relay(turns, hand)

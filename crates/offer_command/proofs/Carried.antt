@@ -35,6 +35,8 @@ use Rattle.relay_core.specs.Records.{Made}
 use Rattle.relay_core.specs.Turns.{made_by}
 use Rattle.board_turns.specs.declared.board_turn.BoardEntryId.{BoardEntryId}
 use Rattle.board_turns.specs.Acts.{InTurn, DoesAct}
+use Rattle.call_board.specs.Shapes.{BoardShape, board_shape}
+use Rattle.relay_core.specs.KeptAfter.{IsWholeWith}
 use Rattle.control_messages.specs.declared.request.Request.{Request}
 use Rattle.board_turns.specs.declared.device_answers.DeviceAnswers.{DeviceAnswers}
 use Rattle.board_turns.specs.declared.device_answers.DeviceAnswers.TheVariants as device_answers
@@ -63,8 +65,8 @@ module _ {M I O T : Type 0} {g : _} where
   -- the turn with another state of the board that shows the same
   pub turn_on : (config : Config) (turns : Turns M (Part I O) Made T) (hand : Hand M (Part I O) Made T g) (entry_id : BoardEntryId) (board new : Board) (log : Option (List PortCall))
       → InTurn config turns hand entry_id board log → BoardMatches config new (view_at_moment (view_of config (board_history (made_by hand) entry_id.number)) entry_id.moment)
-      → InTurn config turns hand entry_id new log
-  turn_on config turns hand entry_id board new log turn shows = record {
+      → board_shape new ≡ board_shape board → InTurn config turns hand entry_id new log
+  turn_on config turns hand entry_id board new log turn shows same = record {
     may = turn.may;
     above = turn.above;
     low = turn.low;
@@ -72,6 +74,7 @@ module _ {M I O T : Type 0} {g : _} where
     timely = turn.timely;
     shows = shows;
     opens = turn.opens;
+    whole = subst (λ (shape : BoardShape). IsWholeWith config hand shape) (sym same) turn.whole;
   }
 
   -- a reply that was made

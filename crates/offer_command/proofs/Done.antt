@@ -1,13 +1,15 @@
 -- The legs that an offer drops may be closed, and then the turn did what its entry owes.
-use Rattle.std.proofs.Common.{◌≡◌, ◌∙◌, refl, sym, ap, subst, ℕ, ◌+◌, ◌≤◌, ◌⊎◌, inl, inr, Bool, true, false, cond, List, [], ◌∷◌, ◌++◌, map, length, Option, arith, IsSome}
+use Rattle.std.proofs.Common.{◌≡◌, ◌∙◌, refl, sym, ap, subst, ℕ, ◌+◌, ◌<◌, ◌≤◌, ◌⊎◌, inl, inr, Bool, true, false, cond, List, [], ◌∷◌, ◌++◌, map, length, Option, arith}
 use Rattle.relay_outside.specs.declared.ports.PortCall.{PortCall}
 use Rattle.relay_outside.specs.declared.settings.Config.{Config}
 use Rattle.turn_table.specs.declared.hands.Hand.{Hand}
+use Rattle.turn_table.specs.Hands.{starts}
 use Rattle.histories.specs.Words.{In, here, there, has}
 use Rattle.histories.proofs.Lists as lists
 use Rattle.histories.proofs.Lists.{in_append, mapped, maps, in_right, it_has}
 use Rattle.port_pool.specs.declared.pairs.Lease as pairs
 use Rattle.port_pool.specs.declared.holder.Holder.{Holder}
+use Rattle.port_pool.specs.Ports.{pair_count}
 use Rattle.call_cell.specs.Cells.{Prepare}
 use Rattle.offer_answer.specs.Rounds.{Round, OfferAsk, NewLeg, KeyPlace}
 use Rattle.offer_answer.specs.Rounds as round
@@ -17,23 +19,24 @@ use Rattle.call_board.specs.Pairs.{free, held, drawn_keys_from, closed_of}
 use Rattle.call_board.specs.Fits.{IsFitting, FitsBoard}
 use Rattle.call_board.specs.declared.board.Board.{Board}
 use Rattle.call_board.specs.declared.board_plan.BoardPlan.{BoardPlan}
+use Rattle.call_board.specs.Shapes.{board_shape}
 use Rattle.call_board.specs.Views.{View, view_of, view_at_moment, with_leases, with_returned}
 use Rattle.call_board.specs.Boards.{BoardMatches, pairs_in}
 use Rattle.call_board.specs.Returns.{leg_lease, MayReturnAll}
 use Rattle.call_board.specs.Whole.{with_draws, with_first, with_more}
 use Rattle.call_board.proofs.Entries.{draws_keep}
-use Rattle.call_board.proofs.Free.{front_free, free_not_held, new_leg_free}
+use Rattle.call_board.proofs.Free.{front_free, free_not_held, held_below, new_leg_free}
 use Rattle.call_board.proofs.Held.{closed_of_held}
-use Rattle.call_board.proofs.Outs.{dropped_return}
+use Rattle.call_board.proofs.Outs.{dropped_return, returns_out}
 use Rattle.relay_core.specs.Entries.{board_history, box_of}
+use Rattle.relay_core.specs.KeptAfter.{IsWholeWith}
 use Rattle.relay_core.specs.Legal.{Orderly}
 use Rattle.relay_core.specs.Records.{Made}
 use Rattle.relay_core.specs.Scripts.{Owed, open_owed, in_cell}
 use Rattle.relay_core.specs.declared.part.Part.{Part}
-use Rattle.relay_core.specs.Turns.{GainsNested, IsAbove, made_by}
+use Rattle.relay_core.specs.Turns.{GainsNested, made_by}
 use Rattle.relay_core.proofs.Histories.{good_history}
 use Rattle.relay_core.proofs.Holders.{same_box}
-use Rattle.relay_core.proofs.Shut.{closed_open}
 use Rattle.media_ports.specs.Addresses.{AreLeased}
 use Rattle.media_ports.specs.OpenPorts.{LogsHeld}
 use Rattle.board_turns.specs.Departures.{AreLeasesOf}
@@ -46,6 +49,7 @@ use Rattle.board_turns.specs.CallEnds.{leg_pairs}
 use Rattle.board_turns.proofs.Closed.{still_open}
 use Rattle.board_turns.proofs.Ended.{may_return_alike, may_be_leased, pairs_are, closings_are}
 use Rattle.board_turns.proofs.Lefts.{told_alike}
+use Rattle.board_turns.proofs.TakenPairs.{held_open}
 use Rattle.offer_command.specs.Offers.{IsDue, demand_of, pairs_for, offer_of, dropped_legs, bringing_of, leased_view, with_offer}
 use Rattle.offer_command.proofs.Targets.{cell_within}
 use Rattle.offer_command.proofs.Dropped.{closed_dropped, script_is}
@@ -100,26 +104,27 @@ bringing_elsewhere : (config : Config) (h : List BoardEntry) (e : BoardEntry) (o
 bringing_elsewhere config h e o leg good fits acts high i w j at =
     bringing_case config h e o leg good fits acts high i w (in_append (map (open_owed config) o.legs) (in_cell o.of (Prepare o.of.number o.legs o.keys o.dropped) ∷ []) j) at
 
-module _ {M S T O : Type 0} {g : _} where
+module _ {M I O T : Type 0} {g : _} where
   -- the dropped legs may be closed
-  pub can_close : (config : Config) (number moment : ℕ) (old new : Hand M S Made T g) (board : Board) (log : Option (List PortCall)) (id : List ℕ) (ask : OfferAsk) (p : BoardPlan)
-      (draws : List (List ℕ)) (leased : List ℕ) (keys : ℕ) (gone : List (pairs.Lease × O × O)) → Orderly config (made_by old) → IsAbove (made_by old) 0 number →
+  pub can_close : (config : Config) (number moment : ℕ) (old new : Hand M (Part I O) Made T g) (before after : Board) (log : Option (List PortCall)) (id : List ℕ) (ask : OfferAsk)
+      (p : BoardPlan) (draws : List (List ℕ)) (leased : List ℕ) (keys : ℕ) (gone : List (pairs.Lease × O × O)) → Orderly config (made_by old) →
+      IsWholeWith config old (board_shape before) → BoardMatches config before (view_at_moment (view_of config (board_history (made_by old) number)) moment) → starts new ≡ starts old →
       IsDue config (board_history (made_by old) number) id ask p draws →
       leased ≡ pairs_for config (board_history (made_by old) number) id ask →
       GainsNested number moment (bringing_of config (offer_of config (board_history (made_by old) number) id ask draws)) old new →
       AreLeasesOf config gone (dropped_legs (board_history (made_by old) number) (offer_of config (board_history (made_by old) number) id ask draws)) →
-      BoardMatches config board (with_offer (offer_of config (board_history (made_by old) number) id ask draws) moment (leased_view config (board_history (made_by old) number) moment leased keys)) →
+      BoardMatches config after (with_offer (offer_of config (board_history (made_by old) number) id ask draws) moment (leased_view config (board_history (made_by old) number) moment leased keys)) →
       LogsHeld config log (leg_pairs (offer_of config (board_history (made_by old) number) id ask draws).legs ++ leg_pairs (held (board_history (made_by old) number))) →
-      CanClose config (made_by new) board log gone
-  can_close config number moment old new board log id ask p draws leased keys gone orderly above d leased_are gains went shows opens = record {
-    view = with_offer o moment (leased_view config h moment leased keys);
-    shows = shows;
-    may_return = may_return_alike config (with_offer o moment (leased_view config h moment leased keys)) gone (dropped_legs h o) went
-        (may_return config h d.entry o moment moment leased keys good d.acts (λ p i. front_free config h (demand_of config h id ask).pairs p (subst (In p) leased_are i)));
-    boxes_open = λ pair i. still_open number moment (box_of config pair) (bringing_of config o) old new gains
-        (λ w j at. bringing_elsewhere config h d.entry o (its pair i).from good d.fits d.acts high (was_held (its pair i).from (its pair i).is_in) w j
-        (at ∙ ap (box_of config) (sym (its pair i).makes)))
-        (λ n up. subst (λ (q : ℕ). IsTurnOpen (made_by old) (box_of config q)) (its pair i).makes (its_open (its pair i).from (its pair i).is_in) n up);
+      CanClose config new after log gone
+  can_close config number moment old new before after log id ask p draws leased keys gone orderly whole shown same_starts d leased_are gains went shows opens = record {
+    out = returns_out config after (with_offer o moment (leased_view config h moment leased keys)) (leases_of_legs gone) shows
+        (may_return_alike config (with_offer o moment (leased_view config h moment leased keys)) gone (dropped_legs h o) went
+        (may_return config h d.entry o moment moment leased keys good d.acts (λ p i. front_free config h (demand_of config h id ask).pairs p (subst (In p) leased_are i))));
+    of_range = λ pair i. subst (λ (q : ℕ). q < pair_count config) (its pair i).makes (held_below config h (its pair i).from good (was_held (its pair i).from (its pair i).is_in));
+    boxes_open = λ pair i. subst (λ (q : ℕ). IsTurnOpen config new q) (its pair i).makes
+        (still_open config number moment (its pair i).from.pair (bringing_of config o) old new same_starts gains
+        (bringing_elsewhere config h d.entry o (its pair i).from good d.fits d.acts high (was_held (its pair i).from (its pair i).is_in))
+        (held_open config old before (view_at_moment (view_of config h) moment) h (its pair i).from whole shown refl good (was_held (its pair i).from (its pair i).is_in)));
     held = leg_pairs o.legs ++ leg_pairs (held h);
     opens = opens;
     are_held = λ pair i. it_has pair (leg_pairs o.legs ++ leg_pairs (held h)) (in_right (leg_pairs o.legs) (leg_pairs (held h))
@@ -146,9 +151,6 @@ module _ {M S T O : Type 0} {g : _} where
 
       was_held : (leg : Holder) → In leg (dropped_legs h o) → In leg (held h)
       was_held leg i = (closed_of_held h d.entry o.of leg (closes leg i)).0
-
-      its_open : (leg : Holder) → In leg (dropped_legs h o) → IsTurnOpen (made_by old) (box_of config leg.pair)
-      its_open leg i n up = subst (λ (x : Option Holder). IsSome x) (sym (closed_open config (made_by old) orderly number n d.entry o.of leg above up (closes leg i))) refl
 
 -- What the board keeps.
 

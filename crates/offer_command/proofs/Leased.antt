@@ -5,6 +5,7 @@ use Rattle.rtp_packet.specs.declared.head.Half.{Half}
 use Rattle.rtp_packet.specs.declared.head.Half.TheVariants.{Rtp, Rtcp}
 use Rattle.histories.specs.Words.{In, here, there}
 use Rattle.histories.proofs.Lists.{picks, mapped}
+use Rattle.turn_table.specs.declared.hands.Hand.{Hand}
 use Rattle.port_pool.specs.Ports.{pair_count, pair_family, pair_port, half_port}
 use Rattle.port_pool.specs.Pools.{AreFree}
 use Rattle.port_pool.specs.declared.pairs.Lease.{Lease}
@@ -19,17 +20,19 @@ use Rattle.call_cell.specs.Preparations.{PrepareFor, parts_added}
 use Rattle.call_board.specs.Acts.{BoardEntry}
 use Rattle.call_board.specs.Pairs.{free}
 use Rattle.call_board.specs.Fits.{IsFitting}
+use Rattle.call_board.specs.declared.board.Board.{Board}
+use Rattle.call_board.specs.Shapes.{board_shape}
 use Rattle.call_board.specs.Views.{View, view_of}
-use Rattle.call_board.specs.Boards.{lease_at, leases_at, fronts_for}
+use Rattle.call_board.specs.Boards.{BoardMatches, lease_at, leases_at, fronts_for}
 use Rattle.call_board.proofs.Free.{front_among}
 use Rattle.call_board.proofs.Outs.{are_free, lease_pairs}
 use Rattle.media_ports.specs.Addresses.{pairs_of_leases, AreLeased}
 use Rattle.media_ports.specs.declared.ends.PairEnds.{PairEnds}
 use Rattle.media_ports.proofs.Held.{pair_fits}
-use Rattle.relay_core.specs.Entries.{Entry, board_history}
-use Rattle.relay_core.specs.Legal.{Orderly}
-use Rattle.relay_core.specs.Turns.{IsAbove}
-use Rattle.relay_core.proofs.Shut.{shut_free}
+use Rattle.relay_core.specs.declared.part.Part.{Part}
+use Rattle.relay_core.specs.KeptAfter.{IsWholeWith}
+use Rattle.relay_core.specs.Records.{Made}
+use Rattle.board_turns.proofs.TakenPairs.{free_shut}
 use Rattle.offer_command.specs.LegBoxes.{AreShut, leased_parts}
 use Rattle.offer_command.proofs.Fronts.{fronts_free, leases_leased}
 
@@ -51,10 +54,12 @@ lease_free config h legs leases is pair i =
     (subst (In pair) (pairs_leased config (view_of config h) (fronts_for config (view_of config h) legs) leases is) i)
 
 -- their boxes are shut
-pub are_shut : (config : Config) (l : List Entry) → Orderly config l → (n : ℕ) → IsAbove l 0 n → (legs : List NewLeg) (leases : List Lease) →
-    leases ≡ leases_at config (view_of config (board_history l n)) (fronts_for config (view_of config (board_history l n)) legs) → AreShut config l (pairs_of_leases leases)
-are_shut config l o n above_board legs leases is pair i k above =
-    shut_free config l o n k pair above_board above (lease_free config (board_history l n) legs leases is pair i)
+module _ {M I O T : Type 0} {g : _} where
+  pub are_shut : (config : Config) (hand : Hand M (Part I O) Made T g) (board : Board) (v : View) (h : List BoardEntry) (legs : List NewLeg) (leases : List Lease)
+      → IsWholeWith config hand (board_shape board) → BoardMatches config board v → v.free ≡ free config h
+      → leases ≡ leases_at config (view_of config h) (fronts_for config (view_of config h) legs) → AreShut config hand (pairs_of_leases leases)
+  are_shut config hand board v h legs leases whole shows free_is is pair i =
+      free_shut config hand board v pair whole shows (subst (λ (ps : List ℕ). In pair ps) (sym free_is) (lease_free config h legs leases is pair i))
 
 -- Their ports.
 

@@ -11,7 +11,7 @@ use Rattle.relay_outside.specs.declared.ports.InCall.{InCall}
 use Rattle.relay_outside.specs.declared.ports.OutCall.{OutCall}
 use Rattle.relay_outside.specs.DeviceLogs.{EndLog}
 use Rattle.turn_table.specs.declared.hands.Hand.{Hand}
-use Rattle.turn_table.specs.Hands.{IsSameHand, entries}
+use Rattle.turn_table.specs.Hands.{IsSameHand, entries, starts}
 use Rattle.port_pool.specs.declared.holder.Holder.{Holder}
 use Rattle.port_pool.specs.declared.holder.Side.{Side}
 use Rattle.port_pool.specs.declared.pairs.Lease.{Lease}
@@ -27,11 +27,11 @@ use Rattle.relay_core.specs.declared.part.Part.{Part}
 use Rattle.relay_core.specs.Entries.{box_of}
 use Rattle.relay_core.specs.Scripts.{Owed, open_owed}
 use Rattle.relay_core.specs.Records.{Made}
-use Rattle.relay_core.specs.Turns.{GainsNested, made_by}
+use Rattle.relay_core.specs.Turns.{GainsNested}
 use Rattle.relay_core.proofs.Holders.{same_box}
 use Rattle.relay_core.proofs.Turns.{nothing_more}
 use Rattle.board_turns.proofs.Nesting.{gains_more, same_again}
-use Rattle.board_turns.proofs.After.{gained_elsewhere, still_shut}
+use Rattle.board_turns.proofs.Closed.{holder_stays}
 use Rattle.offer_command.specs.Legs.{LegsFor}
 use Rattle.offer_command.specs.LegBoxes.{AreShut, IsBoxOpened, leg_parts, leased_parts}
 
@@ -202,17 +202,17 @@ module _ {M S T : Type 0} {g : _} where
       subst (λ (events : List Owed). GainsNested number moment events old new) (sym (ap (λ (xs : List Holder). map (open_owed config) xs) is ∙ map_push (open_owed config) legs leg))
       (gains_more number moment (map (open_owed config) legs) (open_owed config leg ∷ []) old mid new a b)
 
+module _ {M I O T : Type 0} {g : _} where
   -- the boxes of the other leases stay shut
-  pub shut_still : (config : Config) (number moment : ℕ) (leg : Holder) (rest : List ℕ) (old new : Hand M S Made T g) → GainsNested number moment (open_owed config leg ∷ []) old new
-      → AreShut config (made_by old) (leg.pair ∷ rest) → has rest leg.pair ≡ false → AreShut config (made_by new) rest
-  shut_still config number moment leg rest old new gains shut apart pair i =
-      still_shut (made_by old) (made_by new) (box_of config pair)
-      (gained_elsewhere number moment (open_owed config leg ∷ []) (box_of config pair) old new gains (λ owed j p. other owed j p)) (shut pair (there i))
+  pub shut_still : (config : Config) (number moment : ℕ) (leg : Holder) (rest : List ℕ) (old new : Hand M (Part I O) Made T g) → starts new ≡ starts old
+      → GainsNested number moment (open_owed config leg ∷ []) old new → AreShut config old (leg.pair ∷ rest) → has rest leg.pair ≡ false → AreShut config new rest
+  shut_still config number moment leg rest old new same gains shut apart pair i =
+      holder_stays config number moment pair (open_owed config leg ∷ []) old new same gains (λ owed j p. other owed j p) ∙ shut pair (there i)
     where
       other : (owed : Owed) → In owed (open_owed config leg ∷ []) → owed.place ≡ box_of config pair → ⊥
       other owed (here q) p =
-          let same : leg.pair ≡ pair = same_box config leg.pair pair (sym (ap (λ (o : Owed). o.place) q) ∙ p) in
-          let wrong : true ≡ false = sym (it_has leg.pair rest (subst (λ (n : ℕ). In n rest) (sym same) i)) ∙ apart in cc
+          let one : leg.pair ≡ pair = same_box config leg.pair pair (sym (ap (λ (o : Owed). o.place) q) ∙ p) in
+          let wrong : true ≡ false = sym (it_has leg.pair rest (subst (λ (n : ℕ). In n rest) (sym one) i)) ∙ apart in cc
       other owed (there j) p = elim j [ ]
 
 module _ {M I O T : Type 0} {g : _} (it : I → EndLog InCall) (ic : I → ℕ) (ot : O → EndLog OutCall) (oc : O → ℕ) where

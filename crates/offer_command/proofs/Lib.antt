@@ -20,3 +20,7 @@ pub mod Leaving
 pub mod Asked
 pub mod Carried
 pub mod Givings
+pub mod WholenessPlans
+pub mod WholenessLegs
+pub mod WholenessTurns
+pub mod WholenessHands

@@ -12,13 +12,13 @@ use Rattle.port_pool.specs.declared.pairs.Lease.{Lease}
 use Rattle.port_pool.specs.Boxes.{Open}
 use Rattle.media_ports.specs.declared.ends.PairEnds.{PairEnds}
 use Rattle.relay_core.specs.declared.part.Part.{Part}
-use Rattle.relay_core.specs.Entries.{Box, Entry, box_of}
+use Rattle.relay_core.specs.Entries.{Box, box_of}
 use Rattle.relay_core.specs.Records.{Made}
 use Rattle.board_turns.specs.NestedSteps.{IsShut, OpensBox, nested}
 
--- by the list, the boxes of these pairs are shut
-abbrev pub AreShut : Config → List Entry → List ℕ → Type 0
-AreShut config l pairs = (pair : ℕ) → In pair pairs → IsShut l (box_of config pair)
+-- the boxes of these pairs are shut
+abbrev pub AreShut : {M I O T : Type 0} {g : _} → Config → Hand M (Part I O) Made T g → List ℕ → Type 0
+AreShut config hand pairs = (pair : ℕ) → In pair pairs → IsShut config hand pair
 
 -- a lease with the out ends of its pair, that for RTP first
 abbrev pub leg_parts : {I O : Type 0} → Lease → PairEnds I O → Lease × O × O

@@ -7,3 +7,4 @@ pub mod Offers
 pub mod Brings
 pub mod Doings
 pub mod Commands
+pub mod Shapes

@@ -5,6 +5,7 @@ ghost use Rattle.offer_answer.specs.Rounds.{OfferAsk};
 ghost use Rattle.offer_answer.specs.Offers.{pairs_demanded, key_count};
 ghost use Rattle.offer_answer.specs.Widths.{WritesFrom};
 ghost use Rattle.call_board.specs.Plans.{HasRoomForPlan};
+ghost use Rattle.call_board.specs.Shapes.{PlansOfferOf};
 ghost use Rattle.call_board.specs.Views.{view_of};
 ghost use Rattle.media_ports.specs.Openings.{OpensAt};
 ghost use Rattle.media_ports.specs.Draws.{AreDrawn};
@@ -60,6 +61,7 @@ pub fn offer_act<P: PortMaker, K: KeySource, R: Wait>(
     requires begins { Begins P.log turn.old }
     requires due { (id : List ℕ) × (ask : OfferAsk) × CanOffer turn.old.main.config.now (past_of turn.old.main) id ask offer.sdp.now offer.plan }
     requires planned { HasRoomForPlan turn.old.board.now offer.plan }
+    requires plans { PlansOfferOf turn.old.board.now offer.plan offer.plan.begun }
     requires made { WritesFrom offer.plan.plan offer.sdp.now }
     requires room { HasOfferRoom offer.plan.plan offer.room }
     ensures works { Works P.log P.faults turn.old turn.new }

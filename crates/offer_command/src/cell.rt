@@ -10,14 +10,17 @@ ghost use Rattle.call_board.specs.Boards.{leases_at};
 ghost use Rattle.call_board.specs.Pairs.{drawn_keys_from};
 ghost use Rattle.call_board.specs.Views.{view_of};
 ghost use Rattle.call_cell.specs.Preparations.{PrepareFor, key_room};
+ghost use Rattle.media_ports.specs.Addresses.{pairs_of_leases};
 ghost use Rattle.media_ports.specs.Ends.{ArePairsOpened};
 ghost use Rattle.relay_core.specs.Legal.{Orderly};
 ghost use Rattle.relay_core.specs.PlaceHistories.{GoneHome};
 ghost use Rattle.relay_core.specs.Turns.{IsAbove};
 ghost use Rattle.board_turns.specs.BoardTurns.{CanNest, MakesNested, Nests, hand_list, past_of};
-ghost use Rattle.board_turns.specs.Departures.{AreLeasesOf};
+ghost use Rattle.board_turns.specs.Closings.{leases_of_legs};
+ghost use Rattle.board_turns.specs.Departures.{AllHaveEnds, AreLeasesOf, cell_kept, leases_going};
 ghost use Rattle.board_turns.specs.Ties.{LegsLeave};
 ghost use Rattle.offer_command.specs.Brings.{HasLegRoom};
+ghost use Rattle.offer_command.specs.LegBoxes.{AreShut};
 ghost use Rattle.offer_command.specs.Leases.{planned_pairs};
 ghost use Rattle.offer_command.specs.PreparedLegs.{SameLegs, drawn_key};
 ghost use Rattle.offer_command.specs.Offers.{IsDue, next_key_number, offer_of, dropped_legs, bringing_of};
@@ -120,6 +123,7 @@ pub(crate) fn prepare_offer<I: InEnd, O: OutEnd, R: Wait>(
         pairs.leases.list ≡ leases_at main.old.config.now v (planned_pairs main.old.config.now v taken.now.plan) }
     requires count { length pairs.leases.list ≡ pairs_demanded taken.now.plan.plan }
     requires opened { length pairs.opened.list ≡ pairs_demanded taken.now.plan.plan }
+    requires shut { AreShut main.old.config.now main.old.hand.now (pairs_of_leases pairs.leases.list) }
     requires ends { ArePairsOpened I.log O.log main.old.config.now pairs.leases.list pairs.opened.list }
     requires first { taken.now.first_key ≡ next_key_number (past_of main.old) }
     requires low { taken.now.first_key ≤ 2 ^ 63 }
@@ -131,6 +135,9 @@ pub(crate) fn prepare_offer<I: InEnd, O: OutEnd, R: Wait>(
         MakesNested (bringing_of main.old.config.now (offer_of main.old.config.now (past_of main.old) id ask taken.now.drawn.list)) main.old main.new }
     ensures went { (id : List ℕ) (ask : OfferAsk) → IsDue main.old.config.now (past_of main.old) id ask taken.now.plan taken.now.drawn.list →
         AreLeasesOf main.old.config.now gone.new (dropped_legs (past_of main.old) (offer_of main.old.config.now (past_of main.old) id ask taken.now.drawn.list)) }
+    ensures left { (id : List ℕ) (ask : OfferAsk) → IsDue main.old.config.now (past_of main.old) id ask taken.now.plan taken.now.drawn.list →
+        let kept = cell_kept main.old.config.now main.old.hand.now taken.now.plan.cell in AllHaveEnds kept →
+        leases_of_legs gone.new ≡ leases_going (λ leg. has (offer_of main.old.config.now (past_of main.old) id ask taken.now.drawn.list).dropped leg.section) kept }
     ensures home { GoneHome O.log main.old.config.now gone.new }
     ensures leave { LegsLeave O.log gone.new (entries main.old.hand.now) (entries main.new.hand.now) }
 {

@@ -8,13 +8,18 @@ ghost use Rattle.offer_answer.specs.Plans.{OfferPlan, OfferFilled};
 ghost use Rattle.offer_answer.specs.Offers.{pairs_demanded, key_count};
 ghost use Rattle.offer_answer.specs.Nexts.{numbered_keys};
 ghost use Rattle.offer_answer.specs.Widths.{WritesFrom};
+ghost use Rattle.offer_answer.specs.Shapes.{FilledShapes, OfferShapes, keys_demanded};
+ghost use Rattle.offer_answer.specs.OfferPlaces.{SameCounts};
+ghost use Rattle.offer_answer.specs.declared.dialog.Dialog.{Dialog};
 ghost use Rattle.call_board.specs.Acts.{BoardEntry};
 ghost use Rattle.call_board.specs.Fits.{IsFitting};
 ghost use Rattle.call_board.specs.Views.{View, view_of};
 ghost use Rattle.call_board.specs.Boards.{BoardMatches, KeepsReplies};
 ghost use Rattle.call_board.specs.NextBoards.{MayApply};
+ghost use Rattle.call_board.specs.Shapes.{PlansOfferOf};
 ghost use Rattle.offer_command.specs.Brings.{rtp_ports};
 ghost use Rattle.offer_command.specs.Offers.{IsDue, next_key_number, offer_of, ports_of_legs, offered_text, with_offer};
+ghost use Rattle.offer_command.specs.Shapes.{OfferedBy};
 
 use crate::lease::LeasedPlan;
 use call_board::{Board, BoardPlan};
@@ -54,6 +59,9 @@ fn fill_plan(
         OfferFilled config rounds ask numbers.now (numbered_keys first_key drawn.now.list (demand rounds ask).keys) plan.new.plan.next }
     ensures text { (config : Config) (rounds : List Round) (ask : OfferAsk) → OfferPlan config rounds ask plan.old.plan → lines_of ask.sdp ≡ sdp.now →
         out.new.list ≡ out.old.list ++ offer_text config rounds ask numbers.now (numbered_keys first_key drawn.now.list (demand rounds ask).keys) }
+    ensures shape { (dialog : Dialog) → OfferShapes plan.old.plan dialog plan.old.plan.next →
+        FilledShapes plan.old.plan dialog numbers.now (numbered_keys first_key drawn.now.list (keys_demanded plan.old.plan)) plan.new.plan.next }
+    ensures counts { SameCounts plan.old.plan.next plan.new.plan.next }
 {
     plan.plan()
         .fill(sdp, numbers, first_key, drawn.as_slice(), out);
@@ -74,6 +82,7 @@ pub(crate) fn apply_offer(
     requires made { WritesFrom taken.plan.plan sdp.now }
     requires room { taken.plan.plan.reply_len ≤ out.old.spare }
     requires may { MayApply board.old taken.plan taken.plan.begun }
+    requires plans { PlansOfferOf board.old taken.plan taken.plan.begun }
     ensures taken { (config : Config) (h : List BoardEntry) (id : List ℕ) (ask : OfferAsk) (v : View) → IsFitting config h → IsDue config h id ask taken.plan taken.drawn.list →
         taken.first_key ≡ next_key_number h → taken.numbers.items ≡ ports_of_legs config (offer_of config h id ask taken.drawn.list) →
         BoardMatches config board.old v → v.calls ≡ (view_of config h).calls → v.begun ≡ (view_of config h).begun →
@@ -84,6 +93,7 @@ pub(crate) fn apply_offer(
     ensures within { length out.new.list ≤ length out.old.list + taken.plan.plan.reply_len }
     ensures replies { KeepsReplies board.old board.new }
     ensures keys { result ≡ taken.drawn }
+    ensures shape { OfferedBy taken.plan taken.plan.begun taken.numbers.items (numbered_keys taken.first_key taken.drawn.list (keys_demanded taken.plan.plan)) board.old board.new }
 {
     let LeasedPlan {
         mut plan,

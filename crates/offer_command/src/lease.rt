@@ -15,8 +15,11 @@ ghost use Rattle.call_board.specs.Boards.{BoardMatches, KeepsCalls, KeepsReplies
 ghost use Rattle.call_board.specs.Plans.{leased};
 ghost use Rattle.call_board.specs.Views.{View};
 ghost use Rattle.call_board.specs.Whole.{with_draws};
+ghost use Rattle.call_board.specs.Shapes.{board_shape};
+ghost use Rattle.offer_answer.specs.Offers.{legs_demanded};
 ghost use Rattle.offer_command.specs.Brings.{HasLeaseRoom, rtp_ports};
 ghost use Rattle.offer_command.specs.Leases.{CanLease, pairs_of_plan, keys_of_plan, planned_pairs, with_taken};
+ghost use Rattle.offer_command.specs.Shapes.{ShapeTakes, ShapeUndoes, shape_with_draws};
 ghost use Rattle.offer_command.specs.Undo.{ComesEarly, DrawsBefore, HasRisen, UndoesPorts, keys_before, with_undone};
 
 use crate::description::list_ports;
@@ -107,6 +110,7 @@ fn count_draws(board: &mut Board, count: usize)
     ensures drawn { (config : Config) (v : View) → BoardMatches config board.old v → BoardMatches config board.new (with_draws v count) }
     ensures calls { KeepsCalls board.old board.new }
     ensures replies { KeepsReplies board.old board.new }
+    ensures shape { board_shape board.new ≡ shape_with_draws count (board_shape board.old) }
 {
     for _drawn in 0..count {
         board.count_draw();
@@ -199,10 +203,12 @@ pub fn lease_offer<P: PortMaker, K: KeySource>(
     ensures draws { IfOk result (λ took. Gained (K.log keys.old) (K.log keys.new) (AreDrawn took.plan.drawn.list)) }
     ensures first { IfOk result (λ took. (v : View) → BoardMatches config.now board.old v → took.plan.first_key ≡ v.drawn) }
     ensures low { IfOk result (λ took. took.plan.first_key ≤ 2 ^ 63) }
+    ensures shape { IfOk result (λ took. ShapeTakes (legs_demanded plan.plan) took.pairs.leases.list (board_shape board.old) (board_shape board.new)) }
 
     // After a fault all of it is undone, but for the keys that were drawn.
     ensures undone { IfErr result (λ fault. (v : View) → BoardMatches config.now board.old v → AreFree (pair_count config.now) v.free →
         BoardMatches config.now board.new (with_undone v (planned_pairs config.now v plan) (length (keys_before fault)))) }
+    ensures shape_undone { OnErr result (ShapeUndoes (legs_demanded plan.plan) (board_shape board.old) (board_shape board.new)) }
     ensures early { IfErr result (ComesEarly (pairs_of_plan plan) (keys_of_plan plan)) }
     ensures closes { IfErr result (λ fault. (v : View) → BoardMatches config.now board.old v → AreFree (pair_count config.now) v.free →
         Gained (P.log ports.old) (P.log ports.new) (UndoesPorts (addresses_of config.now (leases_at config.now v (planned_pairs config.now v plan))) fault)) }

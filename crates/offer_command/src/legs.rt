@@ -11,9 +11,8 @@ ghost use Rattle.call_board.specs.Whole.{holders_of_new_legs};
 ghost use Rattle.call_cell.specs.Preparations.{IsReady, PrepareFor, added, parts_added, leg_room, key_room};
 ghost use Rattle.media_ports.specs.Addresses.{AreLeased, pairs_of_leases};
 ghost use Rattle.media_ports.specs.Ends as pair_ends;
-ghost use Rattle.relay_core.specs.Entries.{box_of};
 ghost use Rattle.relay_core.specs.Scripts.{open_owed};
-ghost use Rattle.board_turns.specs.BoardTurns.{CanNest, MakesNested, Nests, hand_list};
+ghost use Rattle.board_turns.specs.BoardTurns.{CanNest, MakesNested, Nests};
 ghost use Rattle.board_turns.specs.NestedSteps.{IsShut};
 ghost use Rattle.offer_command.specs.Legs.{LegsFor};
 ghost use Rattle.offer_command.specs.LegBoxes.{AreShut, IsBoxOpened, leased_parts, leg_parts};
@@ -40,7 +39,7 @@ fn open_leg<I: InEnd, O: OutEnd, R: Wait>(
     requires pair { (holder.pair < pair_count main.old.config.now) × (lease.pair ≡ holder.pair) }
     requires generation { lease.generation ≡ holder.generation }
     requires cell { (1 ≤ holder.cell) × (holder.cell ≤ main.old.config.now.max_sessions) }
-    requires shut { IsShut (hand_list main.old) (box_of main.old.config.now holder.pair) }
+    requires shut { IsShut main.old.config.now main.old.hand.now holder.pair }
     requires ends { pair_ends.IsPairOpened I.log O.log main.old.config.now lease ends }
     requires room { 0 < leg_room prepare.old }
     ensures nests { Nests main.old main.new }
@@ -77,7 +76,7 @@ pub fn open_legs<I: InEnd, O: OutEnd, R: Wait>(
     requires leases { length pairs.leases.list ≡ offering.pairs_demanded plan.now.plan }
     requires pairs { length pairs.opened.list ≡ offering.pairs_demanded plan.now.plan }
     requires leased { AreLeased main.old.config.now pairs.leases.list }
-    requires shut { AreShut main.old.config.now (hand_list main.old) (pairs_of_leases pairs.leases.list) }
+    requires shut { AreShut main.old.config.now main.old.hand.now (pairs_of_leases pairs.leases.list) }
     requires opened { pair_ends.ArePairsOpened I.log O.log main.old.config.now pairs.leases.list pairs.opened.list }
     requires room { offering.pairs_demanded plan.now.plan ≤ leg_room prepare.old }
     requires none { added prepare.old ≡ [] }

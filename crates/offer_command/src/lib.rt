@@ -10,7 +10,7 @@
 //! `specs/Commands.antt` says what the command asks and what it gives, `specs/Doings.antt` what its turn does; `specs/Leases.antt` when
 //! an offer may take what its plan demands, `specs/Undo.antt` what is left of one that was undone; `specs/Legs.antt`,
 //! `specs/LegBoxes.antt` and `specs/PreparedLegs.antt` which legs are new and what opened their boxes; `specs/Offers.antt` which offer the
-//! board's next entry accepts, `specs/Brings.antt` which room there is.
+//! board's next entry accepts, `specs/Brings.antt` which room there is; `specs/Shapes.antt` what an offer makes of what the board keeps.
 #![tactic(auto)]
 
 mod act;

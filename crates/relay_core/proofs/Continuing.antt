@@ -1,6 +1,5 @@
 -- What the close of the table tells of the rows of a hand whose places began with what an earlier list had left.
-use Rattle.std.proofs.Common.{◌≡◌, ◌∙◌, sym, ap, subst, refl, ℕ, suc, ◌+◌, ◌-◌, ◌<◌, ◌≤◌, ◌⊎◌, inl, inr, List, [], ◌∷◌, ◌++◌, Bool, true, Option, Some, None, map, length, filter, ◌==◌, arith, slice_get, take}
-use Rattle.std.specs.Prelude.{◌&&◌}
+use Rattle.std.proofs.Common.{◌≡◌, ◌∙◌, sym, ap, subst, refl, ℕ, suc, ◌+◌, ◌-◌, ◌<◌, ◌≤◌, ◌⊎◌, inl, inr, List, [], ◌∷◌, ◌++◌, true, Option, Some, None, map, length, filter, ◌==◌, arith, slice_get, take}
 use Rattle.std.specs.List.{filter_map}
 use Rattle.std.specs.Option.{option_map}
 use Rattle.std.proofs.lemmas.List.{map-append, take-map}
@@ -15,7 +14,7 @@ use Rattle.turn_table.specs.Histories as table_lists
 use Rattle.histories.specs.Words.{In}
 use Rattle.histories.proofs.Lists.{in_append, in_left, in_right, mapped, maps, filtered, equal_if}
 use Rattle.port_pool.specs.declared.boxes.PairBox.{PairBox}
-use Rattle.port_pool.specs.Boxes.{BoxEvent, Open, Take, Close, holder}
+use Rattle.port_pool.specs.Boxes.{BoxEvent, holder}
 use Rattle.port_pool.specs.PairBoxes.{BoxFor}
 use Rattle.call_cell.specs.declared.cell.Cell as cell
 use Rattle.call_cell.specs.declared.outcome.Outcome.{Outcome}
@@ -25,39 +24,36 @@ use Rattle.call_cell.specs.CellHistories.{CellFor}
 use Rattle.call_board.specs.declared.board.Board as board
 use Rattle.call_board.specs.Acts.{BoardEntry}
 use Rattle.call_board.specs.Boards.{BoardFor}
-use Rattle.call_board.specs.Futures.{closed_pairs}
 use Rattle.relay_core.specs.declared.part.Part.{Part}
 use Rattle.relay_core.specs.declared.part.Part.TheVariants as part
-use Rattle.relay_core.specs.Entries.{Event, Board, Cell, Box, Entry, is_nested, history, board_at, board_entry, cell_entry, box_event, cell_history, box_history, front}
+use Rattle.relay_core.specs.Entries.{Event, Board, Cell, Box, Entry, history, board_entry, cell_entry, box_event, cell_history, box_history, front}
 use Rattle.relay_core.specs.Legal.{is_handed_boards, Orderly, Legal}
 use Rattle.relay_core.specs.Records.{Made, entry_of, list_of, as_logged, logged_event, logged_relay}
-use Rattle.relay_core.specs.ReturnedPairs.{is_boards, shuts_in, pairs_shut, AreReturned}
-use Rattle.relay_core.specs.FirstPlaces.{pair_at}
+use Rattle.relay_core.specs.ReturnedPairs.{AreReturned}
 use Rattle.relay_core.specs.EndLogs.{is_closing}
-use Rattle.relay_core.specs.Steps.{board_made, CellSteps, BoardSteps, BoxSteps}
+use Rattle.relay_core.specs.Steps.{CellSteps, BoardSteps, BoxSteps}
 use Rattle.relay_core.specs.PlaceHistories.{BringsNewKeys, Stands, IsBoardPart, IsCellPart, IsBoxPart}
 use Rattle.relay_core.specs.NestedMoments.{IsHanded}
 use Rattle.relay_core.specs.Turns.{IsAbove, IsReceiving}
 use Rattle.relay_core.specs.Joins.{IsAtPlace, TakesOwnPairs}
 use Rattle.relay_core.specs.Continued.{later_event, later, continued, IsLeftAt, AreLeftBy, IsSoundAfter}
-use Rattle.relay_core.proofs.Histories.{both, in_history}
+use Rattle.relay_core.proofs.Histories.{in_history}
 use Rattle.relay_core.proofs.Boxes.{below_front}
-use Rattle.relay_core.proofs.Turns.{filter_append, filter_none, false_if}
 use Rattle.relay_core.proofs.Generations.{holder_leased}
 use Rattle.relay_core.proofs.KeysOnce.{keys_once}
-use Rattle.relay_core.proofs.Returning.{shut_closed}
 use Rattle.relay_core.proofs.Counts as counts
-use Rattle.relay_core.proofs.Own.{IsRow, rows_in, in_rows}
+use Rattle.relay_core.proofs.Own.{IsRow, in_rows}
 use Rattle.relay_core.proofs.Stays.{Steps, onto, GivesBack, GiveBackOnto, give_back_from, give_back_taken, stands_onto, board_stays, cell_stays, box_stays}
-use Rattle.relay_core.proofs.Refilling.{orderly_mapped, history_mapped, filter_mapped, picked_mapped, same_map}
+use Rattle.relay_core.proofs.Refilling.{orderly_mapped, history_mapped, picked_mapped, same_map}
 use Rattle.relay_core.proofs.Filling.{fill_history, fill_event, filled, filled_in, filled_keeps, filled_history, cell_fills}
 use Rattle.relay_core.proofs.Filled as right
 use Rattle.relay_core.proofs.Filled.{mapped_twice, legal_filled}
 use Rattle.relay_core.proofs.Numbers.{greatest_below}
 use Rattle.relay_core.proofs.Placing.{step_at, kind_stays, IsPlaced, ArePlaced, IsRight, step_placed, step_right}
 use Rattle.relay_core.proofs.Closed.{IsWhole, AreWhole, InRange, AreClosed, whole_of, place_of, closed_numbered, own_past, own_whole, next_own, row_counted, in_range, taken_fits}
-use Rattle.relay_core.proofs.Logged.{logged_keeps}
-use Rattle.relay_core.proofs.Later.{shifted, later_by, later_stands, joined, base, low_number, history_late, stands_early, stands_late, receiving_both}
+use Rattle.relay_core.proofs.Logged.{logged_by, logged_keeps}
+use Rattle.relay_core.proofs.Later.{later_by, later_stands, joined, base, low_number, history_late, stands_early, stands_late, receiving_both}
+use Rattle.relay_core.proofs.LaterReturns.{closing_low, gives_later}
 use Rattle.relay_core.proofs.LaterSteps.{later_made, later_row, step_later, leaves_later, onto_later}
 use Rattle.relay_core.proofs.Earlier.{left_stands, early_placed, early_filled, early_made}
 
@@ -139,14 +135,6 @@ filled_told config before past moment (Box b) told fits = refl
 high_or_low : (a b : ℕ) → (a ≤ b) ⊎ (b < a)
 high_or_low a b = grind arith
 
--- a closing is nested
-closing_nested : (v : Event) → is_closing v ≡ true → is_nested v ≡ true
-closing_nested (Board b) t = absurd (let k = t in cc)
-closing_nested (Cell c) t = absurd (let k = t in cc)
-closing_nested (Box (Open leg)) t = refl
-closing_nested (Box (Take half taken)) t = absurd (let k = t in cc)
-closing_nested (Box Close) t = refl
-
 module _ {T I O : Type 0} (it : I → EndLog InCall) (ic : I → ℕ) (ot : O → EndLog OutCall) (oc : O → ℕ)
     (starts : List (Part I O)) (rows : List (table.Entry Made T)) (range : InRange starts rows) (whole : AreWhole it ic ot oc starts rows)
     (config : Config) (before : List Entry) (left : AreLeftBy config before starts) (orderly : Orderly config (continued config before (list_of rows)))
@@ -181,9 +169,6 @@ module _ {T I O : Type 0} (it : I → EndLog InCall) (ic : I → ℕ) (ot : O �
   orderly_list : Orderly config list
   orderly_list = subst (Orderly config) list_is (orderly_mapped as_logged logged_keeps config (continued config before (list_of rows)) orderly)
 
-  in_list : (row : table.Entry Made T) → table_lists.IsMemberOf row rows → In (later config before (entry_of row)) list
-  in_list row i = in_right (map as_logged before) (map (later config before) (list_of rows)) (maps (later config before) (list_of rows) (rows_in rows i))
-
   -- The history of a place, up to a number, is what the earlier list left there and the rows of the place.
   past_at : (k : ℕ) (a : Part I O) → (w : IsWhole it ic ot oc rows k a) → (i n : ℕ) → i ≤ length w.past → n ≡ i + front before k
       → onto (map (later_row it ic ot oc config before) (take i w.past)) (base before k) ≡ history list k n
@@ -194,51 +179,17 @@ module _ {T I O : Type 0} (it : I → EndLog InCall) (ic : I → ℕ) (ot : O �
 
   -- What each step of the board gives back.
 
-  early_shut : (n : ℕ) → filter (shuts_in (n + front before 0)) (map as_logged before) ≡ []
-  early_shut n =
-      filter_none (shuts_in (n + front before 0)) (map as_logged before) (λ e i. false_if (shuts_in (n + front before 0) e) (λ t.
-      let c = both (is_closing e.event) (e.board == n + front before 0) t in
+  closing_below : (e : Entry) → In e (map as_logged before) → is_closing e.event ≡ true → e.board < front before 0
+  closing_below e i t =
       let m = mapped as_logged before i in
-      let nested : is_nested m.from.event ≡ true
-      = sym (logged_keeps.same_nested m.from) ∙ ap (λ (x : Entry). is_nested x.event) m.makes ∙ closing_nested e.event c.0 in
-      let b = left.legal.nested m.from m.is_in nested in
-      let low = below_front before b.0 0 b.1 b.2 in
-      let number = b.3 in
-      let board = ap (λ (x : Entry). x.board) m.makes in
-      let is = equal_if e.board (n + front before 0) c.1 in
-      omega (arith, low, number, board, is)))
-
-  late_shut : (n : ℕ) (e : Entry) → shuts_in (n + front before 0) (later config before e) ≡ shuts_in n e
-  late_shut n e =
-      ap (λ (t : Bool). t && (e.board + front before 0 == n + front before 0)) (later_by is_closing (λ x y. refl) config before e.event)
-      ∙ ap (λ (t : Bool). is_closing e.event && t) (shifted e.board n (front before 0))
-
-  shut_is : (n : ℕ) → pairs_shut config list (n + front before 0) ≡ pairs_shut config (list_of rows) n
-  shut_is n =
-      ap (λ (es : List Entry). map (λ (e : Entry). pair_at config e.place) es)
-      (filter_append (shuts_in (n + front before 0)) (map as_logged before) (map (later config before) (list_of rows))
-      ∙ ap (λ (es : List Entry). es ++ filter (shuts_in (n + front before 0)) (map (later config before) (list_of rows))) (early_shut n)
-      ∙ filter_mapped (later config before) (shuts_in n) (shuts_in (n + front before 0)) (list_of rows) (late_shut n))
-      ∙ mapped_twice (λ (e : Entry). pair_at config e.place) (later config before) (filter (shuts_in n) (list_of rows))
+      let closes : is_closing m.from.event ≡ true
+      = sym (logged_by is_closing (λ x y. refl) m.from.event) ∙ ap (λ (x : Entry). is_closing x.event) m.makes ∙ t in
+      subst (λ (x : Entry). x.board < front before 0) m.makes (closing_low config before left.legal m.from m.is_in closes)
 
   gives : (row : table.Entry Made T) → table_lists.IsMemberOf row rows
       → GivesBack (later_made config before row.event) (later_event config before row.event.event)
       (filter_map board_entry (history list row.place (row.number + front before row.place)))
-  gives row i = by_event row.event.event refl
-    where
-      by_event : (v : Event) → row.event.event ≡ v
-          → GivesBack (later_made config before row.event) (later_event config before v) (filter_map board_entry (history list row.place (row.number + front before row.place)))
-      by_event (Board b) q =
-          let e = board_made row.event b in
-          let is : board_entry (later config before (entry_of row)) ≡ Some e = ap (λ (v : Event). board_at row.event.moment (later_event config before v)) q in
-          let at : row.place ≡ 0 = (orderly_list.board_fits (later config before (entry_of row)) e (in_list row i) is).0 in
-          ap (λ (place : ℕ). closed_pairs (filter_map board_entry (history list place (row.number + front before row.place))) e) at
-          ∙ sym (shut_closed config list orderly_list (later config before (entry_of row)) e (in_list row i) is)
-          ∙ ap (λ (place : ℕ). pairs_shut config list (row.number + front before place)) at
-          ∙ shut_is row.number
-          ∙ sym (returned row i (ap is_boards q))
-      by_event (Cell c) q = tt
-      by_event (Box b) q = tt
+  gives row i = gives_later config before (map as_logged before) rows closing_below orderly_list returned row i
 
   give_back : (k : ℕ) (a : Part I O) → (w : IsWhole it ic ot oc rows k a) → GiveBackOnto (map (later_row it ic ot oc config before) w.past) (base before k)
   give_back k a w =

@@ -116,14 +116,14 @@ module _ {I O : Type 0} where
 -- What a filter of the steps keeps.
 
 -- each of them passes
-abbrev each_event : Entry → Bool
+abbrev pub each_event : Entry → Bool
 each_event e = true
 
 each_kept : (h : List Entry) → filter each_event h ≡ h
 each_kept [] = refl
 each_kept (e ∷ h) = ap (λ (xs : List Entry). e ∷ xs) (each_kept h)
 
-abbrev keeps_event : Entry → Bool
+abbrev pub keeps_event : Entry → Bool
 keeps_event e = is_reserved e.event
 
 board_kept_in : (moment : ℕ) (ev : Event) (t : Bool) → is_reserved ev ≡ t → t ≡ false → board_at moment ev ≡ None
@@ -137,7 +137,7 @@ board_kept_by e h rest true q = ap (λ (xs : List BoardEntry). cons_option (boar
 board_kept_by e h rest false q =
     ap (λ (o : Option BoardEntry). cons_option o (filter_map board_entry h)) (board_kept_in e.moment e.event false q refl) ∙ rest
 
-board_kept : (h : List Entry) → filter_map board_entry h ≡ filter_map board_entry (filter keeps_event h)
+pub board_kept : (h : List Entry) → filter_map board_entry h ≡ filter_map board_entry (filter keeps_event h)
 board_kept [] = refl
 board_kept (e ∷ h) = board_kept_by e h (board_kept h) (keeps_event e) refl
 
@@ -159,7 +159,7 @@ box_kept_by : (e : Entry) (h : List Entry) → holder (filter_map box_event h) �
 box_kept_by e h rest true q = holder_more (box_event e) (filter_map box_event h) (filter_map box_event (filter keeps_event h)) rest
 box_kept_by e h rest false q = box_kept_in e.event (filter_map box_event h) q ∙ rest
 
-box_kept : (h : List Entry) → holder (filter_map box_event h) ≡ holder (filter_map box_event (filter keeps_event h))
+pub box_kept : (h : List Entry) → holder (filter_map box_event h) ≡ holder (filter_map box_event (filter keeps_event h))
 box_kept [] = refl
 box_kept (e ∷ h) = box_kept_by e h (box_kept h) (keeps_event e) refl
 
@@ -179,7 +179,7 @@ cell_filtered : (e : Entry) (h : List Entry) (t : Bool) → keeps_event e ≡ t
 cell_filtered e h true q = refl
 cell_filtered e h false q = refl
 
-cell_kept : (h : List Entry) → nested_of (filter_map cell_entry h) ≡ filter_map cell_entry (filter keeps_event h)
+pub cell_kept : (h : List Entry) → nested_of (filter_map cell_entry h) ≡ filter_map cell_entry (filter keeps_event h)
 cell_kept [] = refl
 cell_kept (e ∷ h) =
     cell_kept_by e.moment e.event (filter_map cell_entry h) (filter_map cell_entry (filter keeps_event h)) (cell_kept h) (keeps_event e) refl
@@ -248,18 +248,18 @@ brings_whole (e ∷ h) b = brings_whole_by e.moment e.event h (brings_whole h) b
 -- The state at a front.
 
 module _ {I O : Type 0} where
-  board_is : (config : Config) (x : Part I O) (h : List Entry) (k : List BoardEntry) → IsBoardPart x → Stands config x h → filter_map board_entry h ≡ k → BoardIs config x k
+  pub board_is : (config : Config) (x : Part I O) (h : List Entry) (k : List BoardEntry) → IsBoardPart x → Stands config x h → filter_map board_entry h ≡ k → BoardIs config x k
   board_is config (part.Board b) h k is for q = subst (λ (y : List BoardEntry). IsFitting config y × BoardFor config b y) q for
   board_is config (part.Cell c) h k is for q = absurd is
   board_is config (part.Pair b) h k is for q = absurd is
 
-  box_is : (config : Config) (x : Part I O) (h : List Entry) (held : Option Holder) → IsBoxPart config.max_sessions x → Stands config x h
+  pub box_is : (config : Config) (x : Part I O) (h : List Entry) (held : Option Holder) → IsBoxPart config.max_sessions x → Stands config x h
       → holder (filter_map box_event h) ≡ held → BoxIs config.max_sessions x held
   box_is config (part.Pair b) h held is for q = (sym for.1.holder_is ∙ q, is)
   box_is config (part.Board b) h held is for q = absurd is
   box_is config (part.Cell c) h held is for q = absurd is
 
-  cell_is : (config : Config) (x : Part I O) (h : List Entry) (k : List CellEntry) → IsCellPart x → Stands config x h
+  pub cell_is : (config : Config) (x : Part I O) (h : List Entry) (k : List CellEntry) → IsCellPart x → Stands config x h
       → nested_of (filter_map cell_entry h) ≡ k → CellIs config x k
   cell_is config (part.Cell c) h k is for q =
       (for.history, sym (told_nested for.history) ∙ ap (λ (xs : List CellEntry). nested_of xs) for.is_recorded ∙ q, for.stands)
@@ -271,23 +271,23 @@ module _ {I O : Type 0} where
   IsShort config (part.Cell c) n = (h : List CellEntry) × (length h ≤ n) × CellFor config c h
   IsShort config _ n = ⊥
 
-  short_is : (config : Config) (x : Part I O) (h : List Entry) → IsCellPart x → Stands config x h → IsShort config x (length h)
+  pub short_is : (config : Config) (x : Part I O) (h : List Entry) → IsCellPart x → Stands config x h → IsShort config x (length h)
   short_is config (part.Cell c) h is for =
       (for.history, omega (arith, length-map for.history logged_entry, ap length for.is_recorded, picked_few cell_entry h), for.stands)
   short_is config (part.Board b) h is for = absurd is
   short_is config (part.Pair b) h is for = absurd is
 
-  not_cell : (x : Part I O) → IsBoardPart x → IsCellPart x → ⊥
+  pub not_cell : (x : Part I O) → IsBoardPart x → IsCellPart x → ⊥
   not_cell (part.Board b) is cell = cell
   not_cell (part.Cell c) is cell = is
   not_cell (part.Pair b) is cell = cell
 
-  box_not_cell : (cells : ℕ) (x : Part I O) → IsBoxPart cells x → IsCellPart x → ⊥
+  pub box_not_cell : (cells : ℕ) (x : Part I O) → IsBoxPart cells x → IsCellPart x → ⊥
   box_not_cell cells (part.Board b) is cell = cell
   box_not_cell cells (part.Cell c) is cell = is
   box_not_cell cells (part.Pair b) is cell = cell
 
-  box_not_board : (cells : ℕ) (x : Part I O) → IsBoxPart cells x → IsBoardPart x → ⊥
+  pub box_not_board : (cells : ℕ) (x : Part I O) → IsBoxPart cells x → IsBoardPart x → ⊥
   box_not_board cells (part.Board b) is board = is
   box_not_board cells (part.Cell c) is board = is
   box_not_board cells (part.Pair b) is board = board
@@ -296,16 +296,16 @@ onto_more : {T : Type 0} (rows : List (table.Entry Made T)) (h : List Entry) →
 onto_more [] h = omega arith
 onto_more (row ∷ rows) h = omega (arith, onto_more rows (entry_of row ∷ h))
 
-onto_long : {T : Type 0} (rows : List (table.Entry Made T)) → length (onto rows []) ≡ length rows
+pub onto_long : {T : Type 0} (rows : List (table.Entry Made T)) → length (onto rows []) ≡ length rows
 onto_long rows = omega (arith, onto_more rows [])
 
-reserved_boards : (ev : Event) → is_boards ev ≡ true → is_reserved ev ≡ true
+pub reserved_boards : (ev : Event) → is_boards ev ≡ true → is_reserved ev ≡ true
 reserved_boards (Board b) t = refl
 reserved_boards (Cell c) t = absurd (let k : false ≡ true = t in cc)
 reserved_boards (Box b) t = absurd (let k : false ≡ true = t in cc)
 
 -- only the board's own events give pairs back
-where_boards : (made : Made) (v : Event) (h : List BoardEntry) → (is_boards v ≡ true → GivesBack made v h) → GivesBack made v h
+pub where_boards : (made : Made) (v : Event) (h : List BoardEntry) → (is_boards v ≡ true → GivesBack made v h) → GivesBack made v h
 where_boards made (Board b) h gives = gives refl
 where_boards made (Cell c) h gives = tt
 where_boards made (Box b) h gives = tt
@@ -336,7 +336,7 @@ module _ {T I O : Type 0} (it : I → EndLog InCall) (ic : I → ℕ) (ot : O �
   }
 
   -- so the whole history is the list's
-  whole_history : (k : ℕ) (v : View (Part I O) Made T) (n : ℕ) (x : Part I O) → (g : Gives k v n x) → v.parts ≡ 1024 → Numbered v.entries
+  pub whole_history : (k : ℕ) (v : View (Part I O) Made T) (n : ℕ) (x : Part I O) → (g : Gives k v n x) → v.parts ≡ 1024 → Numbered v.entries
       → onto g.history [] ≡ history (list_of v.entries) k n
   whole_history k v n x g all numbered =
       sym (each_kept (onto g.history []))
@@ -354,7 +354,7 @@ module _ {T I O : Type 0} (it : I → EndLog InCall) (ic : I → ℕ) (ot : O �
       ∙ o ∙ ap (λ (i : ℕ). filter keeps_event (history (list_of v.entries) k i)) g.long
 
   -- of each number before the front the list has the board's entries
-  board_before : (v : View (Part I O) Made T) (n : ℕ) (x : Part I O) → (g : Gives 0 v n x) → v.main ≡ true → Numbered v.entries → (i : ℕ) → i ≤ length g.history
+  pub board_before : (v : View (Part I O) Made T) (n : ℕ) (x : Part I O) → (g : Gives 0 v n x) → v.main ≡ true → Numbered v.entries → (i : ℕ) → i ≤ length g.history
       → filter_map board_entry (onto (take i g.history) []) ≡ board_history (list_of v.entries) i
   board_before v n x g main numbered i within =
       board_kept (onto (take i g.history) [])

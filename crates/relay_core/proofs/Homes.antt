@@ -150,22 +150,22 @@ module _ {O : Type 0} (log : O → EndLog OutCall) (faults : O → ℕ) where
       absurd (elim (subst (λ (ls : List (Leg O)). In leg ls)
       (nothing_in new.legs.items (let a = length-map new.legs.items holder_of in let b = ap length for.holders in omega (arith, a, b))) i) [ ])
 
-  -- what goes has the out ends of the pairs that are leased
+  -- legs that go have the out ends of the pairs that are leased
+  pub parts_home : (config : Config) (those : List (Leg O)) → LegsHome log config those → ((leg : Leg O) → In leg those → leg.lease.pair ≡ leg.holder.pair)
+      → GoneHome log config (filter_map (λ (leg : Leg O). parts_of leg) those)
+  parts_home config those home pair went i =
+      let m = picked (λ (leg : Leg O). parts_of leg) those i in
+      let have = parts_have m.from.lease m.from.sending.ends went m.makes in
+      subst (λ (o : Option (O × O)). AreHome log (port_address config went.0.pair Rtp) o) have.0
+      (subst (λ (n : ℕ). AreHome log (port_address config n Rtp) m.from.sending.ends)
+      (sym (pair m.from m.is_in) ∙ ap (λ (l : Lease). l.pair) have.1) (home m.from m.is_in))
+
   pub gone_home : (config : Config) (cell : cell.Cell O) (h : List CellEntry) (those : List (Leg O)) (gone : List (Lease × O × O)) → CellFor config cell h
       → LegsHome log config cell.legs.items → ((leg : Leg O) → In leg those → In leg cell.legs.items) → gone ≡ filter_map (λ (leg : Leg O). parts_of leg) those
       → GoneHome log config gone
   gone_home config cell h those gone for home within went =
       subst (λ (g : List (Lease × O × O)). GoneHome log config g) (sym went)
-      (each those (λ leg i. home leg (within leg i)) (λ leg i. (each_in config (since_end h) cell.legs.items leg for.legs_for (within leg i)).pair))
-    where
-      each : (those : List (Leg O)) → LegsHome log config those → ((leg : Leg O) → In leg those → leg.lease.pair ≡ leg.holder.pair)
-          → GoneHome log config (filter_map (λ (leg : Leg O). parts_of leg) those)
-      each those home pair went i =
-          let m = picked (λ (leg : Leg O). parts_of leg) those i in
-          let have = parts_have m.from.lease m.from.sending.ends went m.makes in
-          subst (λ (o : Option (O × O)). AreHome log (port_address config went.0.pair Rtp) o) have.0
-          (subst (λ (n : ℕ). AreHome log (port_address config n Rtp) m.from.sending.ends)
-          (sym (pair m.from m.is_in) ∙ ap (λ (l : Lease). l.pair) have.1) (home m.from m.is_in))
+      (parts_home config those (λ leg i. home leg (within leg i)) (λ leg i. (each_in config (since_end h) cell.legs.items leg for.legs_for (within leg i)).pair))
 
   -- Any event of a cell.
 

@@ -1,5 +1,5 @@
 -- What a list that goes on from another's has of each place: what that one left there, and then its own.
-use Rattle.std.proofs.Common.{◌≡◌, ◌∙◌, sym, ap, subst, refl, ℕ, zero, suc, ◌+◌, ◌<◌, ◌≤◌, List, [], ◌∷◌, ◌++◌, Bool, true, false, map, filter, ◌==◌, arith}
+use Rattle.std.proofs.Common.{◌≡◌, ◌∙◌, sym, ap, subst, refl, ℕ, zero, suc, ◌+◌, ◌<◌, ◌≤◌, List, [], ◌++◌, Bool, true, false, map, filter, append-nil, ◌==◌, arith}
 use Rattle.std.specs.Prelude.{◌&&◌}
 use Rattle.std.proofs.lemmas.List.{map-append}
 use mathlib.Core.List.{append_assoc}
@@ -15,11 +15,11 @@ use Rattle.relay_core.specs.Turns.{IsReceiving, Numbered}
 use Rattle.relay_core.specs.Continued.{later_relayed, later_event, later}
 use Rattle.relay_core.proofs.Histories.{at_place}
 use Rattle.relay_core.proofs.Boxes.{below_front}
-use Rattle.relay_core.proofs.Refilling.{filter_mapped, before_mapped}
+use Rattle.relay_core.proofs.Refilling.{history_mapped, filter_mapped, before_mapped}
 use Rattle.relay_core.proofs.Turns.{filter_append, filter_none, false_if}
 use Rattle.relay_core.proofs.Counts.{Stands}
 use Rattle.relay_core.proofs.Joins.{receiving_joined}
-use Rattle.relay_core.proofs.Logged.{receiving_logged}
+use Rattle.relay_core.proofs.Logged.{logged_keeps, receiving_logged}
 use Rattle.relay_core.proofs.Numbers.{stands_below}
 
 -- Counting on.
@@ -93,56 +93,69 @@ module _ (config : Config) (before l : List Entry) where
       let m = mapped (later config before) l i in
       subst (λ (x : Entry). front before x.place ≤ x.number) m.makes (omega arith)
 
-  none_late : (k n : ℕ) → front before k ≤ n → filter (is_at k n) (map as_logged before) ≡ []
+-- The list counted on, behind any that stays below what it is counted on from.
+module _ (config : Config) (before early l : List Entry) (low : (e : Entry) → In e early → e.number < front before e.place) where
+  none_late : (k n : ℕ) → front before k ≤ n → filter (is_at k n) early ≡ []
   none_late k n high =
-      filter_none (is_at k n) (map as_logged before) (λ e i. false_if (is_at k n e) (λ t.
+      filter_none (is_at k n) early (λ e i. false_if (is_at k n e) (λ t.
       let a = at_place k n e t in
-      let low = low_number e i in
+      let below = low e i in
       let place = ap (λ (p : ℕ). front before p) a.0 in
       let number = a.1 in
-      omega (arith, low, place, number, high)))
+      omega (arith, below, place, number, high)))
 
   none_early : (k n : ℕ) → n < front before k → filter (is_at k n) (map (later config before) l) ≡ []
-  none_early k n low =
+  none_early k n below =
       filter_none (is_at k n) (map (later config before) l) (λ e i. false_if (is_at k n e) (λ t.
       let a = at_place k n e t in
-      let high = high_number e i in
+      let high = high_number config before l e i in
       let place = ap (λ (p : ℕ). front before p) a.0 in
       let number = a.1 in
-      omega (arith, low, place, number, high)))
+      omega (arith, high, place, number, below)))
 
+  -- up to the front the history of the list in front
+  pub history_upto : (k n : ℕ) → n ≤ front before k → history (early ++ map (later config before) l) k n ≡ history early k n
+  history_upto k zero within = refl
+  history_upto k (suc n) within =
+      ap (λ (xs : List Entry). xs ++ history (early ++ map (later config before) l) k n)
+      (filter_append (is_at k n) early (map (later config before) l)
+      ∙ ap (λ (xs : List Entry). filter (is_at k n) early ++ xs) (none_early k n (omega (arith, within)))
+      ∙ append-nil (filter (is_at k n) early))
+      ∙ ap (λ (xs : List Entry). filter (is_at k n) early ++ xs) (history_upto k n (omega (arith, within)))
+
+  -- one number of the list counted on
+  pub at_behind : (k i : ℕ) → filter (is_at k (i + front before k)) (early ++ map (later config before) l) ≡ map (later config before) (filter (is_at k i) l)
+  at_behind k i =
+      filter_append (is_at k (i + front before k)) early (map (later config before) l)
+      ∙ ap (λ (xs : List Entry). xs ++ filter (is_at k (i + front before k)) (map (later config before) l)) (none_late k (i + front before k) (omega arith))
+      ∙ filter_mapped (later config before) (is_at k i) (is_at k (i + front before k)) l (later_at config before k i)
+
+  -- and then the list's own
+  pub history_behind : (k n i : ℕ) → n ≡ i + front before k
+      → history (early ++ map (later config before) l) k n ≡ map (later config before) (history l k i) ++ history early k (front before k)
+  history_behind k n zero q =
+      let same : n ≡ front before k = omega (arith, q) in
+      ap (λ (m : ℕ). history (early ++ map (later config before) l) k m) same ∙ history_upto k (front before k) (omega arith)
+  history_behind k zero (suc i) q = absurd (omega (arith, q))
+  history_behind k (suc n) (suc i) q =
+      let rest : n ≡ i + front before k = omega (arith, q) in
+      ap (λ (xs : List Entry). xs ++ history (early ++ map (later config before) l) k n)
+      (ap (λ (m : ℕ). filter (is_at k m) (early ++ map (later config before) l)) rest ∙ at_behind k i)
+      ∙ ap (λ (xs : List Entry). map (later config before) (filter (is_at k i) l) ++ xs) (history_behind k n i rest)
+      ∙ sym (append_assoc (map (later config before) (filter (is_at k i) l)) (map (later config before) (history l k i)) (history early k (front before k)))
+      ∙ ap (λ (xs : List Entry). xs ++ history early k (front before k)) (sym (map-append (later config before) (filter (is_at k i) l) (history l k i)))
+
+module _ (config : Config) (before l : List Entry) where
   -- up to the front the earlier list's history
   pub history_early : (k n : ℕ) → n ≤ front before k → history (joined config before l) k n ≡ map as_logged (history before k n)
-  history_early k zero within = refl
-  history_early k (suc n) within =
-      ap (λ (xs : List Entry). xs ++ history (joined config before l) k n)
-      (filter_append (is_at k n) (map as_logged before) (map (later config before) l)
-      ∙ ap (λ (xs : List Entry). filter (is_at k n) (map as_logged before) ++ xs) (none_early k n (omega (arith, within)))
-      ∙ nothing_behind (filter (is_at k n) (map as_logged before))
-      ∙ filter_mapped as_logged (is_at k n) (is_at k n) before (λ e. refl))
-      ∙ ap (λ (xs : List Entry). map as_logged (filter (is_at k n) before) ++ xs) (history_early k n (omega (arith, within)))
-      ∙ sym (map-append as_logged (filter (is_at k n) before) (history before k n))
-    where
-      nothing_behind : (xs : List Entry) → xs ++ [] ≡ xs
-      nothing_behind [] = refl
-      nothing_behind (x ∷ xs) = ap (λ (ys : List Entry). x ∷ ys) (nothing_behind xs)
+  history_early k n within =
+      history_upto config before (map as_logged before) l (low_number config before l) k n within ∙ history_mapped as_logged logged_keeps before k n
 
   -- and then the list's own
   pub history_late : (k n i : ℕ) → n ≡ i + front before k → history (joined config before l) k n ≡ map (later config before) (history l k i) ++ base before k
-  history_late k n zero q =
-      let same : n ≡ front before k = omega (arith, q) in
-      ap (λ (m : ℕ). history (joined config before l) k m) same ∙ history_early k (front before k) (omega arith)
-  history_late k zero (suc i) q = absurd (omega (arith, q))
-  history_late k (suc n) (suc i) q =
-      let rest : n ≡ i + front before k = omega (arith, q) in
-      ap (λ (xs : List Entry). xs ++ history (joined config before l) k n)
-      (filter_append (is_at k n) (map as_logged before) (map (later config before) l)
-      ∙ ap (λ (xs : List Entry). xs ++ filter (is_at k n) (map (later config before) l)) (none_late k n (omega (arith, rest)))
-      ∙ ap (λ (m : ℕ). filter (is_at k m) (map (later config before) l)) rest
-      ∙ filter_mapped (later config before) (is_at k i) (is_at k (i + front before k)) l (later_at config before k i))
-      ∙ ap (λ (xs : List Entry). map (later config before) (filter (is_at k i) l) ++ xs) (history_late k n i rest)
-      ∙ sym (append_assoc (map (later config before) (filter (is_at k i) l)) (map (later config before) (history l k i)) (base before k))
-      ∙ ap (λ (xs : List Entry). xs ++ base before k) (sym (map-append (later config before) (filter (is_at k i) l) (history l k i)))
+  history_late k n i q =
+      history_behind config before (map as_logged before) l (low_number config before l) k n i q
+      ∙ ap (λ (xs : List Entry). map (later config before) (history l k i) ++ xs) (history_mapped as_logged logged_keeps before k (front before k))
 
   -- Which numbers stand.
 

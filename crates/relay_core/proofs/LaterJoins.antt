@@ -1,7 +1,6 @@
 -- What is known of a list that goes on from another's is known of it with that of a lane behind it.
 use Rattle.std.proofs.Common.{◌≡◌, ◌∙◌, sym, ap, subst, refl, ℕ, ◌+◌, ◌⊎◌, inl, inr, List, ◌++◌, true, map, length, filter, append-nil, arith}
 use Rattle.std.proofs.lemmas.List.{map-append, length-map}
-use mathlib.Core.List.{append_assoc}
 use Rattle.relay_outside.specs.declared.settings.Config.{Config}
 use Rattle.turn_table.specs.declared.machine.Entry as table
 use Rattle.turn_table.specs.Histories as table_lists
@@ -18,12 +17,12 @@ use Rattle.relay_core.specs.Joins.{TakesOwnPairs, IsLaneRows}
 use Rattle.relay_core.specs.Continued.{later_event, later, continued, IsSoundAfter}
 use Rattle.relay_core.proofs.Histories.{at_place}
 use Rattle.relay_core.proofs.Boxes.{below_front}
-use Rattle.relay_core.proofs.Refilling.{filter_mapped}
 use Rattle.relay_core.proofs.Turns.{filter_append, filter_none, false_if, lanes_keep}
 use Rattle.relay_core.proofs.Own.{rows_in}
 use Rattle.relay_core.proofs.Recording.{returned_behind}
 use Rattle.relay_core.proofs.Joins.{numbered_left, not_in_both, receiving_joined, row_append, lane_handed, boards_nested, lane_entries}
-use Rattle.relay_core.proofs.Later.{later_at, later_by}
+use Rattle.relay_core.proofs.Later.{later_by, at_behind}
+use Rattle.relay_core.proofs.LaterHistories.{longer_continued}
 
 -- Each entry of both lists keeps its place and number alone.
 
@@ -46,18 +45,8 @@ module _ (config : Config) (before l : List Entry) where
 
   late_once : Numbered l → (e : Entry) → In e l → length (filter (is_at e.place (e.number + front before e.place)) (continued config before l)) ≡ 1
   late_once numbered e i =
-      let k = e.place in
-      let n = e.number + front before k in
-      ap length
-      (filter_append (is_at k n) before (map (later config before) l)
-      ∙ ap (λ (xs : List Entry). xs ++ filter (is_at k n) (map (later config before) l))
-      (filter_none (is_at k n) before (λ f j. false_if (is_at k n f) (λ t.
-      let a = at_place k n f t in
-      let low = below_front before f k j a.0 in
-      let number = a.1 in
-      omega (arith, low, number))))
-      ∙ filter_mapped (later config before) (is_at k e.number) (is_at k n) l (later_at config before k e.number))
-      ∙ length-map (filter (is_at k e.number) l) (later config before)
+      ap length (at_behind config before before l (λ f j. below_front before f f.place j refl) e.place e.number)
+      ∙ length-map (filter (is_at e.place e.number) l) (later config before)
       ∙ numbered e i
 
   pub numbered_both : Numbered before → Numbered l → Numbered (continued config before l)
@@ -80,11 +69,6 @@ later_lane config before (Cell (Read reports)) is = absurd is
 later_lane config before (Cell End) is = absurd is
 later_lane config before (Box (Open leg)) is = absurd is
 later_lane config before (Box Close) is = absurd is
-
-both_later : (config : Config) (before l ls : List Entry) → continued config before (l ++ ls) ≡ continued config before l ++ map (later config before) ls
-both_later config before l ls =
-    ap (λ (xs : List Entry). before ++ xs) (map-append (later config before) l ls)
-    ∙ sym (append_assoc before (map (later config before) l) (map (later config before) ls))
 
 module _ {T : Type 0} where
   -- a nested row's board entry is among the rows
@@ -130,7 +114,7 @@ module _ {T : Type 0} where
         let once = subst Numbered same numbered in
         let left = sound.orderly (numbered_left (list_of rows) (list_of others) once) in
         let early = numbered_left before (map (later config before) (list_of rows)) left.numbered in
-        let both = both_later config before (list_of rows) (list_of others) in
+        let both = longer_continued config before (list_of rows) (list_of others) in
         subst (λ (l : List Entry). Orderly config (continued config before l)) (sym same)
         (subst (λ (l : List Entry). Orderly config l) (sym both)
         (lanes_keep config (continued config before (list_of rows)) (map (later config before) (list_of others)) left

@@ -34,6 +34,12 @@ pub mod Stepping
 pub mod Given
 pub mod Shaped
 pub mod WholeFirst
+pub mod KeptScripts
+pub mod KeptHistories
+pub mod KeptGained
+pub mod KeptBoards
+pub mod KeptGiven
+pub mod KeptWhole
 pub mod Beginnings
 pub mod Rounded
 pub mod Suites
@@ -57,6 +63,7 @@ pub mod Placing
 pub mod InsTold
 pub mod OutsTold
 pub mod Homes
+pub mod HomesKept
 pub mod GivenHomes
 pub mod Closed
 pub mod Logged
@@ -64,11 +71,15 @@ pub mod Numbers
 pub mod Later
 pub mod LaterSteps
 pub mod Earlier
+pub mod LaterReturns
+pub mod LaterHistories
 pub mod Continuing
 pub mod Firsts
 pub mod LaterJoins
+pub mod GivenLater
 pub mod Whole
 pub mod Closings
 pub mod Partings
 mod Example
 mod rows
+pub mod WholeClosed

@@ -144,7 +144,8 @@ held_kept (e ∷ h) start = held_kept_by e h start (held_kept h start) (keeps_ev
 -- Any number of steps.
 
 module _ {T I O : Type 0} (it : I → EndLog InCall) (ic : I → ℕ) (ot : O → EndLog OutCall) (oc : O → ℕ) where
-  shape_step : (a b : Part I O) (row : table.Entry Made T) (h : List Entry) (shape : CellShape) → Steps it ic ot oc a row.event row.outcome b
+  -- one step
+  pub shape_step : (a b : Part I O) (row : table.Entry Made T) (h : List Entry) (shape : CellShape) → Steps it ic ot oc a row.event row.outcome b
       → HasShape a (shape_by (filter_map cell_entry h) shape) → HasShape b (shape_by (filter_map cell_entry (entry_of row ∷ h)) shape)
   shape_step (part.Cell old) (part.Cell new) row h shape step was =
       shaped_step ot oc old new row.event row.event.moment row.event.event (filter_map cell_entry h) shape step was

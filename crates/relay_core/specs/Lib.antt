@@ -16,4 +16,5 @@ pub mod RowMoments
 pub mod Joins
 pub mod PartShapes
 pub mod WholeParts
+pub mod KeptAfter
 pub mod Continued

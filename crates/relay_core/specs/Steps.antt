@@ -1,19 +1,19 @@
 -- Which steps of the board, the cells and the boxes their events are: what their calls say for every history that the old state stands
 -- for, of the board for every one by which the step closes the legs of the pairs that it records.
-use Rattle.std.specs.Prelude.{◌≡◌, ℕ, Bool, true, List, [], ◌∷◌, Option, Some, None, map}
+use Rattle.std.specs.Prelude.{◌≡◌, ℕ, Bool, true, List, [], ◌∷◌, Option, Some, None, map, filter_map}
 use Rattle.relay_outside.specs.declared.ports.InCall.{InCall}
 use Rattle.relay_outside.specs.declared.ports.OutCall.{OutCall}
 use Rattle.relay_outside.specs.declared.address.Addr.{Addr}
 use Rattle.relay_outside.specs.declared.settings.Config.{Config}
 use Rattle.rtp_packet.specs.declared.head.Half.TheVariants.{Rtp, Rtcp}
 use Rattle.relay_outside.specs.DeviceLogs.{EndLog, IsOpenedFor}
-use Rattle.histories.specs.Words.{In}
+use Rattle.histories.specs.Words.{In, has}
 use Rattle.port_pool.specs.declared.pairs.Lease.{Lease}
 use Rattle.port_pool.specs.declared.holder.Holder.{Holder}
 use Rattle.port_pool.specs.declared.boxes.PairBox.{PairBox}
 use Rattle.port_pool.specs.declared.signal.SectionSignal.{SectionSignal}
 use Rattle.port_pool.specs.declared.reports.LegReport.{LegReport}
-use Rattle.port_pool.specs.Signals.{NewKey}
+use Rattle.port_pool.specs.Signals.{NewKey, is_rejected}
 use Rattle.port_pool.specs.Boxes.{BoxEvent, Open, Take, Close, FitsBox}
 use Rattle.port_pool.specs.PairBoxes.{BoxFor, ends_in, at_of, cells_of}
 use Rattle.port_pool.specs.Ports.{port_address, rtcp_address}
@@ -28,8 +28,8 @@ use Rattle.call_cell.specs.Preparations.{CellPrepares, added}
 use Rattle.call_cell.specs.Commits.{CellCommits}
 use Rattle.call_cell.specs.Expiries.{CellExpires}
 use Rattle.call_cell.specs.LegReports.{CellReads}
-use Rattle.call_cell.specs.CellEnds.{CellEnds}
-use Rattle.call_cell.specs.Shapes.{cell_shape}
+use Rattle.call_cell.specs.CellEnds.{CellEnds, parts_of}
+use Rattle.call_cell.specs.Shapes.{IsSmall, LegsGo, KeepsPorts, CountsRoseByOne, cell_shape, cell_leg_shapes}
 use Rattle.call_board.specs.declared.board.Board as board
 use Rattle.call_board.specs.Acts.{BoardEvent, BoardEntry}
 use Rattle.call_board.specs.Boards.{BoardFor}
@@ -113,12 +113,15 @@ HasMoment made event h = made.moment ≡ moment_of (Cell event) made.handed (cel
 abbrev pub with_take : ℕ → Receipt → Receipt
 with_take take p = record { take = take; half = p.half; source = p.source; bytes = p.bytes; holder = p.holder }
 
--- What a step makes of the cell's shape is said of each cell, and all else for every history that the cell stands for.
+-- What a step makes of the cell's shape, and of its legs' out ends and counts, is said of each cell, of some steps where the cell is
+-- small, and all else for every history that the cell stands for.
 
 -- a relay of this packet with this outcome, whichever number its take has, and whatever the buffer holds after it
 pub record CellRelayed {O : Type 0} (log : O → EndLog OutCall) (faults : O → ℕ) (old : cell.Cell O) (made : Made) (x : Relayed) (new : cell.Cell O) : Type 0 where
   pub is_told : x ≡ logged_relay x.packet x.deed.outcome
   pub shape : cell_shape new ≡ cell_shape old
+  pub counts : CountsRoseByOne old.legs.items new.legs.items
+  pub legs : KeepsPorts log old.legs.items new.legs.items
   pub buffer : List ℕ
   pub steps : (config : Config) (h : List CellEntry) (take : ℕ) → CellFor config old h
       → HasMoment made (Relay x) h × CellRelays log faults config old new h (with_take take x.packet) made.handed buffer x.deed.outcome
@@ -145,6 +148,7 @@ pub record CellPrepared {O : Type 0} (log : O → EndLog OutCall) (old : cell.Ce
   pub opened : AreOpened log old.config signal
   pub gone : List (Lease × O × O)
   pub left_are : made.left.legs ≡ legs_left log gone
+  pub moves : IsSmall (cell_leg_shapes old.legs.items) → LegsGo (λ leg. has dropped leg.section) signal.legs.items old.legs.items new.legs.items gone
   pub steps : (config : Config) (h : List CellEntry) → CellFor config old h → AreNew h keys
       → HasMoment made (Prepare call legs keys dropped) h × CellPrepares config old new h signal call keys dropped made.handed gone
 
@@ -152,6 +156,7 @@ pub record CellCommitted {O : Type 0} (log : O → EndLog OutCall) (old : cell.C
   pub shape : cell_shape new ≡ shape_after_event (Commit signal) (cell_shape old)
   pub gone : List (Lease × O × O)
   pub left_are : made.left.legs ≡ legs_left log gone
+  pub moves : IsSmall (cell_leg_shapes old.legs.items) → LegsGo (λ leg. is_rejected signal leg.section) [] old.legs.items new.legs.items gone
   pub steps : (config : Config) (h : List CellEntry) → CellFor config old h
       → HasMoment made (Commit signal) h × CellCommits config old new h signal made.handed gone
 
@@ -159,11 +164,14 @@ pub record CellEnded {O : Type 0} (log : O → EndLog OutCall) (old : cell.Cell 
   pub shape : cell_shape new ≡ shape_after_event End (cell_shape old)
   pub gone : List (Lease × O × O)
   pub left_are : made.left.legs ≡ legs_left log gone
+  pub none : IsSmall (cell_leg_shapes old.legs.items) → new.legs.items ≡ []
+  pub went : IsSmall (cell_leg_shapes old.legs.items) → gone ≡ filter_map (λ (leg : Leg O). parts_of leg) old.legs.items
   pub steps : (config : Config) (h : List CellEntry) → CellFor config old h → HasMoment made End h × CellEnds config old new h gone
 
 -- the cell was asked whether its call is due
 pub record CellAsked {O : Type 0} (old : cell.Cell O) (made : Made) (due : Bool) (new : cell.Cell O) : Type 0 where
   pub shape : cell_shape new ≡ cell_shape old
+  pub legs : new.legs ≡ old.legs
   pub steps : (config : Config) (h : List CellEntry) → CellFor config old h → HasMoment made (Expire due) h × CellExpires config old new h made.handed due
 
 -- the cell told of its legs, and nothing changed

@@ -11,6 +11,8 @@ ghost use Rattle.relay_core.specs.ReturnedPairs.{AreReturned};
 ghost use Rattle.relay_core.specs.FirstPlaces.{AreParts};
 ghost use Rattle.relay_core.specs.RowMoments.{AreTimed};
 ghost use Rattle.relay_core.specs.Continued.{AreLeftBy, IsSoundAfter, continued};
+ghost use Rattle.relay_core.specs.KeptAfter.{IsWholeNow};
+ghost use Rattle.relay_core.specs.WholeParts.{AreWholeParts};
 ghost use Rattle.relay_core.specs.EndLogs.{InOrder, InsAreTold, OutsAreTold};
 ghost use Rattle.relay_core.specs.Turns.{Numbered, made_by};
 ghost use Rattle.relay_core.specs.Joins.{IsSound, AreStanding};
@@ -30,6 +32,8 @@ use turn_table::{Hand, Turns};
 /// Where the places began with what an earlier list had left, the hand's list goes on from that one: both together are a legal
 /// list, which leaves what the places hold now. So a list can go on from that one in turn.
 ///
+/// Where what the board, the cells and the boxes keep goes together, so do the states that are returned: a node may begin with them.
+///
 /// A leg's sends are told by its call, pair and generation, since two legs of one cell may have had the pair one after the
 /// other. Without `AreTimed` a sweep with another clock would meet every clause.
 pub fn close_relay<I: InEnd, O: OutEnd>(
@@ -46,6 +50,7 @@ pub fn close_relay<I: InEnd, O: OutEnd>(
     ensures ins { (config : Config) → AreParts config (starts hand) → IsSound config (entries hand) → InOrder (made_by hand) → InsAreTold config (entries hand) }
     ensures continued { (config : Config) (before : List Entry) → AreLeftBy config before (starts hand) → IsSoundAfter config before (entries hand) → (l : List Entry) × (map as_logged l ≡ made_by hand) × AreLeftBy config (continued config before l) result.items }
     ensures timed { (config : Config) → AreParts config (starts hand) → IsSound config (entries hand) → AreTimed (entries hand) }
+    ensures whole { (config : Config) → AreWholeParts config (starts hand) → IsWholeNow config hand → AreWholeParts config result.items }
 {
     turns.close(hand)
 }

@@ -10,6 +10,8 @@ use Rattle.turn_table.specs.Hands.{IsHandOf, HasNoTurn, IsUnchanged, KnowsAll, v
 use Rattle.relay_core.specs.declared.part.Part.{Part}
 use Rattle.relay_core.specs.declared.machine.Relay.{Relay}
 use Rattle.relay_core.specs.FirstPlaces.{AreParts}
+use Rattle.relay_core.specs.WholeParts.{AreWholeParts}
+use Rattle.relay_core.specs.KeptAfter.{IsWholeNow}
 use Rattle.relay_core.specs.NestedMoments.{IsHanded}
 use Rattle.relay_core.specs.Joins.{TakesOwnPairs, IsSound}
 use Rattle.relay_core.specs.Legal.{Orderly}
@@ -24,6 +26,8 @@ use Rattle.media_lane.specs.Visits.{Row}
 use Rattle.media_lane.proofs.Between.{lanes_board}
 use Rattle.board_turns.specs.Between.{board_of, IsBetween}
 use Rattle.board_turns.proofs.Betweens.{between_sound}
+use Rattle.board_turns.proofs.Wholeness.{same_now}
+use Rattle.relay_core.proofs.KeptWhole.{lanes_whole}
 use Rattle.relay_runs.specs.declared.media_thread.MediaThread.{MediaThread}
 use Rattle.relay_runs.specs.Rounds.{AreLanes, all_of}
 use Rattle.relay_runs.specs.Threads.{all_lanes, rows_each, CountsUp, JoinsInOrder}
@@ -41,6 +45,8 @@ module _ {M I O T : Type 0} {g : _} (config : Config) (turns : Turns M (Part I O
     main = ap (λ (v : View (Part I O) Made T). v.main) same.1 ∙ b.main;
     idle = λ k. ap (λ (v : View (Part I O) Made T). phase_at v.turns k) same.1 ∙ b.idle k;
     parts = subst (λ (v : View (Part I O) Made T). AreParts config v.starts) (sym same.1) b.parts;
+    whole_parts = subst (λ (v : View (Part I O) Made T). AreWholeParts config v.starts) (sym same.1) b.whole_parts;
+    whole = same_now config old new (ap (λ (v : View (Part I O) Made T). v.starts) same.1) (ap (λ (v : View (Part I O) Made T). v.entries) same.1) b.whole;
     numbered = subst (λ (v : View (Part I O) Made T). Numbered (list_of v.entries)) (sym same.1) b.numbered;
     orderly = subst (λ (v : View (Part I O) Made T). Orderly config (list_of v.entries)) (sym same.1) b.orderly;
     handed = subst (λ (v : View (Part I O) Made T). IsHanded v.entries) (sym same.1) b.handed;
@@ -51,12 +57,14 @@ module _ {M I O T : Type 0} {g : _} (config : Config) (turns : Turns M (Part I O
 -- The main hand after it took in hands of threads, by what it then knows of its list.
 module _ {M I O T : Type 0} {g : _} (config : Config) (turns : Turns M (Part I O) Made T) (old new : Hand M (Part I O) Made T g) where
   pub joined_between : IsBetween config turns old → IsHandOf turns new → (view new).main ≡ (view old).main → HasNoTurn new → starts new ≡ starts old
-      → IsSound config (entries new) → Numbered (made_by new) → IsBetween config turns new
-  joined_between b of_table main idle same sound numbered = record {
+      → IsSound config (entries new) → Numbered (made_by new) → IsWholeNow config new → IsBetween config turns new
+  joined_between b of_table main idle same sound numbered whole = record {
     of_table = of_table;
     main = main ∙ b.main;
     idle = idle;
     parts = subst (λ (l : List (Part I O)). AreParts config l) (sym same) b.parts;
+    whole_parts = subst (λ (l : List (Part I O)). AreWholeParts config l) (sym same) b.whole_parts;
+    whole = whole;
     numbered = numbered;
     orderly = sound.orderly numbered;
     handed = sound.handed numbered;
@@ -106,7 +114,7 @@ module _ {I O : Type 0} {gi : _} {go : _} {gm : _} (config : Config) (turns : Tu
       (joined_between config turns h0 h1 between of_table main_is idle starts_are
       (subst (λ (rows : List Row). IsSound config rows) (sym joins.list_is)
       (all_sound config turns lanes range gate joins.lanes done_in_order (entries h0) (between_sound config turns h0 between)))
-      numbered)
+      numbered (lanes_whole config h0 h1 starts_are (all_of beside) joins.list_is lane_rows_are between.whole))
 
   taken_history : board_of (made_by h2) ≡ board_of (made_by h0)
   taken_history =

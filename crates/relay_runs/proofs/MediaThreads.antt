@@ -14,6 +14,8 @@ use Rattle.relay_core.specs.declared.part.Part.{Part}
 use Rattle.relay_core.specs.declared.machine.Relay.{Relay}
 use Rattle.relay_core.specs.Entries.{Entry}
 use Rattle.relay_core.specs.FirstPlaces.{AreParts}
+use Rattle.relay_core.specs.WholeParts.{AreWholeParts}
+use Rattle.board_turns.proofs.Wholeness.{same_now}
 use Rattle.relay_core.specs.NestedMoments.{IsHanded}
 use Rattle.relay_core.specs.Joins.{TakesOwnPairs, IsLaneRows as IsLaneRows, IsSound}
 use Rattle.relay_core.specs.Legal.{Orderly}
@@ -276,6 +278,8 @@ left_between {M} {I} {O} {T} {g} config turns old new left b = record {
   main = left.4 ∙ b.main;
   idle = left.5;
   parts = subst (λ (l : List (Part I O)). AreParts config l) (sym left.1) b.parts;
+  whole_parts = subst (λ (l : List (Part I O)). AreWholeParts config l) (sym left.1) b.whole_parts;
+  whole = same_now config old new left.1 left.2 b.whole;
   numbered = subst (λ (rows : List (table.Entry Made T)). Numbered (list_of rows)) (sym left.2) b.numbered;
   orderly = subst (λ (rows : List (table.Entry Made T)). Orderly config (list_of rows)) (sym left.2) b.orderly;
   handed = subst (λ (rows : List (table.Entry Made T)). IsHanded rows) (sym left.2) b.handed;

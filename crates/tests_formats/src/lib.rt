@@ -1,4 +1,5 @@
-//! Tests of the formats: bencode, JSON, frames, commands, replies, kept replies, crypto lines, descriptions and their editing.
+//! Tests of the formats: bencode, JSON, frames, commands, replies, kept replies, written states, crypto lines, descriptions and their
+//! editing.
 //! Nothing stands on this crate: the libraries that it tests are proved once, without their tests.
 #![tactic(auto)]
 
@@ -24,3 +25,5 @@ mod sdp_edit_descriptions;
 mod sdp_edit_tests;
 #[cfg(test)]
 mod sdp_text_tests;
+#[cfg(test)]
+mod state_lines_tests;

@@ -1,4 +1,4 @@
-use Rattle.std.proofs.Common.{◌≡◌, ◌∙◌, refl, ap, sym, subst, ℕ, inr, List, filter, arith}
+use Rattle.std.proofs.Common.{◌∷◌, ◌≡◌, ◌∙◌, refl, ap, sym, subst, ℕ, inr, List, [], filter, arith}
 use Rattle.relay_outside.specs.declared.settings.Config.{Config}
 use Rattle.relay_outside.specs.DeviceLogs.{Gained}
 use Rattle.turn_table.specs.Hands.{entries}
@@ -12,9 +12,11 @@ use Rattle.call_board.specs.Boards.{BoardMatches, pairs_in}
 use Rattle.call_board.specs.Pairs.{held}
 use Rattle.call_board.specs.Views.{View, view_of, view_at_moment}
 use Rattle.call_board.specs.Whole.{with_more}
+use Rattle.call_board.specs.Shapes.{board_shape}
 use Rattle.call_board.specs.declared.board_plan.BoardPlan.{BoardPlan}
 use Rattle.call_board.proofs.Cells.{live_cell}
 use Rattle.relay_core.specs.Entries.{Cell, board_history, cell_history}
+use Rattle.relay_core.specs.KeptAfter.{IsWholeWith}
 use Rattle.relay_core.specs.Turns.{IsAbove, GainsNested, made_by}
 use Rattle.media_ports.specs.OpenPorts.{LogsHeld}
 use Rattle.relay_core.proofs.Coming.{answer_names}
@@ -26,7 +28,7 @@ use Rattle.board_turns.specs.InCells.{in_cell_of}
 use Rattle.board_turns.specs.Ties.{TiesTakes}
 use Rattle.board_turns.proofs.Staying.{same_config, stays_both}
 use Rattle.board_turns.specs.Departures.{legs_in}
-use Rattle.board_turns.proofs.Nesting.{above_rows}
+use Rattle.board_turns.proofs.Nesting.{above_rows, gains_more}
 use Rattle.board_turns.specs.CallEnds.{leg_pairs}
 use Rattle.board_turns.proofs.CloseAfter.{can_close_after}
 use Rattle.board_turns.proofs.Tying.{legs_leave, ties_gone}
@@ -34,6 +36,7 @@ use Rattle.board_turns.proofs.Unopened.{gone_open_none}
 use Rattle.answer_command.specs.Due.{due_answer}
 use Rattle.answer_command.proofs.Taken.{no_pairs, no_keys, may_apply, takes_in, taken_with}
 use Rattle.answer_command.proofs.Done.{went_closed, closed_leased, does_answer}
+use Rattle.answer_command.proofs.Wholeness.{takes_answer, answer_keeps_whole}
 use Rattle.answer_command.proofs.act.answer_act.Goals as goal
 
 pub write_answer-requires-clause-pairs : goal.write_answer-requires-clause-pairs
@@ -123,9 +126,9 @@ close_legs-requires-clause-can g c =
     let taken = subst (λ (w : View). BoardMatches config c.apply.new.self w)
     (taken_with config h moment of ask c.args.answer.sdp.now c.args.answer.plan q fits d.alive d.plan_for rest mid.entry_id.moment)
     (c.apply.ensures.taken config v of (round.Answered ask) turn.shows (takes_in config h moment of ask c.args.answer.sdp.now c.args.answer.plan q fits d.alive d.plan_for rest next)) in
-    subst (λ (x : Config). CanClose x (made_by mid.hand.now) c.apply.new.self (g.P.PortMaker.log c.args.turn.now.ports.now) gone) (sym (same_config main mid nests))
-    (can_close_after config n moment main.hand.now mid.hand.now e of (in_cell_of cell (Commit signal)) c.apply.new.self (g.P.PortMaker.log c.args.turn.now.ports.now)
-    (with_more of (round.Answered ask) mid.entry_id.moment v) gone turn.orderly turn.above c.commit_cell.ensures.gained at (live_cell config h of fits d.alive).1 are taken refl refl turn.opens)
+    subst (λ (x : Config). CanClose x mid.hand.now c.apply.new.self (g.P.PortMaker.log c.args.turn.now.ports.now) gone) (sym (same_config main mid nests))
+    (can_close_after config n moment main.hand.now mid.hand.now e of (in_cell_of cell (Commit signal)) c.args.turn.now.board.now c.apply.new.self (g.P.PortMaker.log c.args.turn.now.ports.now) v
+    (with_more of (round.Answered ask) mid.entry_id.moment v) gone turn.orderly turn.whole turn.shows refl nests.same.1 c.commit_cell.ensures.gained at (live_cell config h of fits d.alive).1 are taken refl refl turn.opens)
 
 pub returns-clause-does : goal.returns-clause-does
 returns-clause-does g c e of ask d =
@@ -199,17 +202,31 @@ returns-clause-works g c =
     (above_rows rows cell was.number was.given.above) in
     let takes = subst (λ (x : Config). TiesTakes x before after (entries mid.hand.now) (entries new.main.hand.now)) same c.close_legs.ensures.takes in
     let closes = subst (λ (x : Config). Gained before after (ClosesLegs sent x gone)) same c.close_legs.ensures.closes in
+    let stays = stays_both g.P.PortMaker.log g.P.PortMaker.faults old _ new
+    (record {
+      nests = c.commit_cell.ensures.nests;
+      devices = record { board_is = refl; ports_are = refl; gone_is = refl };
+      replies = c.apply.ensures.replies;
+      later = omega arith;
+    })
+    c.close_legs.ensures.stays in
+    let p = c.args.answer.plan in
+    let plan = c.write_answer.new.plan in
+    let names : cell ≡ p.cell = c.cell-cell.ensures ∙ ap (λ (x : BoardPlan). x.cell) c.write_answer.ensures.rest in
+    let says : signal ≡ p.plan.signal = c.signal.ensures ∙ ap (λ x. x.signal) c.planned.ensures ∙ c.write_answer.ensures.signal in
+    let taken = takes_answer p plan old.board.now c.apply.new.self c.requires.plans c.write_answer.ensures.rest c.write_answer.ensures.signal
+    c.write_answer.ensures.shapes c.write_answer.ensures.counts c.apply.ensures.shape in
+    let moment = old.main.entry_id.moment in
+    let closed = subst (λ (id : BoardEntryId). GainsNested id.number id.moment (closings_of config gone) mid.hand.now new.main.hand.now) c.commit_cell.ensures.nests.entry_is
+    (subst (λ (x : Config). GainsNested mid.entry_id.number mid.entry_id.moment (closings_of x gone) mid.hand.now new.main.hand.now) same c.close_legs.ensures.gained) in
+    let gained = gains_more n moment (in_cell_of cell (Commit signal) ∷ []) (closings_of config gone) old.main.hand.now mid.hand.now new.main.hand.now c.commit_cell.ensures.gained closed in
     record {
-      stays = stays_both g.P.PortMaker.log g.P.PortMaker.faults old _ new
-          (record {
-            nests = c.commit_cell.ensures.nests;
-            devices = record { board_is = refl; ports_are = refl; gone_is = refl };
-            replies = c.apply.ensures.replies;
-            later = omega arith;
-          })
-          c.close_legs.ensures.stays;
+      stays = stays;
       ties = ties_gone sent config before after rows (entries mid.hand.now) (entries new.main.hand.now) gone
           turn.may.parts.families (closed_leased config (board_history l n) e of gone (good_history config l turn.orderly n) are)
           (legs_leave sent gone cell (Cell (Commit signal)) old.main.hand.now mid.hand.now refl c.commit_cell.ensures.row) takes closes;
       empty = c.close_legs.ensures.empty;
+      whole = λ whole. subst (λ (x : Config). IsWholeWith x new.main.hand.now (board_shape new.board.now)) (sym (same_config old.main new.main stays.nests))
+          (answer_keeps_whole config n moment old.main.hand.now new.main.hand.now stays.nests.same.1 p old.board.now c.apply.new.self (board_shape new.board.now) cell signal gone
+          names says taken gained c.commit_cell.ensures.left c.close_legs.ensures.pool whole);
     }

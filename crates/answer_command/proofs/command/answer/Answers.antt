@@ -12,7 +12,9 @@ use Rattle.call_board.specs.Calls.{find_call}
 use Rattle.call_board.specs.Replies.{Described, reply_datagram}
 use Rattle.call_board.specs.Views.{view_of, view_at_moment, call_of_id, call_view}
 use Rattle.call_board.proofs.Found.{found_by_id}
+use Rattle.call_board.specs.Shapes.{board_shape}
 use Rattle.relay_core.specs.Entries.{board_history}
+use Rattle.relay_core.specs.KeptAfter.{IsWholeWith}
 use Rattle.relay_core.specs.Turns.{made_by}
 use Rattle.board_turns.specs.declared.board_turn.BoardTurn.{BoardTurn}
 use Rattle.board_turns.specs.BoardTurns.{CanNest, Works}
@@ -45,6 +47,7 @@ still log faults old new same may empty named main_is ports_are gone_is =
       };
       ties = works.ties;
       empty = works.empty;
+      whole = λ w. subst (λ (b : Board). IsWholeWith old.main.config.now old.main.hand.now (board_shape b)) (sym same) w;
     })))
 
 pub returns-in-Err-clause-carries : goal.returns-in-Err-clause-carries

@@ -23,28 +23,28 @@ pub unreachable-requires : goal.unreachable-requires
 unreachable-requires g c =
     let can : CanOpen c.args.holder c.state.result.now = subst (CanOpen c.args.holder) (sym c.state.ensures.value)
     (shut_given g.I.InEnd.log g.I.InEnd.faults g.O.OutEnd.log g.O.OutEnd.faults c.args.main.now.config.now c.args.main.now.turns.now c.args.main.now.hand.now c.args.holder c.box_place.result _ _
-    c.requires.may c.requires.shut c.requires.cell.0 c.requires.cell.1 c.box_place.ensures c.turn-step.ensures.turn.1) in
+    c.requires.may c.requires.pair c.requires.shut c.requires.cell.0 c.requires.cell.1 c.box_place.ensures c.turn-step.ensures.turn.1) in
     subst (CanOpen c.args.holder) c.in-Board.is can
 
 pub unreachable-requires-in-Cell : goal.unreachable-requires-in-Cell
 unreachable-requires-in-Cell g c =
     let can : CanOpen c.args.holder c.state.result.now = subst (CanOpen c.args.holder) (sym c.state.ensures.value)
     (shut_given g.I.InEnd.log g.I.InEnd.faults g.O.OutEnd.log g.O.OutEnd.faults c.args.main.now.config.now c.args.main.now.turns.now c.args.main.now.hand.now c.args.holder c.box_place.result _ _
-    c.requires.may c.requires.shut c.requires.cell.0 c.requires.cell.1 c.box_place.ensures c.turn-step.ensures.turn.1) in
+    c.requires.may c.requires.pair c.requires.shut c.requires.cell.0 c.requires.cell.1 c.box_place.ensures c.turn-step.ensures.turn.1) in
     subst (CanOpen c.args.holder) c.in-Cell.is can
 
 pub put_in-requires-clause-closed : goal.put_in-requires-clause-closed
 put_in-requires-clause-closed g c =
     let can : CanOpen c.args.holder c.state.result.now = subst (CanOpen c.args.holder) (sym c.state.ensures.value)
     (shut_given g.I.InEnd.log g.I.InEnd.faults g.O.OutEnd.log g.O.OutEnd.faults c.args.main.now.config.now c.args.main.now.turns.now c.args.main.now.hand.now c.args.holder c.box_place.result _ _
-    c.requires.may c.requires.shut c.requires.cell.0 c.requires.cell.1 c.box_place.ensures c.turn-step.ensures.turn.1) in
+    c.requires.may c.requires.pair c.requires.shut c.requires.cell.0 c.requires.cell.1 c.box_place.ensures c.turn-step.ensures.turn.1) in
     (subst (CanOpen c.args.holder) c.in-Pair.is can).0
 
 pub put_in-requires-clause-cell : goal.put_in-requires-clause-cell
 put_in-requires-clause-cell g c =
     let can : CanOpen c.args.holder c.state.result.now = subst (CanOpen c.args.holder) (sym c.state.ensures.value)
     (shut_given g.I.InEnd.log g.I.InEnd.faults g.O.OutEnd.log g.O.OutEnd.faults c.args.main.now.config.now c.args.main.now.turns.now c.args.main.now.hand.now c.args.holder c.box_place.result _ _
-    c.requires.may c.requires.shut c.requires.cell.0 c.requires.cell.1 c.box_place.ensures c.turn-step.ensures.turn.1) in
+    c.requires.may c.requires.pair c.requires.shut c.requires.cell.0 c.requires.cell.1 c.box_place.ensures c.turn-step.ensures.turn.1) in
     let shut = subst (CanOpen c.args.holder) c.in-Pair.is can in
     (shut.1, shut.2)
 
@@ -70,27 +70,27 @@ pub put_step-requires-clause-step : goal.put_step-requires-clause-step
 put_step-requires-clause-step g c =
     let can : CanOpen c.args.holder c.state.result.now = subst (CanOpen c.args.holder) (sym c.state.ensures.value)
     (shut_given g.I.InEnd.log g.I.InEnd.faults g.O.OutEnd.log g.O.OutEnd.faults c.args.main.now.config.now c.args.main.now.turns.now c.args.main.now.hand.now c.args.holder c.box_place.result _ _
-    c.requires.may c.requires.shut c.requires.cell.0 c.requires.cell.1 c.box_place.ensures c.turn-step.ensures.turn.1) in
+    c.requires.may c.requires.pair c.requires.shut c.requires.cell.0 c.requires.cell.1 c.box_place.ensures c.turn-step.ensures.turn.1) in
     subst (λ (z : Part _ _). Relates g.I.InEnd.log g.I.InEnd.faults g.O.OutEnd.log g.O.OutEnd.faults z (nested c.args.main.now.entry_id.number c.args.main.now.entry_id.moment 0 (Box (Open c.args.holder))) (part.Pair c.put_in.new.self))
     (c.state.ensures.value ∙ sym c.turn-step.ensures.turn.0.1)
     (open_relates g.I.InEnd.log g.I.InEnd.faults g.O.OutEnd.log g.O.OutEnd.faults c.state.result.now c.in-Pair.held c.put_in.new.self c.args.holder c.args.rtp_end c.args.rtcp_end
     c.args.main.now.entry_id.number c.args.main.now.entry_id.moment c.in-Pair.is can
     (fit_given g.I.InEnd.log g.I.InEnd.faults g.O.OutEnd.log g.O.OutEnd.faults c.args.main.now.config.now c.args.main.now.turns.now c.args.main.now.hand.now c.args.holder.pair c.box_place.result _ _ c.state.result.now
-    (c.args.rtp_end, c.args.rtcp_end) c.requires.may c.box_place.ensures c.state.ensures.value c.turn-step.ensures.turn.1 c.requires.ends.0 c.requires.ends.1)
+    (c.args.rtp_end, c.args.rtcp_end) c.requires.may c.requires.pair c.box_place.ensures c.state.ensures.value c.turn-step.ensures.turn.1 c.requires.ends.0 c.requires.ends.1)
     c.put_in.ensures.history c.put_in.ensures.ends c.put_in.ensures.cells c.put_in.ensures.at)
 
 pub returns-clause-ends : goal.returns-clause-ends
 returns-clause-ends g c =
     let can : CanOpen c.args.holder c.state.result.now = subst (CanOpen c.args.holder) (sym c.state.ensures.value)
     (shut_given g.I.InEnd.log g.I.InEnd.faults g.O.OutEnd.log g.O.OutEnd.faults c.args.main.now.config.now c.args.main.now.turns.now c.args.main.now.hand.now c.args.holder c.box_place.result _ _
-    c.requires.may c.requires.shut c.requires.cell.0 c.requires.cell.1 c.box_place.ensures c.turn-step.ensures.turn.1) in
+    c.requires.may c.requires.pair c.requires.shut c.requires.cell.0 c.requires.cell.1 c.box_place.ensures c.turn-step.ensures.turn.1) in
     let made = nested c.args.main.now.entry_id.number c.args.main.now.entry_id.moment 0 (Box (Open c.args.holder)) in
     opened_from g.I.InEnd.log g.I.InEnd.faults g.O.OutEnd.log g.O.OutEnd.faults c.args.main.now.hand.now c.box_place.result (box_of c.args.main.now.config.now c.args.holder.pair) c.turn-step.result.front c.turn-step.result.state
     c.state.result.now (part.Pair c.put_in.new.self) made (c.args.rtp_end, c.args.rtcp_end) c.box_place.ensures c.state.ensures.value c.turn-step.ensures.turn.1
     (open_relates g.I.InEnd.log g.I.InEnd.faults g.O.OutEnd.log g.O.OutEnd.faults c.state.result.now c.in-Pair.held c.put_in.new.self c.args.holder c.args.rtp_end c.args.rtcp_end
     c.args.main.now.entry_id.number c.args.main.now.entry_id.moment c.in-Pair.is can
     (fit_given g.I.InEnd.log g.I.InEnd.faults g.O.OutEnd.log g.O.OutEnd.faults c.args.main.now.config.now c.args.main.now.turns.now c.args.main.now.hand.now c.args.holder.pair c.box_place.result _ _ c.state.result.now
-    (c.args.rtp_end, c.args.rtcp_end) c.requires.may c.box_place.ensures c.state.ensures.value c.turn-step.ensures.turn.1 c.requires.ends.0 c.requires.ends.1)
+    (c.args.rtp_end, c.args.rtcp_end) c.requires.may c.requires.pair c.box_place.ensures c.state.ensures.value c.turn-step.ensures.turn.1 c.requires.ends.0 c.requires.ends.1)
     c.put_in.ensures.history c.put_in.ensures.ends c.put_in.ensures.cells c.put_in.ensures.at)
     c.put_in.ensures.ends
 

@@ -14,7 +14,7 @@ pub shut_part-ends-requires : goal.shut_part-ends-requires
 shut_part-ends-requires g c =
     subst CanShut (sym c.state.ensures.value)
     (open_given g.I.InEnd.log g.I.InEnd.faults g.O.OutEnd.log g.O.OutEnd.faults c.args.main.now.config.now c.args.main.now.turns.now c.args.main.now.hand.now c.args.pair c.box_place.result _ _
-    c.requires.may c.requires.«open» c.box_place.ensures c.turn-step.ensures.turn.1)
+    c.requires.may c.requires.pair c.requires.«open» c.box_place.ensures c.turn-step.ensures.turn.1)
 
 pub returns-clause-gained : goal.returns-clause-gained
 returns-clause-gained g c =

@@ -6,11 +6,13 @@ use Rattle.relay_outside.proofs.Telling.{gained_less}
 use Rattle.turn_table.specs.Hands.{entries}
 use Rattle.call_cell.specs.Cells.{End}
 use Rattle.call_board.specs.Boards.{BoardMatches, pairs_in}
+use Rattle.call_board.specs.Shapes.{board_shape}
 use Rattle.call_board.specs.Views.{with_returned, without_call}
 use Rattle.call_board.proofs.Found.{found_is_live}
 use Rattle.relay_core.specs.Entries.{Cell}
 use Rattle.relay_core.specs.Scripts.{Owed}
 use Rattle.relay_core.specs.PlaceHistories.{GoneHome}
+use Rattle.relay_core.specs.KeptAfter.{IsWholeWith}
 use Rattle.relay_core.specs.Turns.{made_by}
 use Rattle.board_turns.specs.Ties.{TiesTakes}
 use Rattle.media_ports.specs.OpenPorts.{OpensHeld}
@@ -20,14 +22,16 @@ use Rattle.board_turns.proofs.Staying.{may_again, same_config, nests_both, makes
 use Rattle.board_turns.specs.BoardTurns.{MakesNested}
 use Rattle.board_turns.specs.Closings.{CanClose, ClosesLegs, closings_of, leases_of_legs, pairs_left}
 use Rattle.board_turns.specs.CallEnds.{ClosesTheirs, ending_of}
-use Rattle.board_turns.proofs.Ended.{cell_is, went_are, pairs_are, may_return_alike, may_be_leased, closings_are, can_close}
+use Rattle.board_turns.proofs.KeptEnds.{end_keeps_whole}
+use Rattle.board_turns.proofs.Ended.{cell_is, went_are, pairs_are, closings_are}
+use Rattle.board_turns.proofs.WholeCalls.{ended_can, out_leased}
 use Rattle.board_turns.proofs.Tying.{legs_leave, ties_gone}
 use Rattle.board_turns.proofs.call_end.end_call.Goals as goal
 
 pub end_call-cell-requires : goal.end_call-cell-requires
 end_call-cell-requires g c =
-    let can = c.requires.can.2 in
-    found_is_live c.args.turn.now.main.config.now c.args.turn.now.board.now can.view c.args.call can.seen can.shows can.found
+    let of = c.requires.of.2 in
+    found_is_live c.args.turn.now.main.config.now c.args.turn.now.board.now of.view c.args.call of.seen of.shows of.found
 
 pub end_cell-requires-clause-may : goal.end_cell-requires-clause-may
 end_cell-requires-clause-may g c =
@@ -35,8 +39,8 @@ end_cell-requires-clause-may g c =
 
 pub end_cell-requires-clause-cell : goal.end_cell-requires-clause-cell
 end_cell-requires-clause-cell g c =
-    let can = c.requires.can.2 in
-    let is = cell_is c.args.turn.now.main.config.now (made_by c.args.turn.now.main.hand.now) c.args.turn.now.board.now (g.P.PortMaker.log c.args.turn.now.ports.now) c.args.call c.requires.can.0 c.requires.can.1
+    let can = c.requires.of.2 in
+    let is = cell_is c.args.turn.now.main.config.now (made_by c.args.turn.now.main.hand.now) c.args.turn.now.board.now c.args.call c.requires.of.0 c.requires.of.1
     c.end_call-cell.result can c.end_call-cell.ensures.cell in
     let low = can.low in
     let high = can.high in
@@ -44,8 +48,8 @@ end_cell-requires-clause-cell g c =
 
 pub end_cell-requires-clause-keys : goal.end_cell-requires-clause-keys
 end_cell-requires-clause-keys g c =
-    let can = c.requires.can.2 in
-    let is = cell_is c.args.turn.now.main.config.now (made_by c.args.turn.now.main.hand.now) c.args.turn.now.board.now (g.P.PortMaker.log c.args.turn.now.ports.now) c.args.call c.requires.can.0 c.requires.can.1
+    let can = c.requires.of.2 in
+    let is = cell_is c.args.turn.now.main.config.now (made_by c.args.turn.now.main.hand.now) c.args.turn.now.board.now c.args.call c.requires.of.0 c.requires.of.1
     c.end_call-cell.result can c.end_call-cell.ensures.cell in
     subst (λ (k : ℕ). HasNewKeys (made_by c.args.turn.now.main.hand.now) k) (sym is) can.keys
 
@@ -59,23 +63,12 @@ close_legs-requires-clause-may g c =
 
 pub close_legs-requires-clause-can : goal.close_legs-requires-clause-can
 close_legs-requires-clause-can g c =
-    let of = c.requires.can.0 in
-    let legs = c.requires.can.1 in
-    let can = c.requires.can.2 in
-    let config = c.args.turn.now.main.config.now in
-    let log = g.P.PortMaker.log c.args.turn.now.ports.now in
-    let l = made_by c.args.turn.now.main.hand.now in
-    let cell = c.end_call-cell.result in
-    let gone = c.end_cell.new.gone in
-    let is = cell_is config l c.args.turn.now.board.now log c.args.call of legs cell can c.end_call-cell.ensures.cell in
-    let was = c.end_cell.ensures.ended.was in
-    let are = went_are config l c.args.turn.now.board.now log c.args.call of legs cell was.number gone can is c.end_cell.ensures.went
-    (above_rows (entries c.args.turn.now.main.hand.now) cell was.number was.given.above) in
     let main = c.args.turn.now.main in
-    subst (λ (k : Config). CanClose k (made_by c.end_cell.new.main.hand.now) c.end_call-cell.new.self log gone)
-    (sym (same_config main c.end_cell.new.main c.end_cell.ensures.nests))
-    (can_close config main.entry_id.number main.entry_id.moment main.hand.now c.end_cell.new.main.hand.now c.args.turn.now.board.now c.end_call-cell.new.self log c.args.call of legs
-    cell gone can is c.end_cell.ensures.gained c.end_call-cell.ensures.shows are)
+    let mid = c.end_cell.new.main in
+    let log = g.P.PortMaker.log c.args.turn.now.ports.now in
+    subst (λ (k : Config). CanClose k mid.hand.now c.end_call-cell.new.self log c.end_cell.new.gone) (sym (same_config main mid c.end_cell.ensures.nests))
+    (ended_can main.config.now main.entry_id.number main.entry_id.moment main.hand.now mid.hand.now c.args.turn.now.board.now c.end_call-cell.new.self log c.args.call
+    c.end_call-cell.result c.end_cell.new.gone c.requires.can c.end_call-cell.ensures.shape c.end_cell.ensures.nests.same.1 c.end_cell.ensures.gained c.end_cell.ensures.left)
 
 pub close_legs-requires-clause-home : goal.close_legs-requires-clause-home
 close_legs-requires-clause-home g c =
@@ -89,9 +82,9 @@ returns-clause-gained g c of legs can =
     let l = made_by c.args.turn.now.main.hand.now in
     let cell = c.end_call-cell.result in
     let gone = c.end_cell.new.gone in
-    let is = cell_is config l c.args.turn.now.board.now log c.args.call of legs cell can c.end_call-cell.ensures.cell in
+    let is = cell_is config l c.args.turn.now.board.now c.args.call of legs cell can c.end_call-cell.ensures.cell in
     let was = c.end_cell.ensures.ended.was in
-    let are = went_are config l c.args.turn.now.board.now log c.args.call of legs cell was.number gone can is c.end_cell.ensures.went
+    let are = went_are config l c.args.turn.now.board.now c.args.call of legs cell was.number gone can is c.end_cell.ensures.went
     (above_rows (entries c.args.turn.now.main.hand.now) cell was.number was.given.above) in
     let main = c.args.turn.now.main in
     let mid = c.end_cell.new.main in
@@ -110,9 +103,9 @@ returns-clause-ended g c of legs can other v shows apart =
     let l = made_by c.args.turn.now.main.hand.now in
     let cell = c.end_call-cell.result in
     let gone = c.end_cell.new.gone in
-    let is = cell_is config l c.args.turn.now.board.now log c.args.call of legs cell can c.end_call-cell.ensures.cell in
+    let is = cell_is config l c.args.turn.now.board.now c.args.call of legs cell can c.end_call-cell.ensures.cell in
     let was = c.end_cell.ensures.ended.was in
-    let are = went_are config l c.args.turn.now.board.now log c.args.call of legs cell was.number gone can is c.end_cell.ensures.went
+    let are = went_are config l c.args.turn.now.board.now c.args.call of legs cell was.number gone can is c.end_cell.ensures.went
     (above_rows (entries c.args.turn.now.main.hand.now) cell was.number was.given.above) in
     subst (λ (ps : List ℕ). BoardMatches other c.close_legs.new.turn.board.now (with_returned (without_call v c.args.call) ps)) (pairs_are config gone legs are)
     (c.close_legs.ensures.returned other (without_call v c.args.call) (c.end_call-cell.ensures.shows other v shows apart))
@@ -124,9 +117,9 @@ returns-clause-closes g c of legs can =
     let l = made_by c.args.turn.now.main.hand.now in
     let cell = c.end_call-cell.result in
     let gone = c.end_cell.new.gone in
-    let is = cell_is config l c.args.turn.now.board.now log c.args.call of legs cell can c.end_call-cell.ensures.cell in
+    let is = cell_is config l c.args.turn.now.board.now c.args.call of legs cell can c.end_call-cell.ensures.cell in
     let was = c.end_cell.ensures.ended.was in
-    let are = went_are config l c.args.turn.now.board.now log c.args.call of legs cell was.number gone can is c.end_cell.ensures.went
+    let are = went_are config l c.args.turn.now.board.now c.args.call of legs cell was.number gone can is c.end_cell.ensures.went
     (above_rows (entries c.args.turn.now.main.hand.now) cell was.number was.given.above) in
     let same = same_config c.args.turn.now.main c.end_cell.new.main c.end_cell.ensures.nests in
     let after = g.P.PortMaker.log c.close_legs.new.turn.ports.now in
@@ -141,9 +134,9 @@ returns-clause-open g c of legs can held opens =
     let l = made_by c.args.turn.now.main.hand.now in
     let cell = c.end_call-cell.result in
     let gone = c.end_cell.new.gone in
-    let is = cell_is config l c.args.turn.now.board.now log c.args.call of legs cell can c.end_call-cell.ensures.cell in
+    let is = cell_is config l c.args.turn.now.board.now c.args.call of legs cell can c.end_call-cell.ensures.cell in
     let was = c.end_cell.ensures.ended.was in
-    let are = went_are config l c.args.turn.now.board.now log c.args.call of legs cell was.number gone can is c.end_cell.ensures.went
+    let are = went_are config l c.args.turn.now.board.now c.args.call of legs cell was.number gone can is c.end_cell.ensures.went
     (above_rows (entries c.args.turn.now.main.hand.now) cell was.number was.given.above) in
     let same = same_config c.args.turn.now.main c.end_cell.new.main c.end_cell.ensures.nests in
     let after = g.P.PortMaker.log c.close_legs.new.turn.ports.now in
@@ -154,17 +147,17 @@ returns-clause-open g c of legs can held opens =
 
 pub returns-clause-works : goal.returns-clause-works
 returns-clause-works g c =
-    let of = c.requires.can.0 in
-    let legs = c.requires.can.1 in
-    let can = c.requires.can.2 in
+    let of = c.requires.of.0 in
+    let legs = c.requires.of.1 in
+    let can = c.requires.of.2 in
     let config = c.args.turn.now.main.config.now in
     let log = g.P.PortMaker.log c.args.turn.now.ports.now in
     let l = made_by c.args.turn.now.main.hand.now in
     let cell = c.end_call-cell.result in
     let gone = c.end_cell.new.gone in
-    let is = cell_is config l c.args.turn.now.board.now log c.args.call of legs cell can c.end_call-cell.ensures.cell in
+    let is = cell_is config l c.args.turn.now.board.now c.args.call of legs cell can c.end_call-cell.ensures.cell in
     let was = c.end_cell.ensures.ended.was in
-    let are = went_are config l c.args.turn.now.board.now log c.args.call of legs cell was.number gone can is c.end_cell.ensures.went
+    let are = went_are config l c.args.turn.now.board.now c.args.call of legs cell was.number gone can is c.end_cell.ensures.went
     (above_rows (entries c.args.turn.now.main.hand.now) cell was.number was.given.above) in
     let same = same_config c.args.turn.now.main c.end_cell.new.main c.end_cell.ensures.nests in
     let after = g.P.PortMaker.log c.close_legs.new.turn.ports.now in
@@ -173,16 +166,24 @@ returns-clause-works g c =
     let new = c.close_legs.new.turn.main in
     let closed = c.close_legs.ensures.stays in
     let sent = g.P.Out.OutEnd.log in
+    let nests = nests_both main mid new c.end_cell.ensures.nests closed.nests in
+    let gains = makes_both (in_cell_of cell End ∷ []) (closings_of config gone) main mid new c.end_cell.ensures.nests c.end_cell.ensures.gained
+    (subst (λ (k : Config). MakesNested (closings_of k gone) mid new) same c.close_legs.ensures.gained) in
+    let closable = ended_can config main.entry_id.number main.entry_id.moment main.hand.now mid.hand.now c.args.turn.now.board.now c.end_call-cell.new.self log c.args.call
+    cell gone c.requires.can c.end_call-cell.ensures.shape c.end_cell.ensures.nests.same.1 c.end_cell.ensures.gained c.end_cell.ensures.left in
     record {
       stays = record {
-        nests = nests_both main mid new c.end_cell.ensures.nests closed.nests;
+        nests = nests;
         devices = record { board_is = closed.devices.board_is; ports_are = closed.devices.ports_are; gone_is = closed.devices.gone_is };
         replies = closed.replies ∙ c.end_call-cell.ensures.replies;
         later = closed.later;
       };
       ties = ties_gone sent config log after (entries main.hand.now) (entries mid.hand.now) (entries new.hand.now) gone
-          c.requires.may.parts.families (may_be_leased config (without_call can.view c.args.call) (leases_of_legs gone) (may_return_alike config (without_call can.view c.args.call) gone legs are can.may_return)) (legs_leave sent gone cell (Cell End) main.hand.now mid.hand.now refl c.end_cell.ensures.row)
+          c.requires.may.whole_parts.whole.families (out_leased config c.end_call-cell.new.self.pool (leases_of_legs gone) closable.out closable.of_range) (legs_leave sent gone cell (Cell End) main.hand.now mid.hand.now refl c.end_cell.ensures.row)
           (subst (λ (k : Config). TiesTakes k log after (entries mid.hand.now) (entries new.hand.now)) same c.close_legs.ensures.takes)
           (subst (λ (k : Config). Gained log after (ClosesLegs sent k gone)) same c.close_legs.ensures.closes);
       empty = c.close_legs.ensures.empty;
+      whole = λ w. subst (λ (k : Config). IsWholeWith k new.hand.now (board_shape c.close_legs.new.turn.board.now)) (sym (same_config main new nests))
+          (end_keeps_whole config main.entry_id.number main.entry_id.moment main.hand.now new.hand.now nests.same.1
+          (board_shape c.args.turn.now.board.now) (board_shape c.end_call-cell.new.self) (board_shape c.close_legs.new.turn.board.now) c.args.call cell gone c.end_call-cell.ensures.shape gains c.end_cell.ensures.left c.close_legs.ensures.pool w);
     }

@@ -8,6 +8,7 @@ use Rattle.relay_core.specs.declared.part.Part.TheVariants as part
 use Rattle.board_turns.proofs.Nesting.{above_rows, turn_gained, turn_row, turn_may, may_turn, turn_same}
 use Rattle.board_turns.proofs.Celling.{is_cell, cell_given, ends_by, end_relates, ends_part, held_small}
 use Rattle.board_turns.proofs.Leaving.{ended_went}
+use Rattle.board_turns.proofs.KeptLegs.{ended_left}
 use Rattle.board_turns.proofs.Homing.{ended_home}
 use Rattle.board_turns.proofs.cells.end_cell.Goals as goal
 
@@ -36,6 +37,11 @@ returns-clause-ended g c =
 
 pub returns-clause-went : goal.returns-clause-went
 returns-clause-went g c = ended_went g.I.InEnd.log g.I.InEnd.faults g.O.OutEnd.log g.O.OutEnd.faults c.args.main.now.config.now c.args.main.now.hand.now c.args.cell c.end.new.gone (returns-clause-ended g c)
+
+pub returns-clause-left : goal.returns-clause-left
+returns-clause-left g c =
+    ended_left g.I.InEnd.log g.I.InEnd.faults g.O.OutEnd.log g.O.OutEnd.faults c.args.main.now.config.now c.args.main.now.turns.now c.args.main.now.hand.now c.args.cell c.end.new.gone c.requires.may c.requires.cell.0 c.requires.cell.1
+    (returns-clause-ended g c)
 
 pub returns-clause-home : goal.returns-clause-home
 returns-clause-home g c =
@@ -85,7 +91,7 @@ put_step-requires-clause-step g c =
     c.turn-step.result.front _ c.state.result.now c.requires.may c.requires.cell.0 c.requires.cell.1 c.requires.keys c.cell_place.ensures c.state.ensures.value
     c.turn-step.ensures.turn.1 in
     end_relates g.I.InEnd.log g.I.InEnd.faults g.O.OutEnd.log g.O.OutEnd.faults c.turn-step.result.taken.value c.in-Cell.held c.end.new.self c.end.new.gone
-    c.args.main.now.entry_id.number c.args.main.now.entry_id.moment (c.turn-step.ensures.turn.0.1 ∙ sym c.state.ensures.value ∙ c.in-Cell.is) (c.end.ensures.shape (held_small c.args.main.now.config.now c.state.result.now c.in-Cell.held _ c.in-Cell.is is.1)) c.end.ensures.ends
+    c.args.main.now.entry_id.number c.args.main.now.entry_id.moment (c.turn-step.ensures.turn.0.1 ∙ sym c.state.ensures.value ∙ c.in-Cell.is) (c.end.ensures.shape (held_small c.args.main.now.config.now c.state.result.now c.in-Cell.held _ c.in-Cell.is is.1)) c.end.ensures.none c.end.ensures.legs c.end.ensures.ends
 
 pub returns-clause-nests : goal.returns-clause-nests
 returns-clause-nests g c =

@@ -67,7 +67,7 @@ put_step-requires-clause-turn g c =
 pub put_step-requires-clause-step : goal.put_step-requires-clause-step
 put_step-requires-clause-step g c =
     expire_relates g.I.InEnd.log g.I.InEnd.faults g.O.OutEnd.log g.O.OutEnd.faults c.turn-step.result.taken.value c.in-Cell.held c.expire-due.new.self
-    c.args.main.now.entry_id.number c.args.main.now.entry_id.moment c.expire-due.result (c.turn-step.ensures.turn.0.1 ∙ sym c.state.ensures.value ∙ c.in-Cell.is) c.expire-due.ensures.shape c.expire-due.ensures.expires
+    c.args.main.now.entry_id.number c.args.main.now.entry_id.moment c.expire-due.result (c.turn-step.ensures.turn.0.1 ∙ sym c.state.ensures.value ∙ c.in-Cell.is) c.expire-due.ensures.shape c.expire-due.ensures.legs c.expire-due.ensures.expires
 
 pub returns-clause-nests : goal.returns-clause-nests
 returns-clause-nests g c =

@@ -29,7 +29,7 @@ returns-clause-log g c =
     (reading_given g.I.InEnd.log g.I.InEnd.faults g.O.OutEnd.log g.O.OutEnd.faults c.args.main.now.config.now c.args.main.now.turns.now c.args.main.now.hand.now c.args.cell c.cell_place.result
     c.turn-step.result.front _ c.turn-step.result.taken.value c.requires.may c.requires.cell.0 c.requires.cell.1 c.requires.keys c.cell_place.ensures c.turn-step.ensures.turn.0.1
     c.turn-step.ensures.turn.0.2 c.turn-step.ensures.turn.1)
-    c.read_legs.ensures)
+    c.read_legs.ensures.reads)
 
 pub returns-clause-counts : goal.returns-clause-counts
 returns-clause-counts g c report i =
@@ -37,7 +37,7 @@ returns-clause-counts g c report i =
     (reading_given g.I.InEnd.log g.I.InEnd.faults g.O.OutEnd.log g.O.OutEnd.faults c.args.main.now.config.now c.args.main.now.turns.now c.args.main.now.hand.now c.args.cell c.cell_place.result
     c.turn-step.result.front _ c.turn-step.result.taken.value c.requires.may c.requires.cell.0 c.requires.cell.1 c.requires.keys c.cell_place.ensures c.turn-step.ensures.turn.0.1
     c.turn-step.ensures.turn.0.2 c.turn-step.ensures.turn.1)
-    c.read_legs.ensures report i
+    c.read_legs.ensures.reads report i
 
 pub cell_place-requires : goal.cell_place-requires
 cell_place-requires g c =
@@ -83,7 +83,7 @@ put_step-requires-clause-step g c =
     (reading_given g.I.InEnd.log g.I.InEnd.faults g.O.OutEnd.log g.O.OutEnd.faults c.args.main.now.config.now c.args.main.now.turns.now c.args.main.now.hand.now c.args.cell c.cell_place.result
     c.turn-step.result.front _ c.turn-step.result.taken.value c.requires.may c.requires.cell.0 c.requires.cell.1 c.requires.keys c.cell_place.ensures c.turn-step.ensures.turn.0.1
     c.turn-step.ensures.turn.0.2 c.turn-step.ensures.turn.1)
-    c.read_legs.ensures in
+    c.read_legs.ensures.reads in
     subst (λ (z : Part _ _). Relates g.I.InEnd.log g.I.InEnd.faults g.O.OutEnd.log g.O.OutEnd.faults c.turn-step.result.taken.value (nested c.args.main.now.entry_id.number c.args.main.now.entry_id.moment (moment_of_cell c.turn-step.result.taken.value) (Cell (Read c.read_legs.new.out))) z) (c.turn-step.ensures.turn.0.1 ∙ sym c.state.ensures.value ∙ c.in-Cell.is) step
 
 pub returns-clause-nests : goal.returns-clause-nests

@@ -4,21 +4,21 @@ use Rattle.call_board.specs.Acts.{Call}
 use Rattle.call_board.specs.Boards.{BoardMatches}
 use Rattle.call_board.specs.Pairs.{held, closed_of}
 use Rattle.call_board.specs.Views.{View, view_of, view_at_moment}
-use Rattle.call_board.proofs.Found.{live_cells_apart}
+use Rattle.call_board.proofs.Found.{found_is_live, live_cells_apart}
 use Rattle.relay_core.specs.Entries.{board_history}
 use Rattle.relay_core.specs.Scripts.{Owed}
 use Rattle.relay_core.specs.Turns.{GainsNested, made_by}
 use Rattle.relay_core.proofs.Histories.{good_history}
 use Rattle.board_turns.specs.Closings.{pairs_left}
-use Rattle.board_turns.specs.CallEnds.{CanEnd, leg_pairs, with_call_ended}
+use Rattle.board_turns.specs.CallEnds.{IsCallOf, leg_pairs, with_call_ended}
 use Rattle.board_turns.specs.Stops.{stop_entry}
 use Rattle.board_turns.proofs.Lefts.{told_alike}
 use Rattle.board_turns.proofs.Unopened.{theirs_open_none}
-use Rattle.board_turns.proofs.Deleted.{ends_one, may_delete, deleted_held, deleted_owes, deleted_acts}
+use Rattle.board_turns.proofs.Deleted.{ends_one, deleted_call, may_delete, deleted_held, deleted_owes, deleted_acts}
 use Rattle.board_turns.proofs.delete.delete_call.Goals as goal
 
-pub end_call-requires-clause-can : goal.end_call-requires-clause-can
-end_call-requires-clause-can g c =
+pub end_call-requires-clause-of : goal.end_call-requires-clause-of
+end_call-requires-clause-of g c =
     let config = c.args.turn.now.main.config.now in
     let h = board_history (made_by c.args.turn.now.main.hand.now) c.args.turn.now.main.entry_id.number in
     let of : Call = c.requires.live.0 in
@@ -26,9 +26,16 @@ end_call-requires-clause-can g c =
     let legs = closed_of h (stop_entry h) of in (
       of,
       legs,
-      subst (λ (k : ℕ). CanEnd config (made_by c.args.turn.now.main.hand.now) c.args.turn.now.board.now log k of legs) c.requires.live.2
-          (may_delete config c.args.turn.now.main.turns.now c.args.turn.now.main.hand.now c.args.turn.now.main.entry_id c.args.turn.now.board.now log (stop_entry h) of c.requires.begins.in_turn c.requires.live.1 c.requires.live.1),
+      subst (λ (k : ℕ). IsCallOf config (made_by c.args.turn.now.main.hand.now) c.args.turn.now.board.now k of legs) c.requires.live.2
+          (deleted_call config c.args.turn.now.main.turns.now c.args.turn.now.main.hand.now c.args.turn.now.main.entry_id c.args.turn.now.board.now log (stop_entry h) of c.requires.begins.in_turn c.requires.live.1 c.requires.live.1),
     )
+
+pub end_call-requires-clause-can : goal.end_call-requires-clause-can
+end_call-requires-clause-can g c =
+    let turn = c.args.turn.now in
+    let is = (end_call-requires-clause-of g c).2 in
+    may_delete turn.main.config.now turn.main.turns.now turn.main.hand.now turn.main.entry_id turn.board.now (g.P.PortMaker.log turn.ports.now) c.args.call c.requires.begins.in_turn
+    (found_is_live turn.main.config.now turn.board.now is.view c.args.call is.seen is.shows is.found)
 
 pub returns-clause-closes : goal.returns-clause-closes
 returns-clause-closes g c =
@@ -37,8 +44,8 @@ returns-clause-closes g c =
     let of : Call = c.requires.live.0 in
     let log = g.P.PortMaker.log c.args.turn.now.ports.now in
     let legs = closed_of h (stop_entry h) of in
-    let can = subst (λ (k : ℕ). CanEnd config (made_by c.args.turn.now.main.hand.now) c.args.turn.now.board.now log k of legs) c.requires.live.2
-    (may_delete config c.args.turn.now.main.turns.now c.args.turn.now.main.hand.now c.args.turn.now.main.entry_id c.args.turn.now.board.now log (stop_entry h) of c.requires.begins.in_turn c.requires.live.1 c.requires.live.1) in
+    let can = subst (λ (k : ℕ). IsCallOf config (made_by c.args.turn.now.main.hand.now) c.args.turn.now.board.now k of legs) c.requires.live.2
+    (deleted_call config c.args.turn.now.main.turns.now c.args.turn.now.main.hand.now c.args.turn.now.main.entry_id c.args.turn.now.board.now log (stop_entry h) of c.requires.begins.in_turn c.requires.live.1 c.requires.live.1) in
     theirs_open_none g.P.Out.OutEnd.log config legs log (g.P.PortMaker.log c.end_call.new.turn.ports.now) (c.end_call.ensures.closes of legs can)
 
 pub returns-clause-does : goal.returns-clause-does
@@ -49,8 +56,8 @@ returns-clause-does g c e of is number alive moment =
     let log = g.P.PortMaker.log c.args.turn.now.ports.now in
     let legs = closed_of h e of in
     let ends = subst (λ (calls : List Call). In of calls) (sym (ends_one e of is).ends) (here (refl {a = of})) in
-    let can = may_delete config c.args.turn.now.main.turns.now c.args.turn.now.main.hand.now c.args.turn.now.main.entry_id c.args.turn.now.board.now log e of c.requires.begins.in_turn alive ends in
-    let can_call = subst (λ (k : ℕ). CanEnd config (made_by c.args.turn.now.main.hand.now) c.args.turn.now.board.now log k of legs) number can in
+    let can = deleted_call config c.args.turn.now.main.turns.now c.args.turn.now.main.hand.now c.args.turn.now.main.entry_id c.args.turn.now.board.now log e of c.requires.begins.in_turn alive ends in
+    let can_call = subst (λ (k : ℕ). IsCallOf config (made_by c.args.turn.now.main.hand.now) c.args.turn.now.board.now k of legs) number can in
     let fits = good_history config (made_by c.args.turn.now.main.hand.now) c.requires.begins.in_turn.orderly c.args.turn.now.main.entry_id.number in
     record {
       gained = subst (λ (owed : List Owed). GainsNested c.args.turn.now.main.entry_id.number c.args.turn.now.main.entry_id.moment owed c.args.turn.now.main.hand.now c.end_call.new.turn.main.hand.now) (sym (deleted_owes config h e of is))

@@ -1,4 +1,4 @@
-use Rattle.std.proofs.Common.{◌≡◌, refl, sym, subst, ℕ, List, [], ◌∷◌}
+use Rattle.std.proofs.Common.{◌≡◌, ◌∙◌, refl, sym, subst, ℕ, ◌<◌, List, [], ◌∷◌}
 use Rattle.relay_outside.specs.declared.ports.PortCall.{PortCall}
 use Rattle.relay_outside.specs.declared.ports.PortCall.TheVariants.{Close}
 use Rattle.relay_outside.specs.declared.settings.Config.{Config}
@@ -6,16 +6,17 @@ use Rattle.relay_outside.specs.DeviceLogs.{Gained, WhereLogged}
 use Rattle.relay_outside.proofs.Telling.{gained_less}
 use Rattle.rtp_packet.specs.declared.head.Half.TheVariants.{Rtp, Rtcp}
 use Rattle.port_pool.specs.Boxes as boxes
-use Rattle.port_pool.specs.Ports.{port_address, AreOfPair}
+use Rattle.port_pool.specs.Ports.{pair_count, port_address, AreOfPair}
 use Rattle.histories.specs.Words.{here}
 use Rattle.media_ports.specs.Addresses.{addresses_of}
 use Rattle.media_ports.specs.Calls.{AllOpen, ClosesPair}
 use Rattle.media_ports.specs.Ends.{ends_told}
-use Rattle.call_board.proofs.Outs.{returns_out}
+use Rattle.call_board.specs.Shapes.{board_shape}
 use Rattle.board_turns.specs.NestedSteps.{AddsRow, IsTurnOpen, ends_left, closing_of}
 use Rattle.board_turns.specs.Closings.{ClosesLegs}
 use Rattle.relay_core.specs.Entries.{Box, box_of}
 use Rattle.relay_core.specs.Turns.{made_by, GainsNested}
+use Rattle.board_turns.proofs.KeptPools.{one_returned}
 use Rattle.board_turns.proofs.Lefts.{told_open, told_closed}
 use Rattle.board_turns.proofs.Staying.{same_config}
 use Rattle.board_turns.proofs.Tying.{takes_closed}
@@ -23,7 +24,7 @@ use Rattle.board_turns.proofs.gone_legs.close_leg.Goals as goal
 
 pub shut_box-rtp_in-requires-clause-open : goal.shut_box-rtp_in-requires-clause-open
 shut_box-rtp_in-requires-clause-open g c =
-    subst (λ (p : ℕ). IsTurnOpen (made_by c.args.turn.now.main.hand.now) (box_of c.args.turn.now.main.config.now p)) (sym c.pair.ensures) (c.requires.can.boxes_open c.args.leg.0.pair (here refl))
+    subst (λ (p : ℕ). IsTurnOpen c.args.turn.now.main.config.now c.args.turn.now.main.hand.now p) (sym c.pair.ensures) (c.requires.can.boxes_open c.args.leg.0.pair (here refl))
 
 pub shut_box-rtp_in-requires-clause-may : goal.shut_box-rtp_in-requires-clause-may
 shut_box-rtp_in-requires-clause-may g c =
@@ -35,7 +36,7 @@ close_pair-requires-clause-open g c =
     let log = g.P.PortMaker.log c.args.turn.now.ports.now in
     let same = same_config c.args.turn.now.main c.shut_box-rtp_in.new.main c.shut_box-rtp_in.ensures.nests in
     subst (λ (config : Config). WhereLogged log (AllOpen (addresses_of config (c.args.leg.0 ∷ [])))) (sym same)
-    (told_open c.args.turn.now.main.config.now log can.held c.args.leg.0 can.may_return.0.of_range
+    (told_open c.args.turn.now.main.config.now log can.held c.args.leg.0 (can.of_range c.args.leg.0.pair (here refl))
     (can.are_held c.args.leg.0.pair (here refl)) can.opens)
 
 pub close_pair-requires-clause-ends : goal.close_pair-requires-clause-ends
@@ -71,8 +72,12 @@ returns-clause-open g c held opens =
     let ends = c.shut_box-rtp_in.result in
     let told = ends_told g.P.In.InEnd.log g.P.Out.OutEnd.log (record { rtp_in = ends.0; rtp_out = c.args.leg.1; rtcp_in = ends.1; rtcp_out = c.args.leg.2 }) in
     let same = same_config c.args.turn.now.main c.shut_box-rtp_in.new.main c.shut_box-rtp_in.ensures.nests in
-    told_closed c.args.turn.now.main.config.now before after held lease told c.requires.may.parts.families c.requires.can.may_return.0.of_range
+    told_closed c.args.turn.now.main.config.now before after held lease told c.requires.may.whole_parts.whole.families (c.requires.can.of_range lease.pair (here refl))
     (subst (λ (k : Config). Gained before after (ClosesPair k lease told)) same c.close_pair.ensures.closes) opens
+
+pub returns-clause-pool : goal.returns-clause-pool
+returns-clause-pool g c =
+    c.give_back.ensures.shape ∙ one_returned (board_shape c.args.turn.now.board.now) c.args.leg.0.pair
 
 pub returns-clause-takes : goal.returns-clause-takes
 returns-clause-takes g c =
@@ -83,7 +88,7 @@ returns-clause-takes g c =
     let lease = c.args.leg.0 in
     let same = same_config c.args.turn.now.main c.shut_box-rtp_in.new.main c.shut_box-rtp_in.ensures.nests in
     takes_closed g.P.In.InEnd.log g.P.Out.OutEnd.log c.args.turn.now.main.config.now before after c.args.turn.now.main.hand.now
-    c.shut_box-rtp_in.new.main.hand.now lease (record { rtp_in = ends.0; rtp_out = c.args.leg.1; rtcp_in = ends.1; rtcp_out = c.args.leg.2 }) c.requires.may.parts.families can.may_return.0.of_range
+    c.shut_box-rtp_in.new.main.hand.now lease (record { rtp_in = ends.0; rtp_out = c.args.leg.1; rtcp_in = ends.1; rtcp_out = c.args.leg.2 }) c.requires.may.whole_parts.whole.families (can.of_range lease.pair (here refl))
     (subst (λ (p : ℕ). AddsRow (box_of c.args.turn.now.main.config.now p) (Box boxes.Close) (ends_left g.P.In.InEnd.log ends) c.args.turn.now.main.hand.now c.shut_box-rtp_in.new.main.hand.now) c.pair.ensures
     c.shut_box-rtp_in.ensures.row)
     (subst (λ (k : Config). Gained before after (λ (calls : List PortCall).
@@ -105,5 +110,13 @@ returns-clause-gained g c =
 
 pub give_back-requires-clause-not_free : goal.give_back-requires-clause-not_free
 give_back-requires-clause-not_free g c =
-    let can = c.requires.can in
-    (returns_out c.args.turn.now.main.config.now c.args.turn.now.board.now can.view (c.args.leg.0 ∷ []) can.shows can.may_return).0.not_free
+    c.requires.can.out.0.not_free
+
+pub shut_box-rtp_in-requires-clause-pair : goal.shut_box-rtp_in-requires-clause-pair
+shut_box-rtp_in-requires-clause-pair g c =
+    subst (λ (p : ℕ). p < pair_count c.args.turn.now.main.config.now) (sym c.pair.ensures) (c.requires.can.of_range c.args.leg.0.pair (here refl))
+
+pub close_pair-requires-clause-pair : goal.close_pair-requires-clause-pair
+close_pair-requires-clause-pair g c =
+    subst (λ (k : Config). c.args.leg.0.pair < pair_count k) (sym (same_config c.args.turn.now.main c.shut_box-rtp_in.new.main c.shut_box-rtp_in.ensures.nests))
+    (c.requires.can.of_range c.args.leg.0.pair (here refl))

@@ -1,4 +1,4 @@
-use Rattle.std.proofs.Common.{◌∙◌, ◌++◌, refl, sym, ap, subst, ℕ, List, [], ◌∷◌, append_assoc, append-nil}
+use Rattle.std.proofs.Common.{◌≡◌, ◌∙◌, ◌++◌, refl, sym, ap, subst, ℕ, List, [], ◌∷◌, append_assoc, append-nil}
 use Rattle.relay_outside.specs.declared.ports.PortCall.{PortCall}
 use Rattle.relay_outside.specs.DeviceLogs.{WhereLogged, Gained}
 use Rattle.relay_outside.proofs.Telling.{gained_none, gained_both}
@@ -8,6 +8,7 @@ use Rattle.relay_core.specs.PlaceHistories.{GoneHome}
 use Rattle.turn_table.specs.Hands.{entries}
 use Rattle.port_pool.specs.declared.pairs.Lease.{Lease}
 use Rattle.call_board.specs.Views.{with_returned}
+use Rattle.call_board.specs.Shapes.{board_shape, shape_returns}
 use Rattle.call_board.specs.Boards.{BoardMatches, pairs_in}
 use Rattle.call_board.proofs.Entries.{returned_more, returned_none}
 use Rattle.relay_core.specs.Scripts.{Owed}
@@ -18,6 +19,7 @@ use Rattle.board_turns.specs.Ties.{TiesTakes}
 use Rattle.media_ports.specs.OpenPorts.{OpensHeld}
 use Rattle.board_turns.proofs.Staying.{may_again, same_config, stays_none, stays_both, makes_both}
 use Rattle.board_turns.specs.Closings.{CanClose, ClosesLegs, leases_of_legs, closings_of, pairs_left}
+use Rattle.board_turns.proofs.KeptPools.{none_returned, more_returned}
 use Rattle.board_turns.proofs.Lefts.{left_none, left_twice, told_alike}
 use Rattle.board_turns.proofs.Closed.{gains_nothing, first_can, rest_can, closings_more, pairs_more, closes_more}
 use Rattle.board_turns.proofs.Tying.{ties_takes_none, ties_takes_both}
@@ -37,6 +39,7 @@ loop-leg-init g c =
       gained = gains_nothing turn.main.entry_id.number turn.main.entry_id.moment turn.main.hand.now;
       returned = λ config v shows. subst (λ w. BoardMatches config turn.board.now w) (sym (returned_none v)) shows;
       calls = record { calls_are = refl; begun_is = refl };
+      pool = none_returned (board_shape turn.board.now);
       closes = gained_none log (ClosesLegs g.P.Out.OutEnd.log config []) refl;
       opens = λ held opens. told_alike config log held (pairs_left [] held) (left_none held) opens;
       takes = ties_takes_none config log (entries turn.main.hand.now);
@@ -53,10 +56,10 @@ close_leg-requires-clause-can g c =
     let turn = c.loop-leg.turn in
     let config = c.args.turn.now.main.config.now in
     let log = g.P.PortMaker.log turn.ports.now in
-    let l = made_by turn.main.hand.now in
-    subst (λ (k : Config). CanClose k l turn.board.now log (c.in-Some.leg ∷ [])) (sym (same_config c.args.turn.now.main turn.main was.stays.nests))
-    (first_can config l turn.board.now log c.in-Some.leg c.pop.new.self
-    (subst (λ gone. CanClose config l turn.board.now log gone) c.in-Some.ensures.takes was.can))
+    let hand = turn.main.hand.now in
+    subst (λ (k : Config). CanClose k hand turn.board.now log (c.in-Some.leg ∷ [])) (sym (same_config c.args.turn.now.main turn.main was.stays.nests))
+    (first_can config hand turn.board.now log c.in-Some.leg c.pop.new.self
+    (subst (λ gone. CanClose config hand turn.board.now log gone) c.in-Some.ensures.takes was.can))
 
 pub close_leg-requires-clause-home : goal.close_leg-requires-clause-home
 close_leg-requires-clause-home g c =
@@ -100,9 +103,9 @@ loop-leg-preserved g c =
         replies = now.stays.replies;
         later = now.stays.later;
       });
-      can = subst (λ gone. CanClose config (made_by new.main.hand.now) new.board.now after gone) (sym rest)
+      can = subst (λ gone. CanClose config new.main.hand.now new.board.now after gone) (sym rest)
           (rest_can config turn.main.entry_id.number turn.main.entry_id.moment turn.main.hand.now new.main.hand.now turn.board.now new.board.now log after leg c.pop.new.self
-          (subst (λ gone. CanClose config (made_by turn.main.hand.now) turn.board.now log gone) c.in-Some.ensures.takes was.can) gained now.returned opens);
+          (subst (λ gone. CanClose config turn.main.hand.now turn.board.now log gone) c.in-Some.ensures.takes was.can) now.stays.nests.same.1 gained now.pool opens);
       home = subst (λ gone. GoneHome sent config gone) (sym rest)
           (λ other i. subst (λ gone. GoneHome sent config gone) c.in-Some.ensures.takes was.home other (there i));
       gained = subst (λ (ws : List Owed). MakesNested ws old.main new.main) (sym (closings_more config some one)) all_gained;
@@ -110,6 +113,8 @@ loop-leg-preserved g c =
           (returned_more v pairs (leg.0.pair ∷ []) ∙ ap (with_returned v) (sym (pairs_more some one)))
           (now.returned other (with_returned v pairs) (was.returned other v shows));
       calls = record { calls_are = now.calls.calls_are ∙ was.calls.calls_are; begun_is = now.calls.begun_is ∙ was.calls.begun_is };
+      pool = now.pool ∙ ap (shape_returns (leg.0.pair ∷ [])) was.pool ∙ more_returned (board_shape old.board.now) pairs leg.0.pair
+          ∙ ap (λ (ps : List ℕ). shape_returns ps (board_shape old.board.now)) (sym (pairs_more some one));
       closes = gained_both before log after (ClosesLegs sent config some) (ClosesLegs sent config one) (ClosesLegs sent config (some ++ one))
           (λ xs ys. closes_more sent config some one xs ys) was.closes closes;
       opens = λ held before_open. told_alike config after (pairs_left (leg.0.pair ∷ []) (pairs_left pairs held)) (pairs_left (pairs_in (leases_of_legs (some ++ one))) held)
@@ -139,6 +144,13 @@ returns-clause-open g c held opens =
 pub returns-clause-calls : goal.returns-clause-calls
 returns-clause-calls g c =
     c.loop-leg.invariant.calls
+
+pub returns-clause-pool : goal.returns-clause-pool
+returns-clause-pool g c =
+    let was = c.loop-leg.invariant in
+    let none = c.in_default.ensures.takes ∙ c.in_default.ensures.none refl in
+    let all = was.split ∙ ap (λ legs. was.closed ++ legs) none ∙ append-nil was.closed in
+    subst (λ gone. board_shape c.loop-leg.turn.board.now ≡ shape_returns (pairs_in (leases_of_legs gone)) (board_shape c.args.turn.now.board.now)) (sym all) was.pool
 
 pub returns-clause-takes : goal.returns-clause-takes
 returns-clause-takes g c =

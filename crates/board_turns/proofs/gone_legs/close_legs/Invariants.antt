@@ -5,6 +5,7 @@ use Rattle.turn_table.specs.Hands.{entries}
 use Rattle.port_pool.specs.declared.pairs.Lease.{Lease}
 use Rattle.call_board.specs.Boards.{BoardMatches, KeepsCalls, pairs_in}
 use Rattle.call_board.specs.Views.{View, with_returned}
+use Rattle.call_board.specs.Shapes.{board_shape, shape_returns}
 use Rattle.relay_core.specs.PlaceHistories.{GoneHome}
 use Rattle.relay_core.specs.Turns.{made_by}
 use Rattle.media_ports.specs.OpenPorts.{OpensHeld}
@@ -23,11 +24,12 @@ invariant-loop-leg g l =
       closed : List (Lease × g.row.P-Out.Denot × g.row.P-Out.Denot);
       split : old.gone.now ≡ closed ++ turn.gone.now;
       stays : StaysInTurn log g.P.PortMaker.faults old turn;
-      can : CanClose config (made_by turn.main.hand.now) turn.board.now (log turn.ports.now) turn.gone.now;
+      can : CanClose config turn.main.hand.now turn.board.now (log turn.ports.now) turn.gone.now;
       home : GoneHome g.P.Out.OutEnd.log config turn.gone.now;
       gained : MakesNested (closings_of config closed) old.main turn.main;
       returned : (config : Config) (v : View) → BoardMatches config old.board.now v → BoardMatches config turn.board.now (with_returned v (pairs_in (leases_of_legs closed)));
       calls : KeepsCalls old.board.now turn.board.now;
+      pool : board_shape turn.board.now ≡ shape_returns (pairs_in (leases_of_legs closed)) (board_shape old.board.now);
       closes : Gained (log old.ports.now) (log turn.ports.now) (ClosesLegs g.P.Out.OutEnd.log config closed);
       opens : (held : List ℕ) → WhereLogged (log old.ports.now) (λ calls. OpensHeld config calls held) →
           WhereLogged (log turn.ports.now) (λ calls. OpensHeld config calls (pairs_left (pairs_in (leases_of_legs closed)) held));

@@ -1,15 +1,20 @@
-use Rattle.std.proofs.Common.{refl, subst, ℕ, [], ◌∷◌, arith}
+use Rattle.std.proofs.Common.{refl, sym, subst, ℕ, [], ◌∷◌, arith}
+use Rattle.relay_outside.specs.declared.settings.Config.{Config}
 use Rattle.call_cell.specs.Cells.{Read}
 use Rattle.call_board.specs.Acts.{Call}
+use Rattle.call_board.specs.Shapes.{board_shape}
 use Rattle.call_board.specs.Views.{call_view, view_of, view_at_moment}
 use Rattle.call_board.proofs.Cells.{live_cell}
 use Rattle.call_board.proofs.Found.{found_is_live}
 use Rattle.relay_core.specs.Entries.{board_history}
+use Rattle.relay_core.specs.KeptAfter.{IsWholeWith}
 use Rattle.relay_core.specs.Turns.{GainsNested, made_by}
 use Rattle.relay_core.proofs.Histories.{good_history}
 use Rattle.relay_core.proofs.KeysOnce.{keys_once}
 use Rattle.board_turns.specs.InCells.{in_cell_of}
 use Rattle.board_turns.proofs.ReadCalls.{is_numbered_so, cell_told, nothing_read}
+use Rattle.board_turns.proofs.KeptTold.{told_whole}
+use Rattle.board_turns.proofs.Staying.{same_config}
 use Rattle.board_turns.proofs.Tying.{ties_gained}
 use Rattle.board_turns.proofs.query.query_call.Goals as goal
 
@@ -58,6 +63,8 @@ returns-clause-gained g c of alive number =
 pub returns-clause-works : goal.returns-clause-works
 returns-clause-works g c =
     let main = c.args.turn.now.main in
+    let new = c.read_cell.new.main in
+    let shape = board_shape c.args.turn.now.board.now in
     record {
       stays = record {
         nests = c.read_cell.ensures.nests;
@@ -68,4 +75,7 @@ returns-clause-works g c =
       ties = ties_gained main.config.now (g.P.PortMaker.log c.args.turn.now.ports.now) main.entry_id.number main.entry_id.moment (in_cell_of c.cell_of-cell.result (Read c.read_cell.new.out) ∷ [])
           main.hand.now c.read_cell.new.main.hand.now c.read_cell.ensures.gained (nothing_read c.cell_of-cell.result c.read_cell.new.out);
       empty = c.requires.begins.empty;
+      whole = λ w. subst (λ (k : Config). IsWholeWith k new.hand.now shape) (sym (same_config main new c.read_cell.ensures.nests))
+          (told_whole main.config.now main.entry_id.number main.entry_id.moment main.hand.now new.hand.now c.read_cell.ensures.nests.same.1 c.cell_of-cell.result (Read c.read_cell.new.out)
+          shape (λ s. refl) c.read_cell.ensures.gained w);
     }

@@ -10,6 +10,7 @@ use Rattle.board_turns.proofs.Nesting.{above_rows, turn_gained, turn_row, turn_m
 use Rattle.board_turns.proofs.Celling.{cell_given, is_cell}
 use Rattle.board_turns.proofs.Signalling.{takes_answer, space_is, commits_by, answer_fits, commit_relates, commits_part}
 use Rattle.board_turns.proofs.Leaving.{committed_went}
+use Rattle.board_turns.proofs.KeptLegs.{committed_left}
 use Rattle.board_turns.proofs.Homing.{committed_home}
 use Rattle.board_turns.proofs.signals.commit_cell.Goals as goal
 
@@ -39,6 +40,11 @@ returns-clause-committed g c =
 
 pub returns-clause-went : goal.returns-clause-went
 returns-clause-went g c = committed_went g.I.InEnd.log g.I.InEnd.faults g.O.OutEnd.log g.O.OutEnd.faults c.args.main.now.config.now c.args.main.now.hand.now c.args.cell c.args.signal.now c.args.main.now.entry_id.moment c.commit.new.gone (returns-clause-committed g c)
+
+pub returns-clause-left : goal.returns-clause-left
+returns-clause-left g c =
+    committed_left g.I.InEnd.log g.I.InEnd.faults g.O.OutEnd.log g.O.OutEnd.faults c.args.main.now.config.now c.args.main.now.turns.now c.args.main.now.hand.now c.args.cell c.args.signal.now c.args.main.now.entry_id.moment c.commit.new.gone
+    c.requires.may c.requires.cell.0 c.requires.cell.1 (returns-clause-committed g c)
 
 pub returns-clause-home : goal.returns-clause-home
 returns-clause-home g c =
@@ -103,7 +109,7 @@ put_step-requires-clause-step g c =
     let takes = takes_answer c.args.main.now.config.now c.turn-step.result.taken.value own c.args.signal.now c.args.contexts is.1 (c.requires.names c.turn-step.result.front above)
     (space_is c.args.main.now.config.now c.turn-step.result.taken.value (made_by c.args.main.now.hand.now) c.args.cell c.turn-step.result.front c.args.signal.now c.args.contexts is.1 above c.requires.room) in
     commit_relates g.I.InEnd.log g.I.InEnd.faults g.O.OutEnd.log g.O.OutEnd.faults c.turn-step.result.taken.value c.in-Cell.held c.commit.new.self c.args.signal.now c.args.contexts
-    c.args.main.now.entry_id.moment c.commit.new.gone c.args.main.now.entry_id.number (c.turn-step.ensures.turn.0.1 ∙ sym c.state.ensures.value ∙ c.in-Cell.is) takes c.commit.ensures.shape c.commit.ensures.commits
+    c.args.main.now.entry_id.moment c.commit.new.gone c.args.main.now.entry_id.number (c.turn-step.ensures.turn.0.1 ∙ sym c.state.ensures.value ∙ c.in-Cell.is) takes c.commit.ensures.shape c.commit.ensures.legs c.commit.ensures.commits
 
 pub returns-clause-nests : goal.returns-clause-nests
 returns-clause-nests g c =

@@ -10,6 +10,7 @@ use Rattle.board_turns.proofs.Nesting.{above_rows, turn_gained, turn_row, turn_s
 use Rattle.board_turns.proofs.Celling.{cell_given, is_cell}
 use Rattle.board_turns.proofs.Signalling.{takes_offer, prepares_by, tells_brought, offer_fits, prepares_part, prepare_relates, relates_brought}
 use Rattle.board_turns.proofs.Leaving.{prepared_went}
+use Rattle.board_turns.proofs.KeptLegs.{prepared_left}
 use Rattle.board_turns.proofs.Homing.{prepared_home, opened_for}
 use Rattle.board_turns.proofs.signals.prepare_cell.Goals as goal
 
@@ -45,6 +46,11 @@ returns-clause-prepared g c =
 
 pub returns-clause-went : goal.returns-clause-went
 returns-clause-went g c = prepared_went g.I.InEnd.log g.I.InEnd.faults g.O.OutEnd.log g.O.OutEnd.faults c.args.main.now.config.now c.args.main.now.hand.now c.args.cell c.args.signal c.args.call (prepared_keys c.args.signal) (drops_of c.args.signal) c.args.main.now.entry_id.moment c.prepare.new.gone (returns-clause-prepared g c)
+
+pub returns-clause-left : goal.returns-clause-left
+returns-clause-left g c =
+    prepared_left g.I.InEnd.log g.I.InEnd.faults g.O.OutEnd.log g.O.OutEnd.faults c.args.main.now.config.now c.args.main.now.turns.now c.args.main.now.hand.now c.args.cell c.args.signal c.args.call (prepared_keys c.args.signal)
+    (drops_of c.args.signal) c.args.main.now.entry_id.moment c.prepare.new.gone c.requires.may c.requires.cell.0 c.requires.cell.1 (returns-clause-prepared g c)
 
 pub returns-clause-home : goal.returns-clause-home
 returns-clause-home g c =
@@ -109,7 +115,7 @@ put_step-requires-clause-step g c =
     let opened = opened_for g.I.InEnd.log g.O.OutEnd.log c.args.main.now.config.now c.turn-step.result.taken.value _ c.args.signal is.1 c.requires.opened in
     relates_brought g.I.InEnd.log g.I.InEnd.faults g.O.OutEnd.log g.O.OutEnd.faults c.turn-step.result.taken.value (part.Cell c.prepare.new.self) c.args.main.now.entry_id.number c.args.main.now.entry_id.moment (max c.args.main.now.entry_id.moment (moment_of_cell c.turn-step.result.taken.value)) c.args.call c.of-brought.result.value c.args.signal (gone_left g.O.OutEnd.log c.prepare.new.gone) c.of-brought.ensures
     (prepare_relates g.I.InEnd.log g.I.InEnd.faults g.O.OutEnd.log g.O.OutEnd.faults c.turn-step.result.taken.value c.in-Cell.held c.prepare.new.self c.args.signal c.args.call
-    (prepared_keys c.args.signal) (drops_of c.args.signal) c.args.main.now.entry_id.moment c.prepare.new.gone c.args.main.now.entry_id.number (c.turn-step.ensures.turn.0.1 ∙ sym c.state.ensures.value ∙ c.in-Cell.is) takes opened c.prepare.ensures.shape c.prepare.ensures.prepares)
+    (prepared_keys c.args.signal) (drops_of c.args.signal) c.args.main.now.entry_id.moment c.prepare.new.gone c.args.main.now.entry_id.number (c.turn-step.ensures.turn.0.1 ∙ sym c.state.ensures.value ∙ c.in-Cell.is) takes opened c.prepare.ensures.shape c.prepare.ensures.legs c.prepare.ensures.prepares)
 
 pub returns-clause-nests : goal.returns-clause-nests
 returns-clause-nests g c =

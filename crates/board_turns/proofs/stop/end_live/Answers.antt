@@ -11,11 +11,13 @@ use Rattle.call_board.specs.Acts.{Call}
 use Rattle.call_board.specs.Boards.{BoardMatches}
 use Rattle.call_board.specs.Calls.{live}
 use Rattle.call_board.specs.Pairs.{held, closed_of}
+use Rattle.call_board.specs.Shapes.{board_shape}
 use Rattle.call_board.specs.Views.{View, call_view, view_of}
 use Rattle.call_board.specs.Whole.{with_ended}
 use Rattle.call_board.proofs.Entries.{ended_more, whole}
-use Rattle.call_board.proofs.Found.{cells_while_ending}
+use Rattle.call_board.proofs.Found.{cells_while_ending, found_is_live}
 use Rattle.relay_core.specs.Entries.{board_history}
+use Rattle.relay_core.specs.KeptAfter.{IsWholeWith}
 use Rattle.relay_core.specs.Scripts.{Owed, ending}
 use Rattle.relay_core.specs.Turns.{GainsNested, made_by}
 use Rattle.relay_core.proofs.Histories.{good_history}
@@ -25,12 +27,13 @@ use Rattle.media_ports.proofs.Leased.{take_next}
 use Rattle.board_turns.proofs.Staying.{may_again, same_config, makes_both, works_none, works_both}
 use Rattle.board_turns.specs.BoardTurns.{MakesNested}
 use Rattle.board_turns.specs.Closings.{pairs_left}
-use Rattle.board_turns.specs.CallEnds.{CanEnd, ending_of, leg_pairs, with_call_ended}
+use Rattle.board_turns.specs.CallEnds.{CanEnd, IsCallOf, ending_of, leg_pairs, with_call_ended}
 use Rattle.board_turns.specs.Stops.{stop_entry, still_held}
 use Rattle.board_turns.proofs.Lefts.{left_none, left_twice, told_alike}
 use Rattle.board_turns.proofs.Closed.{gains_nothing}
 use Rattle.board_turns.proofs.Unopened.{theirs_open_none}
-use Rattle.board_turns.proofs.Stopped.{nth, spread_more, next_number, one_left, stop_can}
+use Rattle.board_turns.proofs.Stopped.{nth, spread_more, next_number, one_left, stop_call}
+use Rattle.board_turns.proofs.TakenPairs.{may_end, ended_free}
 use Rattle.board_turns.proofs.stop.end_live.Goals as goal
 
 pub loop-ended-init : goal.loop-ended-init
@@ -55,8 +58,8 @@ pub end_call-requires-clause-empty : goal.end_call-requires-clause-empty
 end_call-requires-clause-empty g c =
     c.loop-ended.invariant.works.empty
 
-pub end_call-requires-clause-can : goal.end_call-requires-clause-can
-end_call-requires-clause-can g c =
+pub end_call-requires-clause-of : goal.end_call-requires-clause-of
+end_call-requires-clause-of g c =
     let config = c.args.turn.now.main.config.now in
     let number = c.args.turn.now.main.entry_id.number in
     let moment = c.args.turn.now.main.entry_id.moment in
@@ -78,11 +81,29 @@ end_call-requires-clause-can g c =
     let first : Some c.call_at-call.result ≡ Some of.number = sym (c.call_at-call.ensures.live config v was.shows) ∙ next_number config h e i of fits next.1 in
     let same : c.call_at-call.result ≡ of.number = cc in
     let config_same = same_config c.args.turn.now.main turn.main was.works.stays.nests in
-    let can : CanEnd turn.main.config.now (made_by turn.main.hand.now) turn.board.now log c.call_at-call.result of legs =
-    subst (λ (k : Config). CanEnd k (made_by turn.main.hand.now) turn.board.now log c.call_at-call.result of legs) (sym config_same)
-    (subst (λ (k : ℕ). CanEnd config (made_by turn.main.hand.now) turn.board.now log k of legs) (sym same)
-    (stop_can config number moment c.args.turn.now.main.hand.now turn.main.hand.now i of turn.board.now log c.requires.orderly c.requires.above next.1 was.gained was.shows was.opens)) in
-    (of, legs, can)
+    let is : IsCallOf turn.main.config.now (made_by turn.main.hand.now) turn.board.now c.call_at-call.result of legs =
+    subst (λ (k : Config). IsCallOf k (made_by turn.main.hand.now) turn.board.now c.call_at-call.result of legs) (sym config_same)
+    (subst (λ (k : ℕ). IsCallOf config (made_by turn.main.hand.now) turn.board.now k of legs) (sym same)
+    (stop_call config number moment c.args.turn.now.main.hand.now turn.main.hand.now i of turn.board.now c.requires.orderly c.requires.above next.1 was.gained was.shows)) in
+    (of, legs, is)
+
+pub end_call-requires-clause-can : goal.end_call-requires-clause-can
+end_call-requires-clause-can g c =
+    let old = c.args.turn.now in
+    let config = old.main.config.now in
+    let turn = c.loop-ended.turn in
+    let h = board_history (made_by old.main.hand.now) old.main.entry_id.number in
+    let e = stop_entry h in
+    let gone = take c.loop-ended.ended (live h) in
+    let was = c.loop-ended.invariant in
+    let is = (end_call-requires-clause-of g c).2 in
+    let same = same_config old.main turn.main was.works.stays.nests in
+    subst (λ (k : Config). CanEnd k turn.main.hand.now turn.board.now (g.P.PortMaker.log turn.ports.now) c.call_at-call.result) (sym same)
+    (may_end config turn.main.hand.now turn.board.now (g.P.PortMaker.log turn.ports.now) c.call_at-call.result h (leg_pairs (flat_map (closed_of h e) gone))
+    (with_ended h e gone (view_of config h))
+    (subst (λ (k : Config). IsWholeWith k turn.main.hand.now (board_shape turn.board.now)) same (was.works.whole c.requires.whole))
+    was.shows (ended_free h e gone (view_of config h))
+    (found_is_live turn.main.config.now turn.board.now is.view c.call_at-call.result is.seen is.shows is.found) was.opens)
 
 pub loop-ended-preserved : goal.loop-ended-preserved
 loop-ended-preserved g c =
@@ -107,10 +128,10 @@ loop-ended-preserved g c =
     let first : Some c.call_at-call.result ≡ Some of.number = sym (c.call_at-call.ensures.live config v was.shows) ∙ next_number config h e i of fits next.1 in
     let same : c.call_at-call.result ≡ of.number = cc in
     let config_same = same_config c.args.turn.now.main turn.main was.works.stays.nests in
-    let can : CanEnd turn.main.config.now (made_by turn.main.hand.now) turn.board.now log c.call_at-call.result of legs =
-    subst (λ (k : Config). CanEnd k (made_by turn.main.hand.now) turn.board.now log c.call_at-call.result of legs) (sym config_same)
-    (subst (λ (k : ℕ). CanEnd config (made_by turn.main.hand.now) turn.board.now log k of legs) (sym same)
-    (stop_can config number moment c.args.turn.now.main.hand.now turn.main.hand.now i of turn.board.now log c.requires.orderly c.requires.above next.1 was.gained was.shows was.opens)) in
+    let can : IsCallOf turn.main.config.now (made_by turn.main.hand.now) turn.board.now c.call_at-call.result of legs =
+    subst (λ (k : Config). IsCallOf k (made_by turn.main.hand.now) turn.board.now c.call_at-call.result of legs) (sym config_same)
+    (subst (λ (k : ℕ). IsCallOf config (made_by turn.main.hand.now) turn.board.now k of legs) (sym same)
+    (stop_call config number moment c.args.turn.now.main.hand.now turn.main.hand.now i of turn.board.now c.requires.orderly c.requires.above next.1 was.gained was.shows)) in
     let old = c.args.turn.now in
     let new = c.end_call.new.turn in
     let now = c.end_call.ensures in

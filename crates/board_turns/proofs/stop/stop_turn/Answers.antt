@@ -7,6 +7,8 @@ use Rattle.call_board.specs.Fits.{IsFitting}
 use Rattle.call_board.specs.Pairs.{held}
 use Rattle.port_pool.specs.declared.holder.Holder.{Holder}
 use Rattle.media_ports.specs.OpenPorts.{LogsHeld}
+use Rattle.call_board.specs.Shapes.{board_shape}
+use Rattle.relay_core.specs.KeptAfter.{IsWholeWith}
 use Rattle.relay_core.specs.declared.part.Part.TheVariants as part
 use Rattle.relay_core.specs.Entries.{board_history}
 use Rattle.relay_core.specs.Records.{Made}
@@ -21,6 +23,7 @@ use Rattle.board_turns.proofs.Betweens.{between_may, turn_begins, begins_whole, 
 use Rattle.board_turns.proofs.Grown.{makes_history}
 use Rattle.board_turns.proofs.StopTurns.{moved, stop_begins, stop_gained, stop_stands, stop_opens_none, stop_relates, stop_history, stop_ends}
 use Rattle.board_turns.proofs.Tying.{ties_ended}
+use Rattle.board_turns.proofs.Wholeness.{same_shape, works_whole}
 use Rattle.board_turns.proofs.Unheld.{stop_holds_none}
 use Rattle.board_turns.proofs.stop.stop_turn.Goals as goal
 
@@ -73,6 +76,17 @@ end_live-count-requires-clause-above g c =
     let between = c.requires.rests.between in
     let begins = turn_begins g.P.In.InEnd.log g.P.In.InEnd.faults g.P.Out.OutEnd.log g.P.Out.OutEnd.faults config turns old mid step between c.turn-step.ensures.same c.turn-step.ensures.turn in
     subst (λ (k : ℕ). IsAbove (made_by mid) 0 k) (sym c.front-number.ensures) begins.above
+
+pub end_live-count-requires-clause-whole : goal.end_live-count-requires-clause-whole
+end_live-count-requires-clause-whole g c =
+    let config = c.args.at.now.config.now in
+    let turns = c.args.at.now.turns.now in
+    let old = c.args.at.now.hand.now in
+    let mid = c.turn-step.new.hand in
+    let step = c.turn-step.result in
+    let between = c.requires.rests.between in
+    let begins = turn_begins g.P.In.InEnd.log g.P.In.InEnd.faults g.P.Out.OutEnd.log g.P.Out.OutEnd.faults config turns old mid step between c.turn-step.ensures.same c.turn-step.ensures.turn in
+    same_shape config mid c.in-Board.board c.advance-moment.new.self c.advance-moment.ensures.shape (begins.whole c.in-Board.board (sym c.state.ensures.value ∙ c.in-Board.is))
 
 pub end_live-count-requires-clause-orderly : goal.end_live-count-requires-clause-orderly
 end_live-count-requires-clause-orderly g c =
@@ -152,6 +166,20 @@ put_entry-requires-clause-step g c =
     (moved config h (state_of step) (taken_of step) begins.untouched begins.board)
     (stop_stands config mid step c.front-number.result c.advance-moment.result c.advance-moment.new.self new.board.now stops c.end_live-count.ensures.board)
 
+-- what the board, the cells and the boxes keep when all calls have ended goes together
+left_whole : (g : _) (c : goal.After-put_entry g) → IsWholeWith c.args.at.now.config.now c.at-1.given.0 (board_shape c.end_live-count.new.turn.board.now)
+left_whole g c =
+    let config = c.args.at.now.config.now in
+    let turns = c.args.at.now.turns.now in
+    let old = c.args.at.now.hand.now in
+    let mid = c.turn-step.new.hand in
+    let step = c.turn-step.result in
+    let between = c.requires.rests.between in
+    let begins = turn_begins g.P.In.InEnd.log g.P.In.InEnd.faults g.P.Out.OutEnd.log g.P.Out.OutEnd.faults config turns old mid step between c.turn-step.ensures.same c.turn-step.ensures.turn in
+    let works = c.end_live-count.ensures.works in
+    works_whole g.P.PortMaker.log g.P.PortMaker.faults _ c.end_live-count.new.turn c.at-1.given.0 works (sym (c.at-1.given.1 (sym works.stays.nests.hand_is)))
+    (same_shape config mid c.in-Board.board c.advance-moment.new.self c.advance-moment.ensures.shape (begins.whole c.in-Board.board (sym c.state.ensures.value ∙ c.in-Board.is)))
+
 pub returns-clause-makes : goal.returns-clause-makes
 returns-clause-makes g c =
     let config = c.args.at.now.config.now in
@@ -172,7 +200,7 @@ returns-clause-makes g c =
     (stop_gained config mid new.main.hand.now step c.front-number.result c.advance-moment.result c.advance-moment.new.self stops c.end_live-count.ensures.gained) in
     let sames = subst (λ hand. IsSameHand mid hand × SameTurns mid hand) left (nests.same, nests.same_turns) in
     let put = stop_ends _ config turns old mid nested c.put_entry.new.hand step tt between c.turn-step.ensures.same c.turn-step.ensures.turn.0 begins sames gains
-    c.put_entry.ensures.same c.put_entry.ensures.entry in
+    c.put_entry.ensures.same c.put_entry.ensures.entry (board_shape new.board.now) refl (left_whole g c) in
     put.makes
 
 pub returns-clause-count : goal.returns-clause-count
@@ -225,7 +253,7 @@ returns-clause-rests g c =
     (stop_gained config mid new.main.hand.now step c.front-number.result c.advance-moment.result c.advance-moment.new.self stops c.end_live-count.ensures.gained) in
     let sames = subst (λ hand. IsSameHand mid hand × SameTurns mid hand) left (nests.same, nests.same_turns) in
     let put = stop_ends _ config turns old mid nested c.put_entry.new.hand step tt between c.turn-step.ensures.same c.turn-step.ensures.turn.0 begins sames gains
-    c.put_entry.ensures.same c.put_entry.ensures.entry in
+    c.put_entry.ensures.same c.put_entry.ensures.entry (board_shape new.board.now) refl (left_whole g c) in
     let before = g.P.PortMaker.log c.args.at.now.ports.now in
     let after = g.P.PortMaker.log new.ports.now in
     let past = board_of (made_by old) in

@@ -12,13 +12,13 @@ use Rattle.call_board.specs.Boards.{BoardMatches}
 use Rattle.relay_core.specs.Turns.{made_by}
 use Rattle.board_turns.specs.declared.board_turn.BoardTurn.{BoardTurn}
 use Rattle.board_turns.specs.InCells.{HasNewKeys, in_cell_of}
-use Rattle.board_turns.specs.BoardTurns.{MakesNested, MayEnd, MayExpire}
+use Rattle.board_turns.specs.BoardTurns.{IsTurnCall, MakesNested, MayExpire}
 use Rattle.board_turns.specs.Closings.{pairs_left}
 use Rattle.board_turns.specs.CallEnds.{leg_pairs, with_call_ended}
 use Rattle.board_turns.specs.Ticks.{IsDueBy, asking_of}
 use Rattle.board_turns.proofs.Staying.{may_again, same_config, works_both}
 use Rattle.board_turns.proofs.Expiring.{index_below, number_there, cell_there, live_there, overdue_there, due_by_whole}
-use Rattle.board_turns.proofs.Overdue.{HasToEnd, works_asked, ends_overdue, ends_timed_out, then_can, then_gained}
+use Rattle.board_turns.proofs.Overdue.{HasToEnd, works_asked, ends_overdue, ends_timed_out, then_can, then_call, then_gained}
 use Rattle.board_turns.proofs.Unopened.{theirs_open_none}
 use Rattle.board_turns.proofs.tick.expire_call.Goals as goal
 use Rattle.board_turns.proofs.tick.expire_call.Goals.{else-not-overdue-via-then-not-overdue+else-not-expire_cell, else-not-overdue-via-else-not-overdue}
@@ -27,19 +27,19 @@ pub call_at-call-requires : goal.call_at-call-requires
 call_at-call-requires g c =
     let old = c.args.turn.now in
     let can = c.requires.can in
-    index_below old.main.config.now (made_by old.main.hand.now) old.board.now (g.P.PortMaker.log old.ports.now) old.main.entry_id.moment c.args.index can.0 can.1 can.2 can.3
+    index_below old.main.config.now old.main.hand.now old.board.now (g.P.PortMaker.log old.ports.now) old.main.entry_id.moment c.args.index can.0 can.1 can.2 can.3
 
 pub cell_at-cell-requires : goal.cell_at-cell-requires
 cell_at-cell-requires g c =
     let old = c.args.turn.now in
     let can = c.requires.can in
-    index_below old.main.config.now (made_by old.main.hand.now) old.board.now (g.P.PortMaker.log old.ports.now) old.main.entry_id.moment c.args.index can.0 can.1 can.2 can.3
+    index_below old.main.config.now old.main.hand.now old.board.now (g.P.PortMaker.log old.ports.now) old.main.entry_id.moment c.args.index can.0 can.1 can.2 can.3
 
 pub is_due-overdue-requires : goal.is_due-overdue-requires
 is_due-overdue-requires g c =
     let old = c.args.turn.now in
     let can = c.requires.can in
-    live_there old.main.config.now (made_by old.main.hand.now) old.board.now (g.P.PortMaker.log old.ports.now) old.main.entry_id.moment c.args.index can.0 can.1 can.2 can.3
+    live_there old.main.config.now old.main.hand.now old.board.now (g.P.PortMaker.log old.ports.now) old.main.entry_id.moment c.args.index can.0 can.1 can.2 can.3
     c.call_at-call.result c.call_at-call.ensures.live
 
 pub expire_cell-requires-clause-may : goal.expire_cell-requires-clause-may
@@ -50,19 +50,19 @@ pub expire_cell-requires-clause-cell : goal.expire_cell-requires-clause-cell
 expire_cell-requires-clause-cell g c =
     let old = c.args.turn.now in
     let can = c.requires.can in
-    let is = cell_there old.main.config.now (made_by old.main.hand.now) old.board.now (g.P.PortMaker.log old.ports.now) old.main.entry_id.moment c.args.index can.0 can.1 can.2 can.3
+    let is = cell_there old.main.config.now old.main.hand.now old.board.now (g.P.PortMaker.log old.ports.now) old.main.entry_id.moment c.args.index can.0 can.1 can.2 can.3
     c.cell_at-cell.result c.cell_at-cell.ensures.live in
-    let low = can.3.can.low in
-    let high = can.3.can.high in
+    let low = can.3.is_call.low in
+    let high = can.3.is_call.high in
     (omega (arith, is, low), omega (arith, is, high))
 
 pub expire_cell-requires-clause-keys : goal.expire_cell-requires-clause-keys
 expire_cell-requires-clause-keys g c =
     let old = c.args.turn.now in
     let can = c.requires.can in
-    let is = cell_there old.main.config.now (made_by old.main.hand.now) old.board.now (g.P.PortMaker.log old.ports.now) old.main.entry_id.moment c.args.index can.0 can.1 can.2 can.3
+    let is = cell_there old.main.config.now old.main.hand.now old.board.now (g.P.PortMaker.log old.ports.now) old.main.entry_id.moment c.args.index can.0 can.1 can.2 can.3
     c.cell_at-cell.result c.cell_at-cell.ensures.live in
-    subst (λ (k : ℕ). HasNewKeys (made_by old.main.hand.now) k) (sym is) can.3.can.keys
+    subst (λ (k : ℕ). HasNewKeys (made_by old.main.hand.now) k) (sym is) can.3.is_call.keys
 
 -- The call was asked, and has not timed out.
 
@@ -78,8 +78,8 @@ returns-then-not-expire_cell-clause-gained g c of legs overdue asks =
     let log = g.P.PortMaker.log old.ports.now in
     let l = made_by old.main.hand.now in
     let new = c.expire_cell.new.main in
-    let is = cell_there config l old.board.now log old.main.entry_id.moment c.args.index of legs overdue asks c.cell_at-cell.result c.cell_at-cell.ensures.live in
-    let said = overdue_there config l old.board.now log old.main.entry_id.moment c.args.index of legs overdue asks c.call_at-call.result c.is_due-overdue.result c.call_at-call.ensures.live
+    let is = cell_there config old.main.hand.now old.board.now log old.main.entry_id.moment c.args.index of legs overdue asks c.cell_at-cell.result c.cell_at-cell.ensures.live in
+    let said = overdue_there config old.main.hand.now old.board.now log old.main.entry_id.moment c.args.index of legs overdue asks c.call_at-call.result c.is_due-overdue.result c.call_at-call.ensures.live
     c.is_due-overdue.ensures in
     subst (λ (o : Bool). MakesNested (asking_of config of legs o false) old.main new) (sym c.if-not-overdue.true ∙ said)
     (subst (λ (k : ℕ). MakesNested (in_cell_of k (Expire false) ∷ []) old.main new) is c.if-not-expire_cell.ensures.gained)
@@ -87,7 +87,7 @@ returns-then-not-expire_cell-clause-gained g c of legs overdue asks =
 pub returns-then-not-expire_cell-clause-overdue : goal.returns-then-not-expire_cell-clause-overdue
 returns-then-not-expire_cell-clause-overdue g c of legs overdue asks is_overdue =
     let old = c.args.turn.now in
-    let said = overdue_there old.main.config.now (made_by old.main.hand.now) old.board.now (g.P.PortMaker.log old.ports.now) old.main.entry_id.moment c.args.index of legs overdue asks
+    let said = overdue_there old.main.config.now old.main.hand.now old.board.now (g.P.PortMaker.log old.ports.now) old.main.entry_id.moment c.args.index of legs overdue asks
     c.call_at-call.result c.is_due-overdue.result c.call_at-call.ensures.live c.is_due-overdue.ensures in
     sym c.if-not-overdue.true ∙ said ∙ is_overdue
 
@@ -96,13 +96,13 @@ returns-then-not-expire_cell-clause-timed_out g c of legs overdue asks not_overd
     let old = c.args.turn.now in
     let config = old.main.config.now in
     let l = made_by old.main.hand.now in
-    let is = cell_there config l old.board.now (g.P.PortMaker.log old.ports.now) old.main.entry_id.moment c.args.index of legs overdue asks c.cell_at-cell.result c.cell_at-cell.ensures.live in
-    let low = asks.can.low in
-    let high = asks.can.high in
+    let is = cell_there config old.main.hand.now old.board.now (g.P.PortMaker.log old.ports.now) old.main.entry_id.moment c.args.index of legs overdue asks c.cell_at-cell.result c.cell_at-cell.ensures.live in
+    let low = asks.is_call.low in
+    let high = asks.is_call.high in
     let may = c.requires.may in
     subst (λ (k : ℕ). IsDueBy config l k old.main.entry_id.moment false) is
     (due_by_whole g.P.In.InEnd.log g.P.In.InEnd.faults g.P.Out.OutEnd.log g.P.Out.OutEnd.faults config old.main.hand.now c.cell_at-cell.result old.main.entry_id.moment false may.parts
-    may.numbered (omega (arith, is, low)) (omega (arith, is, high)) (subst (λ (k : ℕ). HasNewKeys l k) (sym is) asks.can.keys) all c.if-not-expire_cell.ensures.asked)
+    may.numbered (omega (arith, is, low)) (omega (arith, is, high)) (subst (λ (k : ℕ). HasNewKeys l k) (sym is) asks.is_call.keys) all c.if-not-expire_cell.ensures.asked)
 
 -- The call has to end.
 
@@ -129,13 +129,14 @@ end_call-requires g c =
           (subst (λ (turn : BoardTurn _ _ _ _). HasToEnd log faults it ic ot oc old turn cell true) (sym w.turn-is)
           (ends_overdue log faults it ic ot oc old cell c.requires.may c.requires.empty))
     ] in
-    let call_is = number_there old.main.config.now (made_by old.main.hand.now) old.board.now (log old.ports.now) old.main.entry_id.moment c.args.index can.0 can.1 can.2 asks
+    let call_is = number_there old.main.config.now old.main.hand.now old.board.now (log old.ports.now) old.main.entry_id.moment c.args.index can.0 can.1 can.2 asks
     c.call_at-call.result c.call_at-call.ensures.live in
-    let is = cell_there old.main.config.now (made_by old.main.hand.now) old.board.now (log old.ports.now) old.main.entry_id.moment c.args.index can.0 can.1 can.2 asks
+    let is = cell_there old.main.config.now old.main.hand.now old.board.now (log old.ports.now) old.main.entry_id.moment c.args.index can.0 can.1 can.2 asks
     cell c.cell_at-cell.ensures.live in
     record {
       may = may_again old.main now.main ends.works.stays.nests;
-      can = (can.0, can.1, then_can log faults it ic ot oc old now cell c.is_due-overdue.result ends can.0 can.1 is c.call_at-call.result asks.can call_is);
+      can = then_can log faults it ic ot oc old now cell c.is_due-overdue.result ends can.0 can.1 is c.call_at-call.result asks.can call_is;
+      of = (can.0, can.1, then_call log faults it ic ot oc old now cell c.is_due-overdue.result ends can.0 can.1 is c.call_at-call.result asks.is_call call_is);
       empty = ends.works.empty;
     }
 
@@ -160,17 +161,17 @@ reached g c =
           (ends_overdue log faults it ic ot oc old cell c.requires.may c.requires.empty))
     ]
 
-ended_can : (g : _) (c : goal.After-end_call g) (of : Call) (legs : List Holder) (overdue : Bool) → MayExpire g.P.PortMaker.log c.args.turn.now c.args.index of legs overdue
-    → MayEnd g.P.PortMaker.log c.else-not-overdue.turn c.call_at-call.result of legs
-ended_can g c of legs overdue asks =
+ended_call : (g : _) (c : goal.After-end_call g) (of : Call) (legs : List Holder) (overdue : Bool) → MayExpire g.P.PortMaker.log c.args.turn.now c.args.index of legs overdue
+    → IsTurnCall c.else-not-overdue.turn c.call_at-call.result of legs
+ended_call g c of legs overdue asks =
     let old = c.args.turn.now in
     let config = old.main.config.now in
     let l = made_by old.main.hand.now in
     let log = g.P.PortMaker.log in
-    let call_is = number_there config l old.board.now (log old.ports.now) old.main.entry_id.moment c.args.index of legs overdue asks c.call_at-call.result c.call_at-call.ensures.live in
-    let is = cell_there config l old.board.now (log old.ports.now) old.main.entry_id.moment c.args.index of legs overdue asks c.cell_at-cell.result c.cell_at-cell.ensures.live in
-    then_can log g.P.PortMaker.faults g.P.In.InEnd.log g.P.In.InEnd.faults g.P.Out.OutEnd.log g.P.Out.OutEnd.faults old c.else-not-overdue.turn c.cell_at-cell.result
-    c.is_due-overdue.result (reached g c) of legs is c.call_at-call.result asks.can call_is
+    let call_is = number_there config old.main.hand.now old.board.now (log old.ports.now) old.main.entry_id.moment c.args.index of legs overdue asks c.call_at-call.result c.call_at-call.ensures.live in
+    let is = cell_there config old.main.hand.now old.board.now (log old.ports.now) old.main.entry_id.moment c.args.index of legs overdue asks c.cell_at-cell.result c.cell_at-cell.ensures.live in
+    then_call log g.P.PortMaker.faults g.P.In.InEnd.log g.P.In.InEnd.faults g.P.Out.OutEnd.log g.P.Out.OutEnd.faults old c.else-not-overdue.turn c.cell_at-cell.result
+    c.is_due-overdue.result (reached g c) of legs is c.call_at-call.result asks.is_call call_is
 
 pub returns-clause-works : goal.returns-clause-works
 returns-clause-works g c =
@@ -182,19 +183,19 @@ returns-clause-gained g c of legs overdue asks =
     let config = old.main.config.now in
     let l = made_by old.main.hand.now in
     let log = g.P.PortMaker.log in
-    let is = cell_there config l old.board.now (log old.ports.now) old.main.entry_id.moment c.args.index of legs overdue asks c.cell_at-cell.result c.cell_at-cell.ensures.live in
-    let said = overdue_there config l old.board.now (log old.ports.now) old.main.entry_id.moment c.args.index of legs overdue asks c.call_at-call.result c.is_due-overdue.result
+    let is = cell_there config old.main.hand.now old.board.now (log old.ports.now) old.main.entry_id.moment c.args.index of legs overdue asks c.cell_at-cell.result c.cell_at-cell.ensures.live in
+    let said = overdue_there config old.main.hand.now old.board.now (log old.ports.now) old.main.entry_id.moment c.args.index of legs overdue asks c.call_at-call.result c.is_due-overdue.result
     c.call_at-call.ensures.live c.is_due-overdue.ensures in
     then_gained log g.P.PortMaker.faults g.P.In.InEnd.log g.P.In.InEnd.faults g.P.Out.OutEnd.log g.P.Out.OutEnd.faults old c.else-not-overdue.turn c.cell_at-cell.result
-    c.is_due-overdue.result (reached g c) of legs is c.end_call.new.turn.main overdue said (c.end_call.ensures.gained of legs (ended_can g c of legs overdue asks))
+    c.is_due-overdue.result (reached g c) of legs is c.end_call.new.turn.main overdue said (c.end_call.ensures.gained of legs (ended_call g c of legs overdue asks))
 
 pub returns-clause-asked : goal.returns-clause-asked
 returns-clause-asked g c of legs overdue asks other v shows apart =
     let old = c.args.turn.now in
-    let call_is = number_there old.main.config.now (made_by old.main.hand.now) old.board.now (g.P.PortMaker.log old.ports.now) old.main.entry_id.moment c.args.index of legs overdue asks
+    let call_is = number_there old.main.config.now old.main.hand.now old.board.now (g.P.PortMaker.log old.ports.now) old.main.entry_id.moment c.args.index of legs overdue asks
     c.call_at-call.result c.call_at-call.ensures.live in
     subst (λ (k : ℕ). BoardMatches other c.end_call.new.turn.board.now (with_call_ended v k legs)) call_is
-    (c.end_call.ensures.ended of legs (ended_can g c of legs overdue asks) other v (subst (λ (board : Board). BoardMatches other board v) (sym (reached g c).board_is) shows) apart)
+    (c.end_call.ensures.ended of legs (ended_call g c of legs overdue asks) other v (subst (λ (board : Board). BoardMatches other board v) (sym (reached g c).board_is) shows) apart)
 
 pub returns-clause-open : goal.returns-clause-open
 returns-clause-open g c of legs overdue asks held opens =
@@ -203,7 +204,7 @@ returns-clause-open g c of legs overdue asks held opens =
     let log = g.P.PortMaker.log in
     subst (λ (k : Config). WhereLogged (log now.ports.now) (λ (calls : List PortCall). OpensHeld k calls held)
     → WhereLogged (log c.end_call.new.turn.ports.now) (λ (calls : List PortCall). OpensHeld k calls (pairs_left (leg_pairs legs) held)))
-    (same_config old.main now.main (reached g c).works.stays.nests) (c.end_call.ensures.«open» of legs (ended_can g c of legs overdue asks) held)
+    (same_config old.main now.main (reached g c).works.stays.nests) (c.end_call.ensures.«open» of legs (ended_call g c of legs overdue asks) held)
     (subst (λ (ports : _). WhereLogged (log ports) (λ (calls : List PortCall). OpensHeld old.main.config.now calls held)) (sym (reached g c).ports_are) opens)
 
 pub returns-clause-timed_out : goal.returns-clause-timed_out
@@ -212,15 +213,15 @@ returns-clause-timed_out g c of legs overdue asks not_overdue all =
     let config = old.main.config.now in
     let l = made_by old.main.hand.now in
     let log = g.P.PortMaker.log old.ports.now in
-    let is = cell_there config l old.board.now log old.main.entry_id.moment c.args.index of legs overdue asks c.cell_at-cell.result c.cell_at-cell.ensures.live in
-    let said = overdue_there config l old.board.now log old.main.entry_id.moment c.args.index of legs overdue asks c.call_at-call.result c.is_due-overdue.result c.call_at-call.ensures.live
+    let is = cell_there config old.main.hand.now old.board.now log old.main.entry_id.moment c.args.index of legs overdue asks c.cell_at-cell.result c.cell_at-cell.ensures.live in
+    let said = overdue_there config old.main.hand.now old.board.now log old.main.entry_id.moment c.args.index of legs overdue asks c.call_at-call.result c.is_due-overdue.result c.call_at-call.ensures.live
     c.is_due-overdue.ensures in
-    let low = asks.can.low in
-    let high = asks.can.high in
+    let low = asks.is_call.low in
+    let high = asks.is_call.high in
     let may = c.requires.may in
     subst (λ (k : ℕ). IsDueBy config l k old.main.entry_id.moment true) is
     (due_by_whole g.P.In.InEnd.log g.P.In.InEnd.faults g.P.Out.OutEnd.log g.P.Out.OutEnd.faults config old.main.hand.now c.cell_at-cell.result old.main.entry_id.moment true may.parts
-    may.numbered (omega (arith, is, low)) (omega (arith, is, high)) (subst (λ (k : ℕ). HasNewKeys l k) (sym is) asks.can.keys) all ((reached g c).timed_out (said ∙ not_overdue)))
+    may.numbered (omega (arith, is, low)) (omega (arith, is, high)) (subst (λ (k : ℕ). HasNewKeys l k) (sym is) asks.is_call.keys) all ((reached g c).timed_out (said ∙ not_overdue)))
 
 pub returns-clause-closes : goal.returns-clause-closes
 returns-clause-closes g c =
@@ -229,4 +230,4 @@ returns-clause-closes g c =
     let log = g.P.PortMaker.log in
     let new = log c.end_call.new.turn.ports.now in
     subst (λ (ports : _). Gained (log ports) new NoneOpened) (reached g c).ports_are
-    (theirs_open_none g.P.Out.OutEnd.log now.main.config.now can.1 (log now.ports.now) new (c.end_call.ensures.closes can.0 can.1 (ended_can g c can.0 can.1 can.2 can.3)))
+    (theirs_open_none g.P.Out.OutEnd.log now.main.config.now can.1 (log now.ports.now) new (c.end_call.ensures.closes can.0 can.1 (ended_call g c can.0 can.1 can.2 can.3)))

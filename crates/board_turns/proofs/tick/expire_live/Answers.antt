@@ -7,8 +7,10 @@ use Rattle.turn_table.specs.Hands.{parts}
 use Rattle.call_board.specs.Acts.{Call}
 use Rattle.call_board.specs.Calls.{live, is_due_at}
 use Rattle.call_board.specs.Pairs.{closed_of}
+use Rattle.call_board.specs.Shapes.{board_shape}
 use Rattle.call_board.specs.Views.{call_view, view_of, view_at_moment}
 use Rattle.relay_core.specs.Entries.{board_history}
+use Rattle.relay_core.specs.KeptAfter.{IsWholeWith}
 use Rattle.relay_core.specs.Turns.{GainsNested, made_by}
 use Rattle.media_ports.specs.OpenPorts.{OpensHeld}
 use Rattle.board_turns.specs.declared.board_turn.BoardEntryId.{BoardEntryId}
@@ -66,11 +68,11 @@ expire_call-requires-clause-can g c =
     let same = same_config c.args.turn.now.main turn.main was.works.stays.nests in
     let overdue = is_due_at h of.number moment in
     let entry_same = was.works.stays.nests.entry_is in
-    let asks = subst (λ (id : BoardEntryId). CanExpire turn.main.config.now (made_by turn.main.hand.now) turn.board.now told_now id.moment (i - c.loop-asked.ended) of legs overdue)
+    let asks = subst (λ (id : BoardEntryId). CanExpire turn.main.config.now turn.main.hand.now turn.board.now told_now id.moment (i - c.loop-asked.ended) of legs overdue)
     (sym entry_same)
-    (subst (λ (k : Config). CanExpire k (made_by turn.main.hand.now) turn.board.now told_now moment (i - c.loop-asked.ended) of legs overdue) (sym same)
+    (subst (λ (k : Config). CanExpire k turn.main.hand.now turn.board.now told_now moment (i - c.loop-asked.ended) of legs overdue) (sym same)
     (next_asks config number moment c.args.turn.now.main.hand.now turn.main.hand.now turn.board.now told_now i c.loop-asked.ended (i - c.loop-asked.ended) of
-    c.requires.begins.in_turn.orderly c.requires.begins.in_turn.above next.1 was.asked (omega (arith, few)))) in
+    (subst (λ (k : Config). IsWholeWith k turn.main.hand.now (board_shape turn.board.now)) same (was.works.whole c.requires.begins.in_turn.whole)) c.requires.begins.in_turn.orderly c.requires.begins.in_turn.above next.1 was.asked (omega (arith, few)))) in
     (of, legs, overdue, asks)
 
 pub loop-asked-preserved : goal.loop-asked-preserved
@@ -94,11 +96,11 @@ loop-asked-preserved g c =
     let same = same_config c.args.turn.now.main turn.main was.works.stays.nests in
     let overdue = is_due_at h of.number moment in
     let entry_same = was.works.stays.nests.entry_is in
-    let asks = subst (λ (id : BoardEntryId). CanExpire turn.main.config.now (made_by turn.main.hand.now) turn.board.now told_now id.moment (i - c.loop-asked.ended) of legs overdue)
+    let asks = subst (λ (id : BoardEntryId). CanExpire turn.main.config.now turn.main.hand.now turn.board.now told_now id.moment (i - c.loop-asked.ended) of legs overdue)
     (sym entry_same)
-    (subst (λ (k : Config). CanExpire k (made_by turn.main.hand.now) turn.board.now told_now moment (i - c.loop-asked.ended) of legs overdue) (sym same)
+    (subst (λ (k : Config). CanExpire k turn.main.hand.now turn.board.now told_now moment (i - c.loop-asked.ended) of legs overdue) (sym same)
     (next_asks config number moment c.args.turn.now.main.hand.now turn.main.hand.now turn.board.now told_now i c.loop-asked.ended (i - c.loop-asked.ended) of
-    c.requires.begins.in_turn.orderly c.requires.begins.in_turn.above next.1 was.asked (omega (arith, few)))) in
+    (subst (λ (k : Config). IsWholeWith k turn.main.hand.now (board_shape turn.board.now)) same (was.works.whole c.requires.begins.in_turn.whole)) c.requires.begins.in_turn.orderly c.requires.begins.in_turn.above next.1 was.asked (omega (arith, few)))) in
     let old = c.args.turn.now in
     let new = c.expire_call.new.turn in
     let log = g.P.PortMaker.log old.ports.now in

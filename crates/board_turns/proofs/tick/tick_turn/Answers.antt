@@ -4,6 +4,8 @@ use Rattle.turn_table.specs.Hands.{IsSameHand, SameTurns, place_of, front_of, st
 use Rattle.call_board.specs.Acts.{BoardEntry}
 use Rattle.call_board.specs.Pairs.{held}
 use Rattle.media_ports.specs.OpenPorts.{LogsHeld}
+use Rattle.call_board.specs.Shapes.{board_shape}
+use Rattle.relay_core.specs.KeptAfter.{IsWholeWith}
 use Rattle.relay_core.specs.declared.part.Part.TheVariants as part
 use Rattle.relay_core.specs.Entries.{board_history}
 use Rattle.relay_core.specs.Records.{Made}
@@ -17,6 +19,7 @@ use Rattle.board_turns.proofs.Grown.{makes_history}
 use Rattle.board_turns.proofs.StopTurns.{moved}
 use Rattle.board_turns.proofs.TickTurns.{made_after, tick_begins, tick_ended, tick_relates, tick_ends, due_before_turn}
 use Rattle.board_turns.proofs.Tying.{ties_ended}
+use Rattle.board_turns.proofs.Wholeness.{same_shape, works_whole}
 use Rattle.board_turns.proofs.tick.tick_turn.Goals as goal
 
 pub turn-step-requires-clause-table : goal.turn-step-requires-clause-table
@@ -60,7 +63,7 @@ expire_live-ended-requires g c =
       begins = record {
         in_turn = in_turn config turns old mid step (record { number = c.front-number.result; moment = c.advance.result }) c.in-Board.board c.advance.new.self c.args.now
             (g.P.PortMaker.log c.args.at.now.ports.now) c.turn-step.ensures.same.1 begins c.front-number.ensures (sym c.state.ensures.value ∙ c.in-Board.is) c.advance.ensures.moment
-            c.requires.rests.opens;
+            c.advance.ensures.shape c.requires.rests.opens;
         empty = c.requires.rests.empty;
       };
     }
@@ -102,6 +105,20 @@ put_step-requires-clause-step g c =
     tick_relates config turns mid nested step c.args.now count (part.Board new.board.now) after ends.0 begins ends.1 ends.2 g.P.In.InEnd.log g.P.In.InEnd.faults g.P.Out.OutEnd.log g.P.Out.OutEnd.faults (taken_of step)
     (moved config (board_history (made_by mid) (front_of step)) (state_of step) (taken_of step) begins.untouched begins.board)
 
+-- what the board, the cells and the boxes keep when the calls have ended goes together
+left_whole : (g : _) (c : goal.After-put_step g) → IsWholeWith c.args.at.now.config.now c.at-1.given.0 (board_shape c.expire_live-ended.new.turn.board.now)
+left_whole g c =
+    let config = c.args.at.now.config.now in
+    let turns = c.args.at.now.turns.now in
+    let old = c.args.at.now.hand.now in
+    let mid = c.turn-step.new.hand in
+    let step = c.turn-step.result in
+    let between = c.requires.rests.between in
+    let begins = turn_begins g.P.In.InEnd.log g.P.In.InEnd.faults g.P.Out.OutEnd.log g.P.Out.OutEnd.faults config turns old mid step between c.turn-step.ensures.same c.turn-step.ensures.turn in
+    let works = c.expire_live-ended.ensures.works in
+    works_whole g.P.PortMaker.log g.P.PortMaker.faults _ c.expire_live-ended.new.turn c.at-1.given.0 works (sym (c.at-1.given.1 (sym works.stays.nests.hand_is)))
+    (same_shape config mid c.in-Board.board c.advance.new.self c.advance.ensures.shape (begins.whole c.in-Board.board (sym c.state.ensures.value ∙ c.in-Board.is)))
+
 pub returns-clause-ticks : goal.returns-clause-ticks
 returns-clause-ticks g c =
     let config = c.args.at.now.config.now in
@@ -123,7 +140,7 @@ returns-clause-ticks g c =
     c.expire_live-ended.ensures.ends in
     let sames = subst (λ hand. IsSameHand mid hand × SameTurns mid hand) left (nests.same, nests.same_turns) in
     let put = tick_ends config turns mid nested step c.args.now count (part.Board new.board.now) after ends.0 begins ends.1 ends.2 old c.put_step.new.hand tt between
-    c.turn-step.ensures.same c.turn-step.ensures.turn.0 sames c.put_step.ensures.same c.put_step.ensures.entry in
+    c.turn-step.ensures.same c.turn-step.ensures.turn.0 sames c.put_step.ensures.same c.put_step.ensures.entry (board_shape new.board.now) refl (left_whole g c) in
     let whole = begins_whole config turns old mid step c.turn-step.ensures.same.1 begins in
     record {
       calls = ends.0;
@@ -156,7 +173,7 @@ returns-clause-rests g c =
     c.expire_live-ended.ensures.ends in
     let sames = subst (λ hand. IsSameHand mid hand × SameTurns mid hand) left (nests.same, nests.same_turns) in
     let put = tick_ends config turns mid nested step c.args.now count (part.Board new.board.now) after ends.0 begins ends.1 ends.2 old c.put_step.new.hand tt between
-    c.turn-step.ensures.same c.turn-step.ensures.turn.0 sames c.put_step.ensures.same c.put_step.ensures.entry in
+    c.turn-step.ensures.same c.turn-step.ensures.turn.0 sames c.put_step.ensures.same c.put_step.ensures.entry (board_shape new.board.now) refl (left_whole g c) in
     let whole = begins_whole config turns old mid step c.turn-step.ensures.same.1 begins in
     let before = g.P.PortMaker.log c.args.at.now.ports.now in
     let past = board_of (made_by old) in

@@ -13,11 +13,14 @@ use Rattle.call_cell.proofs.Relaying.{found_at, judges, judges_so, kind_so, rela
 use Rattle.call_cell.proofs.Crossing.{takes_it, same_holder, relays_unopposed}
 use Rattle.call_cell.proofs.Towards.{relays_towards}
 use Rattle.call_cell.proofs.Shaped.{shapes_set}
+use Rattle.call_cell.proofs.Packets.{counts_stay, counts_accepted, counts_forwarded, ports_stay, ports_accepted, ports_forwarded}
 use Rattle.call_cell.proofs.cell.relay_legs.Goals as goal
 
 pub returns-in_default : goal.returns-in_default
 returns-in_default g c = record {
   shape = refl;
+  counts = counts_stay c.args.legs.now;
+  ports = ports_stay g.O.OutEnd.log c.args.legs.now;
   relays = λ config h number for.
       let p = receipt_of number c.args.packet.now c.args.buf.now in
       relays_stale g.O.OutEnd.log g.O.OutEnd.faults config h p c.args.legs.now c.args.buf.now for
@@ -27,6 +30,8 @@ returns-in_default g c = record {
 pub returns-in-Err : goal.returns-in-Err
 returns-in-Err g c = record {
   shape = shapes_set c.args.legs.now c.in-Some.at c.accept.new.self c.index-legs-at.result c.accept.ensures.shape;
+  counts = counts_accepted c.args.legs.now c.in-Some.at c.index-legs-at.result c.accept.new.self c.accept.ensures.counts;
+  ports = ports_accepted g.O.OutEnd.log c.args.legs.now c.in-Some.at c.index-legs-at.result c.accept.new.self c.accept.ensures.shape c.accept.ensures.ends;
   relays = λ config h number for.
       let p = receipt_of number c.args.packet.now c.args.buf.now in
       let place = place_is (same_leg p.holder) c.args.legs.now c.in-Some.at c.index-legs-at.result (sym c.place_of.ensures.place ∙ c.in-Some.is) in
@@ -39,6 +44,8 @@ returns-in-Err g c = record {
 pub returns-in_default-place_of_opposite : goal.returns-in_default-place_of_opposite
 returns-in_default-place_of_opposite g c = record {
   shape = shapes_set c.args.legs.now c.in-Some.at c.accept.new.self c.index-legs-at.result c.accept.ensures.shape;
+  counts = counts_accepted c.args.legs.now c.in-Some.at c.index-legs-at.result c.accept.new.self c.accept.ensures.counts;
+  ports = ports_accepted g.O.OutEnd.log c.args.legs.now c.in-Some.at c.index-legs-at.result c.accept.new.self c.accept.ensures.shape c.accept.ensures.ends;
   relays = λ config h number for.
       let p = receipt_of number c.args.packet.now c.args.buf.now in
       let those = c.args.legs.now in
@@ -62,6 +69,10 @@ pub returns : goal.returns
 returns g c = record {
   shape = shapes_set (set c.args.legs.now c.in-Some.at c.accept.new.self) c.in-Some-place_of_opposite.to c.forward.new.self c.index-legs-to.result c.forward.ensures.shape
       ∙ shapes_set c.args.legs.now c.in-Some.at c.accept.new.self c.index-legs-at.result c.accept.ensures.shape;
+  counts = counts_forwarded c.args.legs.now c.in-Some.at c.in-Some-place_of_opposite.to c.index-legs-at.result c.accept.new.self c.index-legs-to.result c.forward.new.self
+      c.accept.ensures.counts c.forward.ensures.counts;
+  ports = ports_forwarded g.O.OutEnd.log c.args.legs.now c.in-Some.at c.in-Some-place_of_opposite.to c.index-legs-at.result c.accept.new.self c.index-legs-to.result c.forward.new.self
+      c.accept.ensures.shape c.accept.ensures.ends c.forward.ensures.shape c.forward.ensures.ports;
   relays = λ config h number for.
       let p = receipt_of number c.args.packet.now c.args.buf.now in
       let those = c.args.legs.now in

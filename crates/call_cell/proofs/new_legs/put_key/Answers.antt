@@ -1,6 +1,6 @@
 use Rattle.std.proofs.Common.{sym, ◌∙◌}
 use Rattle.call_cell.proofs.Joined.{put_at, put_nowhere}
-use Rattle.call_cell.proofs.Shaped.{shape_put, shape_nowhere, ends_put}
+use Rattle.call_cell.proofs.Shaped.{shape_put, shape_nowhere, ends_put, counts_put}
 use Rattle.call_cell.proofs.new_legs.put_key.Goals as goal
 
 pub returns-in-Some-clause-legs : goal.returns-in-Some-clause-legs
@@ -13,6 +13,9 @@ returns-in-Some-clause-shape g c =
 
 pub returns-in-Some-clause-ends : goal.returns-in-Some-clause-ends
 returns-in-Some-clause-ends g c = ends_put c.args.key c.args.legs.now c.in-Some.at c.index-legs-at.result c.put.new.self c.put.ensures
+
+pub returns-in-Some-clause-counts : goal.returns-in-Some-clause-counts
+returns-in-Some-clause-counts g c = counts_put c.args.key c.args.legs.now c.in-Some.at c.index-legs-at.result c.put.new.self c.put.ensures
 
 pub returns-in_default-clause-legs : goal.returns-in_default-clause-legs
 returns-in_default-clause-legs g c apart = put_nowhere c.args.key c.args.legs.now (sym c.place_for.ensures.place ∙ c.in_default.is)

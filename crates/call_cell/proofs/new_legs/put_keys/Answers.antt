@@ -10,6 +10,7 @@ loop-key-preserved g c = (
   shape_one c.args.keys.items c.loop-key.keys.items c.pop.new.self.items c.in-Some.key c.args.legs.now c.loop-key.legs c.put_key.new.legs
       c.in-Some.ensures.items c.loop-key.invariant.1 c.put_key.ensures.shape,
   c.put_key.ensures.ends ∙ c.loop-key.invariant.2,
+  c.put_key.ensures.counts ∙ c.loop-key.invariant.3,
 )
 
 pub returns-clause-legs : goal.returns-clause-legs

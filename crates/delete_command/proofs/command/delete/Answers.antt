@@ -126,7 +126,7 @@ returns-clause-works g c =
     elim c.if-input-eq0.branch [
       | then-input-eq0 w ↦ subst (λ (turn : BoardTurn _ _ _ _). Works log faults old turn) (sym w.turn-is) w.delete_call.ensures.works
       | else-input-eq0 w ↦ subst (λ (turn : BoardTurn _ _ _ _). Works log faults old turn) (sym w.turn-is)
-          (delay_works log faults old _ c.requires.begins refl refl refl refl w.mark_ending.ensures.replies)
+          (delay_works log faults old _ c.requires.begins refl refl refl refl w.mark_ending.ensures.replies w.mark_ending.ensures.shape)
     ]
 
 pub returns-in_default-clause-closes : goal.returns-in_default-clause-closes

@@ -1,11 +1,14 @@
-use Rattle.std.proofs.Common.{◌≡◌, refl, sym, subst, ◌∙◌, List, ◌∷◌}
+use Rattle.std.proofs.Common.{◌≡◌, refl, sym, ap, subst, ◌∙◌, List, ◌∷◌}
+use Rattle.relay_outside.specs.declared.settings.Config.{Config}
 use Rattle.turn_table.specs.declared.machine.Entry as table
 use Rattle.turn_table.specs.Hands.{IsSameHand, SameTurns, entries, front_of, place_of, state_of, taken_of}
 use Rattle.call_board.specs.Acts.{BoardEntry}
 use Rattle.call_board.specs.Pairs.{held}
+use Rattle.call_board.specs.Shapes.{board_shape}
 use Rattle.media_ports.specs.OpenPorts.{LogsHeld}
 use Rattle.relay_core.specs.declared.part.Part.TheVariants as part
 use Rattle.relay_core.specs.Entries.{board_history}
+use Rattle.relay_core.specs.KeptAfter.{IsWholeWith}
 use Rattle.relay_core.specs.Records.{Made}
 use Rattle.relay_core.specs.Turns.{made_by}
 use Rattle.board_turns.specs.Between.{board_of}
@@ -15,6 +18,7 @@ use Rattle.board_turns.proofs.Betweens.{between_may, turn_begins, begins_whole, 
 use Rattle.board_turns.proofs.Grown.{makes_history}
 use Rattle.board_turns.proofs.StopTurns.{moved}
 use Rattle.board_turns.proofs.Tying.{ties_ended}
+use Rattle.board_turns.proofs.Wholeness.{same_shape}
 use Rattle.board_turns.specs.Controls.{control_made, control_of, entry_at, entry_pairs, moment_at}
 use Rattle.board_turns.specs.DeviceAnswers.{IsGivenBy}
 use Rattle.ng_server.specs.Requests.{record_of, AnswersRequest}
@@ -62,7 +66,7 @@ deal-answered-requires-clause-begins g c =
     let now = c.args.arrived.now.moment in
     let before = g.P.PortMaker.log c.args.at.now.ports.now in
     let taken_is = taken config turns old mid step c.front-number.result c.advance-moment.result now c.state.result.now c.in-Board.board c.advance-moment.new.self before c.turn-step.ensures.same.1
-    begins c.front-number.ensures c.state.ensures.value c.in-Board.is c.advance-moment.ensures.moment c.requires.rests.opens in
+    begins c.front-number.ensures c.state.ensures.value c.in-Board.is c.advance-moment.ensures.moment c.advance-moment.ensures.shape c.requires.rests.opens in
     record { in_turn = taken_is.in_turn; empty = c.requires.rests.empty }
 
 pub deal-answered-requires-clause-request : goal.deal-answered-requires-clause-request
@@ -99,7 +103,7 @@ put_control-requires-clause-step g c =
     let now = c.args.arrived.now.moment in
     let before = g.P.PortMaker.log c.args.at.now.ports.now in
     let taken_is = taken config turns old mid step c.front-number.result c.advance-moment.result now c.state.result.now c.in-Board.board c.advance-moment.new.self before c.turn-step.ensures.same.1
-    begins c.front-number.ensures c.state.ensures.value c.in-Board.is c.advance-moment.ensures.moment c.requires.rests.opens in
+    begins c.front-number.ensures c.state.ensures.value c.in-Board.is c.advance-moment.ensures.moment c.advance-moment.ensures.shape c.requires.rests.opens in
     let new = c.deal-answered.new.turn in
     let nested = c.at-1.given.0 in
     let nests = c.deal-answered.ensures.nests in
@@ -126,7 +130,7 @@ returns-clause-answers g c =
     let now = c.args.arrived.now.moment in
     let before = g.P.PortMaker.log c.args.at.now.ports.now in
     let taken_is = taken config turns old mid step c.front-number.result c.advance-moment.result now c.state.result.now c.in-Board.board c.advance-moment.new.self before c.turn-step.ensures.same.1
-    begins c.front-number.ensures c.state.ensures.value c.in-Board.is c.advance-moment.ensures.moment c.requires.rests.opens in
+    begins c.front-number.ensures c.state.ensures.value c.in-Board.is c.advance-moment.ensures.moment c.advance-moment.ensures.shape c.requires.rests.opens in
     let new = c.deal-answered.new.turn in
     let nested = c.at-1.given.0 in
     let nests = c.deal-answered.ensures.nests in
@@ -137,8 +141,13 @@ returns-clause-answers g c =
     let deals = dealt config turns mid nested step c.front-number.result c.advance-moment.result now x c.advance-moment.new.self new.board.now before log taken_is
     (subst (λ hand. AnswersRequest config mid hand (record { number = c.front-number.result; moment = c.advance-moment.result }) x new.board.now log) left c.deal-answered.ensures.deals) in
     let sames = subst (λ hand. IsSameHand mid hand × SameTurns mid hand) left (nests.same, nests.same_turns) in
-    let ended = control_ends _ config turns old mid nested c.put_control.new.hand step tt now x (part.Board new.board.now) log between
-    c.turn-step.ensures.same c.turn-step.ensures.turn.0 begins sames deals c.put_control.ensures.same c.put_control.ensures.entry in
+    let shape = board_shape new.board.now in
+    let whole = subst (λ (k : Config). IsWholeWith k nested shape) (ap (λ at. at.now) nests.config_is)
+    (subst (λ hand. IsWholeWith new.main.config.now hand shape) left
+    (c.deal-answered.ensures.whole
+    (same_shape config mid c.in-Board.board c.advance-moment.new.self c.advance-moment.ensures.shape (begins.whole c.in-Board.board (sym c.state.ensures.value ∙ c.in-Board.is))))) in
+    let ended = control_ends (board_shape new.board.now) config turns old mid nested c.put_control.new.hand step tt now x (part.Board new.board.now) log between
+    c.turn-step.ensures.same c.turn-step.ensures.turn.0 begins sames deals c.put_control.ensures.same c.put_control.ensures.entry whole in
     let past = board_of (made_by old) in
     record {
       hearing = x;
@@ -172,7 +181,7 @@ returns-clause-rests g c =
     let now = c.args.arrived.now.moment in
     let before = g.P.PortMaker.log c.args.at.now.ports.now in
     let taken_is = taken config turns old mid step c.front-number.result c.advance-moment.result now c.state.result.now c.in-Board.board c.advance-moment.new.self before c.turn-step.ensures.same.1
-    begins c.front-number.ensures c.state.ensures.value c.in-Board.is c.advance-moment.ensures.moment c.requires.rests.opens in
+    begins c.front-number.ensures c.state.ensures.value c.in-Board.is c.advance-moment.ensures.moment c.advance-moment.ensures.shape c.requires.rests.opens in
     let new = c.deal-answered.new.turn in
     let nested = c.at-1.given.0 in
     let nests = c.deal-answered.ensures.nests in
@@ -183,8 +192,13 @@ returns-clause-rests g c =
     let deals = dealt config turns mid nested step c.front-number.result c.advance-moment.result now x c.advance-moment.new.self new.board.now before log taken_is
     (subst (λ hand. AnswersRequest config mid hand (record { number = c.front-number.result; moment = c.advance-moment.result }) x new.board.now log) left c.deal-answered.ensures.deals) in
     let sames = subst (λ hand. IsSameHand mid hand × SameTurns mid hand) left (nests.same, nests.same_turns) in
-    let ended = control_ends _ config turns old mid nested c.put_control.new.hand step tt now x (part.Board new.board.now) log between
-    c.turn-step.ensures.same c.turn-step.ensures.turn.0 begins sames deals c.put_control.ensures.same c.put_control.ensures.entry in
+    let shape = board_shape new.board.now in
+    let whole = subst (λ (k : Config). IsWholeWith k nested shape) (ap (λ at. at.now) nests.config_is)
+    (subst (λ hand. IsWholeWith new.main.config.now hand shape) left
+    (c.deal-answered.ensures.whole
+    (same_shape config mid c.in-Board.board c.advance-moment.new.self c.advance-moment.ensures.shape (begins.whole c.in-Board.board (sym c.state.ensures.value ∙ c.in-Board.is))))) in
+    let ended = control_ends (board_shape new.board.now) config turns old mid nested c.put_control.new.hand step tt now x (part.Board new.board.now) log between
+    c.turn-step.ensures.same c.turn-step.ensures.turn.0 begins sames deals c.put_control.ensures.same c.put_control.ensures.entry whole in
     let past = board_of (made_by old) in
     record {
       turns_are = refl;

@@ -5,8 +5,10 @@ use Rattle.ng_bencode.specs.declared.row.Row.{Row}
 use Rattle.ng_bencode.specs.declared.value.Value.{Value}
 use Rattle.control_messages.specs.Bodies.{pairs_if, said_by}
 use Rattle.call_board.specs.Requests.{ReadsBody, command_in}
+use Rattle.call_board.specs.Shapes.{BoardShape}
 use Rattle.call_board.specs.Views.{view_of, view_at_moment}
 use Rattle.relay_core.specs.Entries.{board_history}
+use Rattle.relay_core.specs.KeptAfter.{IsWholeWith}
 use Rattle.relay_core.specs.Turns.{made_by}
 use Rattle.board_turns.proofs.Givings.{unasked_given}
 use Rattle.board_turns.proofs.Staying.{nests_none}
@@ -52,6 +54,9 @@ returns-in-Some-clause-cause g c = c.repeat.ensures.cause
 
 pub returns-in-Some-clause-empty : goal.returns-in-Some-clause-empty
 returns-in-Some-clause-empty g c = c.requires.begins.empty
+
+pub returns-in-Some-clause-whole : goal.returns-in-Some-clause-whole
+returns-in-Some-clause-whole g c = λ whole. whole
 
 pub returns-in-Some-clause-ties : goal.returns-in-Some-clause-ties
 returns-in-Some-clause-ties g c = ties_none c.args.turn.now.main.config.now (g.P.PortMaker.log c.args.turn.now.ports.now) (entries c.args.turn.now.main.hand.now)
@@ -101,6 +106,10 @@ returns-in_default-prepare-clause-cause g c = c.answer_short.ensures.cause
 pub returns-in_default-prepare-clause-empty : goal.returns-in_default-prepare-clause-empty
 returns-in_default-prepare-clause-empty g c = c.requires.begins.empty
 
+pub returns-in_default-prepare-clause-whole : goal.returns-in_default-prepare-clause-whole
+returns-in_default-prepare-clause-whole g c = λ whole.
+    subst (λ (shape : BoardShape). IsWholeWith c.args.turn.now.main.config.now c.args.turn.now.main.hand.now shape) (sym c.prepare.ensures.shape) whole
+
 pub returns-in_default-prepare-clause-ties : goal.returns-in_default-prepare-clause-ties
 returns-in_default-prepare-clause-ties g c = ties_none c.args.turn.now.main.config.now (g.P.PortMaker.log c.args.turn.now.ports.now) (entries c.args.turn.now.main.hand.now)
 
@@ -118,7 +127,7 @@ returns-in_default-prepare-clause-given g c =
 
 pub carry_out-chosen_lines-requires-clause-begins : goal.carry_out-chosen_lines-requires-clause-begins
 carry_out-chosen_lines-requires-clause-begins g c =
-    record { in_turn = turn_keeps c.args.turn.now.main.config.now c.args.turn.now.main.turns.now c.args.turn.now.main.hand.now c.args.turn.now.main.entry_id c.args.turn.now.board.now c.prepare.new.board (g.P.PortMaker.log c.args.turn.now.ports.now) c.prepare.ensures.shows c.requires.begins.in_turn; empty = c.requires.begins.empty }
+    record { in_turn = turn_keeps c.args.turn.now.main.config.now c.args.turn.now.main.turns.now c.args.turn.now.main.hand.now c.args.turn.now.main.entry_id c.args.turn.now.board.now c.prepare.new.board (g.P.PortMaker.log c.args.turn.now.ports.now) c.prepare.ensures.shows c.prepare.ensures.shape c.requires.begins.in_turn; empty = c.requires.begins.empty }
 
 pub carry_out-chosen_lines-requires-clause-anew : goal.carry_out-chosen_lines-requires-clause-anew
 carry_out-chosen_lines-requires-clause-anew g c =
@@ -178,6 +187,13 @@ returns-clause-cause g c = c.reply_to-sent.ensures.cause
 
 pub returns-clause-empty : goal.returns-clause-empty
 returns-clause-empty g c = c.carry_out-chosen_lines.ensures.works.empty
+
+pub returns-clause-whole : goal.returns-clause-whole
+returns-clause-whole g c = λ whole.
+    let new = c.carry_out-chosen_lines.new.turn in
+    subst (λ (shape : BoardShape). IsWholeWith new.main.config.now new.main.hand.now shape) (sym c.reply_to-sent.ensures.shape)
+    (c.carry_out-chosen_lines.ensures.works.whole
+    (subst (λ (shape : BoardShape). IsWholeWith c.args.turn.now.main.config.now c.args.turn.now.main.hand.now shape) (sym c.prepare.ensures.shape) whole))
 
 pub returns-clause-ties : goal.returns-clause-ties
 returns-clause-ties g c = c.carry_out-chosen_lines.ensures.works.ties

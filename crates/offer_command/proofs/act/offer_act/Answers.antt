@@ -38,13 +38,30 @@ use Rattle.offer_command.proofs.OpensAsked.{gained_pairs, gained_undone}
 use Rattle.offer_command.proofs.Counted.{plan_few, may_lease}
 use Rattle.offer_command.specs.Offers.{target_of, offer_of, dropped_legs, leased_view, next_key_number, demand_of, offered_text, with_offer}
 use Rattle.offer_command.proofs.Kept.{both_held}
-use Rattle.offer_command.proofs.Leased.{pairs_leased}
+use Rattle.offer_command.proofs.Leased.{are_shut, pairs_leased}
 use Rattle.offer_command.proofs.LeasesTaken.{planned_count}
 use Rattle.offer_command.proofs.Taken.{ports_are, pairs_of_legs}
 use Rattle.offer_command.proofs.Done.{can_close, does_offer, dropped_leased, keys_length}
 use Rattle.offer_command.proofs.Targets.{planned_are, keys_count}
 use Rattle.offer_command.proofs.Limits.{sound_of, some_due, may_apply, due_leased, board_history_short}
 use Rattle.offer_command.proofs.Undone.{does_undone}
+use Rattle.std.proofs.Common.{map}
+use Rattle.turn_table.specs.Hands.{starts}
+use Rattle.histories.specs.Words.{has}
+use Rattle.port_pool.specs.Signals.{NewKey}
+use Rattle.offer_answer.specs.Laws.{key_place}
+use Rattle.offer_answer.specs.Nexts.{numbered_keys}
+use Rattle.offer_answer.specs.Offers.{key_asked, legs_demanded}
+use Rattle.offer_answer.specs.Shapes.{keys_demanded}
+use Rattle.call_board.specs.Shapes.{PlansOfferOf, board_shape}
+use Rattle.call_board.specs.Whole.{holders_of_new_legs}
+use Rattle.relay_core.specs.KeptAfter.{IsWholeWith, cell_shape_after, holder_after}
+use Rattle.board_turns.specs.Closings.{leases_of_legs}
+use Rattle.board_turns.specs.Departures.{AllHaveEnds, cell_kept, leases_going}
+use Rattle.offer_command.specs.Shapes.{OfferedBy, ShapeTakes}
+use Rattle.offer_command.proofs.WholenessHands.{keys_brought, legs_brought, offer_moves, places_numbered}
+use Rattle.offer_command.proofs.WholenessPlans.{plans_kept, plans_leased}
+use Rattle.offer_command.proofs.WholenessTurns.{accepted_whole, undone_stays}
 use Rattle.offer_command.proofs.act.offer_act.Goals as goal
 
 -- the leases that were taken, by the view of the board's history
@@ -88,6 +105,15 @@ prepare_offer-requires-clause-leases g c =
     let turn = c.requires.begins.in_turn in
     let free = are_free config h (good_history config l turn.orderly number) in
     leases_are config h moment c.args.offer.plan c.in-Ok.leased.plan.plan c.in-Ok.leased.pairs.leases.list (c.in-Ok.ensures.leases (view_at_moment (view_of config h) moment) turn.shows free) c.in-Ok.ensures.plan
+
+pub prepare_offer-requires-clause-shut : goal.prepare_offer-requires-clause-shut
+prepare_offer-requires-clause-shut g c =
+    let turn = c.args.turn.now in
+    let config = turn.main.config.now in
+    let h = board_history (made_by turn.main.hand.now) turn.main.entry_id.number in
+    let in_turn = c.requires.begins.in_turn in
+    are_shut config turn.main.hand.now turn.board.now (view_at_moment (view_of config h) turn.main.entry_id.moment) h (legs_demanded c.in-Ok.leased.plan.plan.plan)
+    c.in-Ok.leased.pairs.leases.list in_turn.whole in_turn.shows refl (prepare_offer-requires-clause-leases g c)
 
 pub prepare_offer-requires-clause-first : goal.prepare_offer-requires-clause-first
 prepare_offer-requires-clause-first g c =
@@ -176,9 +202,9 @@ close_legs-requires-clause-can g c =
     let ports = c.in-Ok.ensures.ports ∙ ports_are config h id ask draws those leases are same in
     let pairs : pairs_in leases ≡ leg_pairs (offer_of config h id ask draws).legs =
     pairs_leased config (view_of config h) those leases are ∙ same ∙ sym (pairs_of_legs config h id ask draws) in
-    subst (λ (k : Config). CanClose k (made_by c.prepare_offer.new.main.hand.now) c.apply_offer-drawn.new.board log c.prepare_offer.new.gone) (sym (same_config c.args.turn.now.main c.prepare_offer.new.main c.prepare_offer.ensures.nests))
-    (can_close config entry_id.number entry_id.moment c.args.turn.now.main.hand.now c.prepare_offer.new.main.hand.now c.apply_offer-drawn.new.board log id ask p draws those (key_count p.plan)
-    c.prepare_offer.new.gone turn.orderly turn.above d same (c.prepare_offer.ensures.gained id ask d) (c.prepare_offer.ensures.went id ask d)
+    subst (λ (k : Config). CanClose k c.prepare_offer.new.main.hand.now c.apply_offer-drawn.new.board log c.prepare_offer.new.gone) (sym (same_config c.args.turn.now.main c.prepare_offer.new.main c.prepare_offer.ensures.nests))
+    (can_close config entry_id.number entry_id.moment c.args.turn.now.main.hand.now c.prepare_offer.new.main.hand.now c.args.turn.now.board.now c.apply_offer-drawn.new.board log id ask p draws those
+    (key_count p.plan) c.prepare_offer.new.gone turn.orderly turn.whole turn.shows c.prepare_offer.ensures.nests.same.1 d same (c.prepare_offer.ensures.gained id ask d) (c.prepare_offer.ensures.went id ask d)
     (subst (λ (m : ℕ). BoardMatches config c.apply_offer-drawn.new.board (with_offer (offer_of config h id ask draws) m (leased_view config h entry_id.moment those (key_count p.plan)))) (ap (λ (e : BoardEntryId). e.moment) c.prepare_offer.ensures.nests.entry_is)
     (c.apply_offer-drawn.ensures.taken config h id ask (leased_view config h entry_id.moment those (key_count p.plan)) good d first ports shows keep.calls_are keep.begun_is))
     (subst (λ (ps : List ℕ). LogsHeld config log (ps ++ leg_pairs (held h))) pairs opens))
@@ -343,6 +369,9 @@ returns-in-Err-clause-works g c =
       };
       ties = ties_uncalled turn.main.config.now (g.P.PortMaker.log turn.ports.now) (g.P.PortMaker.log c.lease_offer.new.ports) (entries turn.main.hand.now) c.lease_offer.ensures.gives_back;
       empty = c.requires.begins.empty;
+      whole = λ was. undone_stays turn.main.config.now (board_shape turn.board.now) (board_shape c.lease_offer.new.board)
+          (cell_shape_after turn.main.config.now (starts turn.main.hand.now) (made_by turn.main.hand.now)) (holder_after turn.main.config.now (starts turn.main.hand.now) (made_by turn.main.hand.now))
+          (legs_demanded c.args.offer.plan.plan) c.in-Err.ensures.shape_undone was;
     }
 
 pub returns-clause-works : goal.returns-clause-works
@@ -365,6 +394,19 @@ returns-clause-works g c =
     let same = same_config c.args.turn.now.main c.prepare_offer.new.main c.prepare_offer.ensures.nests in
     let leased = c.lease_offer.ensures.later.0 in
     let later = closed.stays.later in
+    let p = c.in-Ok.leased.plan.plan in
+    let leases = c.in-Ok.leased.pairs.leases.list in
+    let o = offer_of config h id ask draws in
+    let v = view_at_moment (view_of config h) turn.main.entry_id.moment in
+    let in_turn = c.requires.begins.in_turn in
+    let free = are_free config h (good_history config l in_turn.orderly turn.main.entry_id.number) in
+    let are = leases_are config h turn.main.entry_id.moment c.args.offer.plan p leases (c.in-Ok.ensures.leases v in_turn.shows free) c.in-Ok.ensures.plan in
+    let keys : numbered_keys c.in-Ok.leased.plan.first_key draws (keys_demanded p.plan) ≡ (offer_of config h id ask draws).keys =
+    keys_brought config h id ask p draws c.in-Ok.leased.plan.first_key d.plans.1 (c.in-Ok.ensures.first v in_turn.shows) in
+    let closes : GainsNested turn.main.entry_id.number turn.main.entry_id.moment (closings_of config gone) mid.hand.now new.main.hand.now =
+    subst (λ (e : BoardEntryId). GainsNested e.number e.moment (closings_of config gone) mid.hand.now new.main.hand.now) c.prepare_offer.ensures.nests.entry_is
+    (subst (λ (k : Config). GainsNested mid.entry_id.number mid.entry_id.moment (closings_of k gone) mid.hand.now new.main.hand.now) same closed.gained) in
+    let stays_config : new.main.config.now ≡ config = same_config turn.main new.main (nests_both turn.main mid new.main c.prepare_offer.ensures.nests closed.stays.nests) in
     record {
       stays = record {
         nests = nests_both turn.main mid new.main c.prepare_offer.ensures.nests closed.stays.nests;
@@ -381,6 +423,22 @@ returns-clause-works g c =
           (subst (λ (k : Config). TiesTakes k taken (log new.ports.now) (entries mid.hand.now) (entries new.main.hand.now)) same closed.takes)
           (subst (λ (k : Config). Gained taken (log new.ports.now) (ClosesLegs g.P.Out.OutEnd.log k gone)) same closed.closes));
       empty = closed.empty;
+      whole = λ was. subst (λ (k : Config). IsWholeWith k new.main.hand.now (board_shape new.board.now)) (sym stays_config)
+          (accepted_whole config turn.board.now c.lease_offer.new.board c.apply_offer-drawn.new.board new.board.now
+          (cell_shape_after config (starts turn.main.hand.now) l) (cell_shape_after config (starts new.main.hand.now) (made_by new.main.hand.now))
+          (holder_after config (starts turn.main.hand.now) l) (holder_after config (starts new.main.hand.now) (made_by new.main.hand.now)) was p o.of (sym d.plans.1.call_is) (sym d.plans.1.cell_is)
+          leases o.keys o.dropped c.in-Ok.leased.plan.numbers.items (leases_of_legs gone)
+          (subst (λ (q : BoardPlan). ShapeTakes (legs_demanded q.plan) leases (board_shape turn.board.now) (board_shape c.lease_offer.new.board)) (sym c.in-Ok.ensures.plan) c.in-Ok.ensures.shape)
+          c.lease_offer.ensures.calls c.in-Ok.ensures.ports
+          (ap (map key_place) (sym keys) ∙ places_numbered c.in-Ok.leased.plan.first_key draws (keys_demanded p.plan)
+          (c.in-Ok.ensures.keys ∙ ap (λ (q : BoardPlan). key_count q.plan) (sym c.in-Ok.ensures.plan) ∙ sym (length-map p.plan.key_places.items key_asked)))
+          (λ section. sym (d.plans.1.plan_for.demands.drops_are section)) closed.pool
+          (subst (λ (k : ℕ). AllHaveEnds (cell_kept config turn.main.hand.now k) → leases_of_legs gone ≡ leases_going (λ leg. has o.dropped leg.section) (cell_kept config turn.main.hand.now k)) d.plans.1.cell_is
+          (c.prepare_offer.ensures.left id ask d))
+          (offer_moves config turn.main.entry_id.number turn.main.entry_id.moment o (holders_of_new_legs o.of leases (legs_demanded p.plan)) gone turn.main.hand.now mid.hand.now new.main.hand.now
+          (nests_both turn.main mid new.main c.prepare_offer.ensures.nests closed.stays.nests).same.1 (legs_brought config h id ask p draws leases d.plans.1 are) (c.prepare_offer.ensures.gained id ask d) closes)
+          (plans_leased turn.board.now c.args.offer.plan p c.in-Ok.ensures.plan c.requires.plans)
+          (subst (λ (ks : List NewKey). OfferedBy p p.begun c.in-Ok.leased.plan.numbers.items ks c.lease_offer.new.board c.apply_offer-drawn.new.board) keys c.apply_offer-drawn.ensures.shape));
     }
 
 pub returns-clause-later : goal.returns-clause-later
@@ -404,3 +462,10 @@ prepare_offer-requires-clause-orderly g c = c.requires.begins.in_turn.orderly
 
 pub prepare_offer-requires-clause-empty : goal.prepare_offer-requires-clause-empty
 prepare_offer-requires-clause-empty g c = c.requires.begins.empty
+
+pub apply_offer-drawn-requires-clause-plans : goal.apply_offer-drawn-requires-clause-plans
+apply_offer-drawn-requires-clause-plans g c =
+    let calls = c.lease_offer.ensures.calls in
+    let rest = c.in-Ok.ensures.shape.rest in
+    plans_kept c.args.turn.now.board.now c.lease_offer.new.board c.in-Ok.leased.plan.plan (ap (λ cs. cs.list) calls.calls_are) calls.begun_is rest.config_is rest.taken_is
+    (plans_leased c.args.turn.now.board.now c.args.offer.plan c.in-Ok.leased.plan.plan c.in-Ok.ensures.plan c.requires.plans)

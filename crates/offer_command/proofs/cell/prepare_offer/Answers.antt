@@ -6,6 +6,8 @@ use Rattle.offer_answer.specs.declared.plan.Plan.{Plan}
 use Rattle.call_board.specs.Pairs.{drawn_keys_from}
 use Rattle.call_board.specs.Views.{view_of}
 use Rattle.call_cell.specs.Preparations.{PrepareFor, added, prepared_keys, drops_of, key_room}
+use Rattle.call_cell.specs.Shapes.{CellShape}
+use Rattle.histories.specs.Words.{has}
 use Rattle.relay_core.specs.Entries.{Cell, board_history}
 use Rattle.relay_core.specs.Turns.{made_by}
 use Rattle.relay_core.specs.Steps.{AreOpened}
@@ -13,7 +15,7 @@ use Rattle.relay_core.specs.PlaceHistories.{GoneHome}
 use Rattle.relay_core.proofs.Histories.{good_history}
 use Rattle.board_turns.specs.InCells.{CanPrepare, in_cell_of}
 use Rattle.board_turns.specs.OfferEvents.{brings}
-use Rattle.board_turns.specs.Departures.{DroppedRemoved}
+use Rattle.board_turns.specs.Departures.{AllHaveEnds, DroppedRemoved, cell_kept, leases_going}
 use Rattle.board_turns.specs.declared.board_turn.BoardEntryId.{BoardEntryId}
 use Rattle.relay_core.specs.Turns.{GainsNested}
 use Rattle.board_turns.proofs.Staying.{may_again, same_config, nests_both}
@@ -22,10 +24,11 @@ use Rattle.offer_command.specs.LegBoxes.{leased_parts}
 use Rattle.offer_command.specs.Offers.{offer_of, target_of, demand_of}
 use Rattle.offer_command.proofs.Filled.{keys_told, drops_told}
 use Rattle.offer_command.proofs.Targets.{cell_within, legs_are, keys_are}
-use Rattle.offer_command.proofs.Leased.{are_leased, are_shut}
+use Rattle.offer_command.proofs.Leased.{are_leased}
 use Rattle.offer_command.proofs.Preparing.{keys_new, can_prepare, brought}
 use Rattle.offer_command.proofs.Dropped.{went_dropped}
 use Rattle.offer_command.proofs.Leaving.{legs_opened, opened_leave}
+use Rattle.offer_command.proofs.WholenessHands.{kept_opened}
 use Rattle.offer_command.proofs.cell.prepare_offer.Goals as goal
 
 pub open_legs-requires-clause-cell : goal.open_legs-requires-clause-cell
@@ -47,9 +50,7 @@ open_legs-requires-clause-leased g c =
     are_leased main.config.now (board_history l main.entry_id.number) (legs_demanded c.args.taken.now.plan.plan) c.args.pairs.leases.list (good_history main.config.now l c.requires.orderly main.entry_id.number) c.requires.leases
 
 pub open_legs-requires-clause-shut : goal.open_legs-requires-clause-shut
-open_legs-requires-clause-shut g c =
-    let main = c.args.main.now in
-    are_shut main.config.now (made_by main.hand.now) c.requires.orderly main.entry_id.number c.requires.above (legs_demanded c.args.taken.now.plan.plan) c.args.pairs.leases.list c.requires.leases
+open_legs-requires-clause-shut g c = c.requires.shut
 
 pub open_legs-requires-clause-room : goal.open_legs-requires-clause-room
 open_legs-requires-clause-room g c = c.requires.room.legs
@@ -226,3 +227,24 @@ returns-clause-leave g c =
     opened_leave g.O.OutEnd.log main.config.now main.entry_id.number main.entry_id.moment (added c.open_legs.new.prepare) c.prepare_cell.new.gone c.cell.result
     (Cell (brings c.call.result c.bring_keys.new.prepare))
     main.hand.now c.open_legs.new.main.hand.now c.prepare_cell.new.main.hand.now refl c.open_legs.ensures.gained c.prepare_cell.ensures.row
+
+pub returns-clause-left : goal.returns-clause-left
+returns-clause-left g c id ask d ends =
+    let main = c.args.main.now in
+    let config = main.config.now in
+    let mid = c.open_legs.new.main in
+    let h = board_history (made_by main.hand.now) main.entry_id.number in
+    let draws = c.args.taken.now.drawn.list in
+    let t = target_of config h id in
+    let asked = demand_of config h id ask in
+    let demands : PlanFor c.planned-demanded.result.now asked = subst (λ (q : Plan). PlanFor q asked) (sym c.planned-demanded.ensures) d.plans.1.plan_for.demands in
+    let signal = c.bring_keys.new.prepare in
+    let keys = drawn_keys_from c.args.taken.now.first_key draws asked.keys in
+    let stands = c.bring_keys.ensures.stands t.rounds ask demands (c.open_legs.ensures.stands [] [] c.requires.room.nothing) in
+    let kept : cell_kept mid.config.now mid.hand.now c.cell.result ≡ cell_kept config main.hand.now c.args.taken.now.plan.cell =
+    ap (λ (k : Config). cell_kept k mid.hand.now c.cell.result) (same_config main mid c.open_legs.ensures.nests)
+    ∙ kept_opened config main.entry_id.number main.entry_id.moment (added c.open_legs.new.prepare) main.hand.now mid.hand.now c.open_legs.ensures.nests.same.1 c.open_legs.ensures.gained c.cell.result
+    ∙ ap (λ (n : ℕ). cell_kept config main.hand.now n) c.cell.ensures in
+    c.prepare_cell.ensures.left (subst AllHaveEnds (sym kept) ends)
+    ∙ ap (λ (shape : CellShape). leases_going (λ leg. has (drops_of signal) leg.section) shape) kept
+    ∙ ap (λ (ds : List ℕ). leases_going (λ leg. has ds leg.section) (cell_kept config main.hand.now c.args.taken.now.plan.cell)) (drops_told signal keys t.rounds ask stands)

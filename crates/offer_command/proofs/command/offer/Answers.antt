@@ -1,4 +1,4 @@
-use Rattle.std.proofs.Common.{◌≡◌, ◌≤◌, ◌∙◌, arith, refl, ap, subst, ℕ, ◌*◌, List, length}
+use Rattle.std.proofs.Common.{◌≡◌, ◌≤◌, ◌∙◌, arith, refl, ap, sym, subst, ℕ, ◌*◌, List, length}
 use Rattle.turn_table.specs.Hands.{entries}
 use Rattle.offer_answer.specs.declared.plan.Plan.{Plan}
 use Rattle.offer_answer.specs.Offers.{pairs_demanded, AsksOffer}
@@ -7,6 +7,9 @@ use Rattle.call_board.specs.Replies.{Described, Fault, reply_datagram}
 use Rattle.call_board.specs.Views.{view_of, view_at_moment}
 use Rattle.relay_core.specs.Entries.{board_history}
 use Rattle.relay_core.specs.Turns.{made_by}
+use Rattle.relay_core.specs.KeptAfter.{IsWholeWith}
+use Rattle.call_board.specs.Shapes.{BoardShape}
+use Rattle.offer_command.proofs.WholenessPlans.{plans_kept}
 use Rattle.board_turns.proofs.Tying.{ties_none}
 use Rattle.control_messages.specs.Bodies.{IsErrorOf}
 use Rattle.board_turns.specs.declared.device_answers.DeviceAnswers.TheVariants as device_answers
@@ -54,7 +57,7 @@ returns-in-Err-plan_offer-clause-carries g c pairs asking =
     let hears : AsksOffer input c.in-Ok.sdp ask = record { from_tag_is = refl; options_are = refl; hears = record { lines_are = lines; heard = heard } } in
     let asks = asks_for config h c.args.turn.now.main.entry_id.moment request pairs input text c.requires.anew asking c.as_slice.ensures c.in-Ok.ensures.sound in
     let turn = turn_on config c.args.turn.now.main.turns.now c.args.turn.now.main.hand.now c.args.turn.now.main.entry_id c.args.turn.now.board.now c.plan_offer.new.self (g.P.PortMaker.log c.args.turn.now.ports.now) c.requires.begins.in_turn
-    (c.plan_offer.ensures.shows config v c.requires.begins.in_turn.shows) in
+    (c.plan_offer.ensures.shows config v c.requires.begins.in_turn.shows) c.plan_offer.ensures.shape in
     refuses_carries config c.args.turn.now.main.turns.now c.args.turn.now.main.hand.now c.args.turn.now.main.entry_id request pairs input chosen c.in-Err-plan_offer.fault c.unplanned.result c.plan_offer.new.self
     (g.P.PortMaker.log c.args.turn.now.ports.now) turn asks heard (c.in-Err-plan_offer.ensures.plans config v ask c.requires.begins.in_turn.shows hears) c.unplanned.ensures.refuses
 
@@ -72,7 +75,7 @@ returns-in_default-clause-carries g c pairs asking =
     let h = board_history (made_by c.args.turn.now.main.hand.now) c.args.turn.now.main.entry_id.number in
     let v = view_at_moment (view_of config h) c.args.turn.now.main.entry_id.moment in
     let turn = turn_on config c.args.turn.now.main.turns.now c.args.turn.now.main.hand.now c.args.turn.now.main.entry_id c.args.turn.now.board.now c.plan_offer.new.self (g.P.PortMaker.log c.args.turn.now.ports.now) c.requires.begins.in_turn
-    (c.plan_offer.ensures.shows config v c.requires.begins.in_turn.shows) in
+    (c.plan_offer.ensures.shows config v c.requires.begins.in_turn.shows) c.plan_offer.ensures.shape in
     is_short_carries config c.args.turn.now.main.turns.now c.args.turn.now.main.hand.now c.args.turn.now.main.entry_id c.args.asked.now.request.now pairs c.short.result c.plan_offer.new.self (g.P.PortMaker.log c.args.turn.now.ports.now) turn
     c.requires.anew c.short.ensures.is_short
 
@@ -245,7 +248,7 @@ offer_act-requires-clause-begins g c =
     let v = view_at_moment (view_of config h) turn.main.entry_id.moment in
     record {
       in_turn = turn_on config turn.main.turns.now turn.main.hand.now turn.main.entry_id turn.board.now c.plan_offer.new.self (g.P.PortMaker.log turn.ports.now) c.requires.begins.in_turn
-          (c.plan_offer.ensures.shows config v c.requires.begins.in_turn.shows);
+          (c.plan_offer.ensures.shows config v c.requires.begins.in_turn.shows) c.plan_offer.ensures.shape;
       empty = c.requires.begins.empty;
     }
 
@@ -264,6 +267,7 @@ returns-in-Err-plan_offer-clause-works g c =
       };
       ties = ties_none turn.main.config.now (g.P.PortMaker.log turn.ports.now) (entries turn.main.hand.now);
       empty = c.requires.begins.empty;
+      whole = λ was. subst (λ (shape : BoardShape). IsWholeWith turn.main.config.now turn.main.hand.now shape) (sym c.plan_offer.ensures.shape) was;
     }
 
 pub returns-in_default-clause-works : goal.returns-in_default-clause-works
@@ -278,6 +282,7 @@ returns-in_default-clause-works g c =
       };
       ties = ties_none turn.main.config.now (g.P.PortMaker.log turn.ports.now) (entries turn.main.hand.now);
       empty = c.requires.begins.empty;
+      whole = λ was. subst (λ (shape : BoardShape). IsWholeWith turn.main.config.now turn.main.hand.now shape) (sym c.plan_offer.ensures.shape) was;
     }
 
 pub returns-in-Err-offer_act-clause-works : goal.returns-in-Err-offer_act-clause-works
@@ -293,6 +298,7 @@ returns-in-Err-offer_act-clause-works g c =
       };
       ties = works.ties;
       empty = works.empty;
+      whole = λ was. works.whole (subst (λ (shape : BoardShape). IsWholeWith c.args.turn.now.main.config.now c.args.turn.now.main.hand.now shape) (sym c.plan_offer.ensures.shape) was);
     }
 
 pub returns-clause-works : goal.returns-clause-works
@@ -308,4 +314,11 @@ returns-clause-works g c =
       };
       ties = works.ties;
       empty = works.empty;
+      whole = λ was. works.whole (subst (λ (shape : BoardShape). IsWholeWith c.args.turn.now.main.config.now c.args.turn.now.main.hand.now shape) (sym c.plan_offer.ensures.shape) was);
     }
+
+pub offer_act-requires-clause-plans : goal.offer_act-requires-clause-plans
+offer_act-requires-clause-plans g c =
+    let same = c.plan_offer.ensures.shape in
+    plans_kept c.args.turn.now.board.now c.plan_offer.new.self c.in-Ok-plan_offer.plan c.plan_offer.ensures.live c.plan_offer.ensures.begun
+    (ap (λ (shape : BoardShape). shape.config) same) (ap (λ (shape : BoardShape). shape.taken) same) c.in-Ok-plan_offer.ensures.made

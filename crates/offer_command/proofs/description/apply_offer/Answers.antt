@@ -3,6 +3,8 @@ use Rattle.port_pool.specs.Signals.{NewKey}
 use Rattle.offer_answer.specs.Nexts.{numbered_keys}
 use Rattle.offer_answer.specs.Plan.{offer_text}
 use Rattle.offer_answer.specs.Plans.{OfferFilled}
+use Rattle.offer_answer.specs.Shapes.{FilledShapes, OfferShapes, keys_demanded}
+use Rattle.offer_answer.specs.declared.dialog.Dialog.{Dialog}
 use Rattle.call_board.specs.NextBoards.{MayApply}
 use Rattle.call_board.specs.Boards.{BoardMatches}
 use Rattle.call_board.specs.Views.{View}
@@ -10,6 +12,7 @@ use Rattle.call_board.specs.declared.board_plan.BoardPlan.{BoardPlan}
 use Rattle.offer_answer.specs.Rounds as round
 use Rattle.offer_command.specs.Offers.{target_of, demand_of, offer_of, ports_of_legs}
 use Rattle.offer_command.proofs.Taken.{keys_filled, takes_in, taken_with}
+use Rattle.offer_command.proofs.WholenessPlans.{plan_offered}
 use Rattle.offer_command.proofs.description.apply_offer.Goals as goal
 
 pub apply-requires : goal.apply-requires
@@ -41,3 +44,14 @@ returns-clause-text c config h id ask good d first ports lines =
 
 pub fill_plan-requires-clause-ports : goal.fill_plan-requires-clause-ports
 fill_plan-requires-clause-ports c = ap length c.as_slice.ensures.value ∙ c.requires.ports
+
+pub returns-clause-shape : goal.returns-clause-shape
+returns-clause-shape c =
+    let p = c.args.taken.plan in
+    let filled = c.fill_plan.new.plan in
+    let keys : List NewKey = numbered_keys c.args.taken.first_key c.args.taken.drawn.list (keys_demanded c.args.taken.plan.plan) in
+    let rest = c.fill_plan.ensures.rest in
+    plan_offered p filled c.args.taken.numbers.items keys c.args.board.now c.apply.new.self (ap (λ (q : BoardPlan). q.call) rest) (ap (λ (q : BoardPlan). q.cell) rest)
+    (subst (λ (ps : List ℕ). (dialog : Dialog) → OfferShapes c.args.taken.plan.plan dialog c.args.taken.plan.plan.next → FilledShapes c.args.taken.plan.plan dialog ps keys c.fill_plan.new.plan.plan.next)
+    c.as_slice.ensures.value c.fill_plan.ensures.shape)
+    c.fill_plan.ensures.counts (ap (λ (q : BoardPlan). q.begun) rest) c.requires.plans c.apply.ensures.shape

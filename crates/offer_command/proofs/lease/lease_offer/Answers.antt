@@ -3,14 +3,16 @@ use Rattle.std.specs.Prelude.{vec_capacity}
 use Rattle.port_pool.specs.declared.pairs.Lease.{Lease}
 use Rattle.relay_outside.specs.DeviceLogs.{Gained}
 use Rattle.media_ports.specs.Addresses.{addresses_of}
-use Rattle.offer_answer.specs.Offers.{key_count}
+use Rattle.offer_answer.specs.Offers.{key_count, legs_demanded}
 use Rattle.call_board.specs.declared.board_plan.BoardPlan.{BoardPlan}
 use Rattle.call_board.specs.Views.{with_leases}
 use Rattle.call_board.specs.Boards.{BoardMatches}
+use Rattle.call_board.specs.Shapes.{board_shape}
 use Rattle.offer_command.specs.Leases.{keys_of_plan, planned_pairs, with_taken}
 use Rattle.offer_command.specs.Undo.{UndoesPorts, ComesEarly, with_undone}
 use Rattle.offer_command.proofs.LeasesTaken.{taken_count, taken_closed, taken_open, taken_generations, taken_of_pairs, taken_draws, taken_out, few_before, undone_is}
 use Rattle.offer_command.proofs.LeasesUndone.{held_after, gained_pairs_uncalled, gained_undone_uncalled}
+use Rattle.offer_command.proofs.WholenessPlans.{takes_drawn, undoes_drawn}
 use Rattle.offer_command.proofs.lease.lease_offer.Goals as goal
 
 pub lease-leases-requires-clause-generations : goal.lease-leases-requires-clause-generations
@@ -195,3 +197,13 @@ list_ports-requires-clause-room g c =
 
 pub returns-in-Ok-clause-ports : goal.returns-in-Ok-clause-ports
 returns-in-Ok-clause-ports g c = c.list_ports.ensures
+
+pub returns-in-Ok-clause-shape : goal.returns-in-Ok-clause-shape
+returns-in-Ok-clause-shape g c =
+    takes_drawn (legs_demanded c.args.plan.plan) c.lease-leases.result.list (board_shape c.args.board.now) (board_shape c.lease-leases.new.self) (board_shape c.count_draws.new.board)
+    (length c.as_slice.result.now) c.lease-leases.ensures.shape c.count_draws.ensures.shape
+
+pub returns-in-Err-clause-shape_undone : goal.returns-in-Err-clause-shape_undone
+returns-in-Err-clause-shape_undone g c =
+    undoes_drawn (legs_demanded c.args.plan.plan) c.lease-leases.result.list (board_shape c.args.board.now) (board_shape c.lease-leases.new.self) (board_shape c.count_draws-in-Err.new.board)
+    (board_shape c.undo_offer.new.self) c.keys.result c.lease-leases.ensures.shape c.count_draws-in-Err.ensures.shape c.undo_offer.ensures.shape

@@ -91,11 +91,11 @@ pub open_leg-requires-clause-shut : goal.open_leg-requires-clause-shut
 open_leg-requires-clause-shut g c =
     let inv = c.loop-index.invariant in
     let config = c.args.main.now.config.now in
-    let l = made_by c.loop-index.main.hand.now in
+    let hand = c.loop-index.main.hand.now in
     let rest = c.pop.new.self.list in
     let left = popped c.loop-index.leases.list rest c.pop.result c.unwrap-lease.result c.pop.ensures.list c.unwrap-lease.ensures in
-    subst (λ (k : Config). IsShut l (box_of k c.pair.result)) (sym (same_config c.args.main.now c.loop-index.main inv.nests))
-    (subst (AreShut config l) (pairs_left c.loop-index.leases.list rest c.unwrap-lease.result c.pair.result left c.pair.ensures) inv.shut c.pair.result (here refl))
+    subst (λ (k : Config). IsShut k hand c.pair.result) (sym (same_config c.args.main.now c.loop-index.main inv.nests))
+    (subst (AreShut config hand) (pairs_left c.loop-index.leases.list rest c.unwrap-lease.result c.pair.result left c.pair.ensures) inv.shut c.pair.result (here refl))
 
 pub open_leg-requires-clause-ends : goal.open_leg-requires-clause-ends
 open_leg-requires-clause-ends g c =
@@ -156,7 +156,7 @@ loop-index-preserved g c =
           (subst (λ (h : Holder). IsBoxOpened g.I.InEnd.log g.I.InEnd.faults g.O.OutEnd.log g.O.OutEnd.faults config number moment mid.hand.now h ends) same_holder opened))
           (more_is ∙ ap (λ (h : Holder). legs ++ h ∷ []) same_holder) step.parts;
       leased = free.2;
-      shut = shut_still config number moment holder (pairs_of_leases rest) mid.hand.now new.hand.now gained (subst (AreShut config (made_by mid.hand.now)) pairs inv.shut) free.1;
+      shut = shut_still config number moment holder (pairs_of_leases rest) mid.hand.now new.hand.now step.nests.same.1 gained (subst (AreShut config mid.hand.now) pairs inv.shut) free.1;
       opened = (subst (λ (ls : List Lease). ArePairsOpened g.I.InEnd.log g.O.OutEnd.log config ls (ends ∷ open_rest)) left
           (subst (ArePairsOpened g.I.InEnd.log g.O.OutEnd.log config c.loop-index.leases.list) open_left inv.opened)).1;
       stands = λ keys dropped s. step.stands keys dropped (inv.stands keys dropped s);

@@ -22,7 +22,7 @@ invariant-loop-index g l =
       done : AreDone l.plan.plan l.plan.call l.plan.cell (IsBoxOpened g.I.InEnd.log g.I.InEnd.faults g.O.OutEnd.log g.O.OutEnd.faults config old.entry_id.number old.entry_id.moment old.hand.now)
           l.initial.leases.list l.leases.list l.initial.opened.list l.opened.list l.index (added l.prepare) (parts_added l.initial.prepare) (parts_added l.prepare);
       leased : AreFree (pair_count config) (pairs_of_leases l.leases.list);
-      shut : AreShut config (made_by l.main.hand.now) (pairs_of_leases l.leases.list);
+      shut : AreShut config l.main.hand.now (pairs_of_leases l.leases.list);
       opened : ArePairsOpened g.I.InEnd.log g.O.OutEnd.log config l.leases.list l.opened.list;
       stands : (keys : List NewKey) (dropped : List ℕ) → PrepareFor l.initial.prepare keys dropped → PrepareFor l.prepare keys dropped;
       leg_room : leg_room l.prepare + l.index ≡ leg_room l.initial.prepare;

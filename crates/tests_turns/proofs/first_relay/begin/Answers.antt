@@ -15,14 +15,15 @@ may_nest config turns hand between = record {
   main = between.main;
   alone = λ k has. absurd (has (between.idle k));
   parts = between.parts;
+  whole_parts = between.whole_parts;
   numbered = between.numbered;
 }
 
 pub returns-clause-between : goal.returns-clause-between
 returns-clause-between c =
-    first_between _ c.in-Ok-start.turns c.in-Ok-start.hand c.in-Ok.states.items c.in-Ok-start.ensures.0 c.in-Ok-start.ensures.1 c.in-Ok.ensures.begins
+    first_between _ c.in-Ok-start.turns c.in-Ok-start.hand c.in-Ok.states.items c.in-Ok-start.ensures.0 c.in-Ok-start.ensures.1 c.in-Ok.ensures.begins c.in-Ok.ensures.whole
 
 pub returns-clause-may : goal.returns-clause-may
 returns-clause-may c =
     may_nest _ c.in-Ok-start.turns c.in-Ok-start.hand
-    (first_between _ c.in-Ok-start.turns c.in-Ok-start.hand c.in-Ok.states.items c.in-Ok-start.ensures.0 c.in-Ok-start.ensures.1 c.in-Ok.ensures.begins)
+    (first_between _ c.in-Ok-start.turns c.in-Ok-start.hand c.in-Ok.states.items c.in-Ok-start.ensures.0 c.in-Ok-start.ensures.1 c.in-Ok.ensures.begins c.in-Ok.ensures.whole)

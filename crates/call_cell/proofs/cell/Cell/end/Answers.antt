@@ -20,3 +20,7 @@ pub returns-clause-ends : goal.returns-clause-ends
 returns-clause-ends g c config h for =
     let gone = all_go config (since_end h) (true ∷ true ∷ true ∷ true ∷ true ∷ true ∷ true ∷ true ∷ []) c.args.self.now.legs.items c.part.new.legs.items c.args.gone.now c.part.new.gone for.legs_for eight_true c.requires.empty c.part.ensures in
     cell_ends config c.args.self.now _ h c.part.new.gone for refl refl refl refl gone.0 gone.1
+
+pub returns-clause-none : goal.returns-clause-none
+returns-clause-none g c small =
+    (shape_ended (true ∷ true ∷ true ∷ true ∷ true ∷ true ∷ true ∷ true ∷ []) c.args.self.now.legs.items c.part.new.legs.items c.args.gone.now c.part.new.gone small eight_true c.requires.empty c.part.ensures).0

@@ -1,5 +1,5 @@
 use Rattle.std.proofs.Common.{refl, sym, ◌∙◌, ap, arith, subst, ℕ, List, Option, Some, length, map, ◌≡◌, ◌≤◌, ◌+◌}
-use Rattle.call_cell.specs.Shapes.{CellLegShape, cell_shape, ends_of_legs, cell_leg_shapes, offered_shape, with_prepared}
+use Rattle.call_cell.specs.Shapes.{CellLegShape, cell_shape, ends_of_legs, counts_of_legs, cell_leg_shapes, offered_shape, with_prepared}
 use Rattle.call_cell.proofs.Shaped.{offered_legs, offered_go}
 use Rattle.std.proofs.lemmas.List.{with_items_is}
 use Rattle.std.proofs.lemmas.List.Sums.{length-filter}
@@ -44,8 +44,9 @@ returns-clause-legs g c =
     let new = c.put_keys.new.legs in
     let items = with_items_is c.join.new.legs new (omega (arith, c.put_keys.auto.legs, c.as_mut_slice.ensures.len)) in
     let puts = c.put_keys.ensures.ends ∙ ap ends_of_legs c.as_mut_slice.ensures.value in
+    let counts = c.put_keys.ensures.counts ∙ ap counts_of_legs c.as_mut_slice.ensures.value in
     offered_go c.args.signal.dropped c.args.self.now.legs.items c.part.new.legs.items c.args.signal.legs.items c.join.new.legs.items _ c.args.gone.now c.part.new.gone
-    c.requires.empty (omega (arith, c.requires.room.before, c.args.self.now.legs.ok.0)) c.part.ensures c.join.ensures (ap ends_of_legs items ∙ puts)
+    c.requires.empty (omega (arith, c.requires.room.before, c.args.self.now.legs.ok.0)) c.part.ensures c.join.ensures (ap ends_of_legs items ∙ puts) (ap counts_of_legs items ∙ counts)
 
 pub returns-clause-prepares : goal.returns-clause-prepares
 returns-clause-prepares g c config h keys dropped for prep can =

@@ -16,4 +16,4 @@ returns-clause-step g c =
     (part_relays g.O.OutEnd.log g.O.OutEnd.faults _ _ c.args.now _ c.in-Cell.cell c.relay-outcome.new.self c.relay-outcome.new.buf c.relay-outcome.result c.in-Cell.is
     (ap (λ (bytes : List ℕ). record { take = c.args.take; half = c.args.packet.now.half; source = c.args.packet.now.source; bytes = bytes; holder = c.args.packet.now.holder })
     (sym (take-take c.args.packet.now.len 2001 (free_room c.args.self.now) (let s = c.requires.short in omega (arith, s)))))
-    c.relay-outcome.ensures.shape (λ config h take for. c.relay-outcome.ensures.relays config h take for))
+    c.relay-outcome.ensures.shape c.relay-outcome.ensures.counts c.relay-outcome.ensures.legs (λ config h take for. c.relay-outcome.ensures.relays config h take for))

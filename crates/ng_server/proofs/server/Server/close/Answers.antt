@@ -13,5 +13,8 @@ returns-clause-legal g c = c.close_relay.ensures.legal c.args.self.config
 pub returns-clause-ins : goal.returns-clause-ins
 returns-clause-ins g c = c.close_relay.ensures.ins c.args.self.config
 
+pub returns-clause-whole : goal.returns-clause-whole
+returns-clause-whole g c = c.close_relay.ensures.whole c.args.self.config
+
 pub returns-clause-timed : goal.returns-clause-timed
 returns-clause-timed g c = c.close_relay.ensures.timed c.args.self.config

@@ -13,4 +13,4 @@ returns g c =
     part_relays g.O.OutEnd.log g.O.OutEnd.faults _ _ c.args.now _ c.in-Cell.cell c.relay.new.self c.relay.new.buf c.relay.result c.in-Cell.is
     (ap (λ (bytes : List ℕ). record { take = c.args.take; half = c.args.packet.now.half; source = c.args.packet.now.source; bytes = bytes; holder = c.args.packet.now.holder })
     (front_kept c.args.packet.now.len c.args.buf.now c.args.bytes.now c.copy_from_slice.new.self _ c.copy_from_slice.ensures.after c.copy_from_slice.ensures.len (let s = c.requires.short in omega (arith, s))))
-    c.relay.ensures.shape (λ config h take for. c.relay.ensures.relays config h take for)
+    c.relay.ensures.shape c.relay.ensures.counts c.relay.ensures.legs (λ config h take for. c.relay.ensures.relays config h take for)

@@ -1,6 +1,0 @@
-use Rattle.std.proofs.Common.{sym, ◌∙◌}
-use Rattle.hand_over.proofs.KeyedTrees.{some_left}
-use Rattle.hand_over.proofs.fields.none_left.Goals as goal
-
-pub returns-else-is_empty-clause-none : goal.returns-else-is_empty-clause-none
-returns-else-is_empty-clause-none c = some_left c.args.pairs.now (sym c.is_empty.ensures ∙ c.if-is_empty.false)

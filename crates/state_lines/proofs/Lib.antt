@@ -1,0 +1,11 @@
+pub mod ByteLists
+pub mod DigitLines
+pub mod DigitTexts
+pub mod Numbers
+pub mod OneLines
+pub mod OneState
+pub mod Refusals
+pub mod States
+pub mod ToldReads
+pub mod ValueLines
+pub mod WrittenLines

@@ -1,0 +1,4 @@
+pub mod LineReads
+pub mod LineWrites
+pub mod OneRead
+pub mod StateLines

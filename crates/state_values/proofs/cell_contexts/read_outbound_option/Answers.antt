@@ -1,0 +1,17 @@
+use Rattle.std.proofs.Common.{◌<◌, ◌^◌, ℕ, Bor}
+use Rattle.ng_bencode.specs.declared.value.Value.{Value}
+use Rattle.ng_bencode.specs.Tree.{tree_of}
+use Rattle.state_values.specs.CellLegTrees.{FitsOutbound}
+use Rattle.state_values.specs.CellLegTrees.{outbound_tree}
+use Rattle.state_values.proofs.KeyedTrees.{refused}
+use Rattle.state_values.proofs.MissingTrees.{no_option, none_in}
+use Rattle.state_values.proofs.cell_contexts.read_outbound_option.Goals as goal
+
+pub returns-in_err-read_option-clause-none : goal.returns-in_err-read_option-clause-none
+returns-in_err-read_option-clause-none c = refused c.from_residual.ensures (λ one fits same.
+    no_option outbound_tree (tree_of c.args.value.now) c.in_err-read_option.ensures.none one same)
+
+pub returns-in_err-read_outbound-in-Some-clause-none : goal.returns-in_err-read_outbound-in-Some-clause-none
+returns-in_err-read_outbound-in-Some-clause-none c = refused c.from_residual-in_err-read_outbound-in-Some.ensures (λ o fits same.
+    none_in outbound_tree (λ (v : Bor Value). tree_of v.now) FitsOutbound (tree_of c.args.value.now) c.in_ok-read_option.field-0 c.in-Some.one
+    c.in_ok-read_option.ensures.some c.in-Some.is c.in_err-read_outbound-in-Some.ensures.none o fits same)

@@ -1,0 +1,11 @@
+pub mod HeldShapes
+pub mod Wholes
+pub mod Each
+pub mod Found
+pub mod Sides
+pub mod CellPlaces
+pub mod OncePairs
+pub mod Parts
+pub mod Marks
+pub mod Puts
+pub mod CellCalls

@@ -1,0 +1,3 @@
+pub mod SavedShapes
+pub mod Records
+pub mod RecordParts
