@@ -1,11 +1,9 @@
-use Rattle.std.proofs.Common.{◌≡◌, lit<, ap, sym, subst}
-use Rattle.std.specs.Prelude.{is_some, Option}
+use Rattle.std.proofs.Common.{◌≡◌, refl, lit<, sym, subst}
+use Rattle.std.specs.Prelude.{Option, IsSome}
 use Rattle.port_pool.specs.declared.holder.Holder.{Holder}
 use Rattle.port_pool.specs.Ports.{pair_count, range_pairs}
-use Rattle.relay_core.specs.Turns.{made_by}
 use Rattle.board_turns.specs.NestedSteps.{IsTurnOpen}
-use Rattle.board_turns.proofs.After.{gained_last, opened}
-use Rattle.board_turns.proofs.First.{first_shut}
+use Rattle.board_turns.proofs.First.{first_shut, opened_now}
 use Rattle.tests_turns.proofs.nested_step_tests.a_box_that_is_shut_gives_its_ends_back.Goals as goal
 
 pub open_box-requires-clause-pair : goal.open_box-requires-clause-pair
@@ -13,7 +11,8 @@ unfolding pair_count range_pairs
 open_box-requires-clause-pair g c = lit< tt
 
 pub open_box-requires-clause-shut : goal.open_box-requires-clause-shut
-open_box-requires-clause-shut g c = first_shut _ 4 c.in-Some.ensures.hand.0
+unfolding pair_count range_pairs
+open_box-requires-clause-shut g c = first_shut _ _ 1 c.in-Some.ensures.may.parts c.in-Some.ensures.may.whole_parts c.in-Some.ensures.hand.0 (lit< tt)
 
 pub shut_box-requires-clause-pair : goal.shut_box-requires-clause-pair
 unfolding pair_count range_pairs
@@ -23,8 +22,8 @@ pub shut_box-requires-clause-open : goal.shut_box-requires-clause-open
 shut_box-requires-clause-open g c =
     let mid = c.open_box.new.main.hand.now in
     let left : mid ≡ c.hand-2-1.given.0 = sym (c.hand-2-1.given.1 (sym c.open_box.ensures.nests.hand_is)) in
-    subst (λ hand. IsTurnOpen (made_by hand) 4) left
-    (λ n above. ap (λ (o : Option Holder). is_some o) (opened (made_by c.in-Some.hand) (made_by mid) 4 _ (gained_last 0 5 _ c.in-Some.hand mid c.open_box.ensures.gained) n above))
+    subst (λ hand. IsTurnOpen _ hand 1) left
+    (subst (λ (o : Option Holder). IsSome o) (sym (opened_now _ 0 5 _ c.in-Some.hand mid c.open_box.ensures.nests.same.1.0 c.open_box.ensures.gained)) refl)
 
 pub open_box-requires-clause-ends : goal.open_box-requires-clause-ends
 open_box-requires-clause-ends g c = (record { at_is = c.quiet-rtp.ensures; uncalled = tt }, record { at_is = c.quiet-rtcp.ensures; uncalled = tt })
