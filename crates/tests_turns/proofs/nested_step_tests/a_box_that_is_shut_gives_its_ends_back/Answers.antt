@@ -12,7 +12,7 @@ open_box-requires-clause-pair g c = lit< tt
 
 pub open_box-requires-clause-shut : goal.open_box-requires-clause-shut
 unfolding pair_count range_pairs
-open_box-requires-clause-shut g c = first_shut _ _ 1 c.in-Some.ensures.may.parts c.in-Some.ensures.may.whole_parts c.in-Some.ensures.hand.0 (lit< tt)
+open_box-requires-clause-shut g c = first_shut _ c.in-Some.hand 1 c.in-Some.ensures.may.parts c.in-Some.ensures.may.whole_parts c.in-Some.ensures.hand.0 (lit< tt)
 
 pub shut_box-requires-clause-pair : goal.shut_box-requires-clause-pair
 unfolding pair_count range_pairs
