@@ -23,7 +23,7 @@ shut_box-requires-clause-open g c =
     let mid = c.open_box.new.main.hand.now in
     let left : mid ≡ c.hand-2-1.given.0 = sym (c.hand-2-1.given.1 (sym c.open_box.ensures.nests.hand_is)) in
     subst (λ hand. IsTurnOpen _ hand 1) left
-    (subst (λ (o : Option Holder). IsSome o) (sym (opened_now _ 0 5 _ c.in-Some.hand mid c.open_box.ensures.nests.same.1.0 c.open_box.ensures.gained)) refl)
+    (subst (λ (o : Option Holder). IsSome o) (sym (opened_now _ 0 5 _ c.in-Some.hand mid c.open_box.ensures.nests.same.1 c.open_box.ensures.gained)) refl)
 
 pub open_box-requires-clause-ends : goal.open_box-requires-clause-ends
 open_box-requires-clause-ends g c = (record { at_is = c.quiet-rtp.ensures; uncalled = tt }, record { at_is = c.quiet-rtcp.ensures; uncalled = tt })
