@@ -12,6 +12,7 @@ use Rattle.relay_core.specs.Scripts.{open_owed}
 use Rattle.relay_core.specs.Turns.{GainsNested}
 use Rattle.board_turns.specs.NestedSteps.{MayNest, IsTurnOpen}
 use Rattle.board_turns.proofs.First.{first_shut, opened_now}
+use Rattle.tests_turns.specs.declared.nested_step_tests.TheConstants.{HOLDER}
 use Rattle.tests_turns.proofs.nested_step_tests.a_box_that_is_shut_gives_its_ends_back.Goals as goal
 
 -- a box that was opened for a leg is open for it, in the hand that is left
@@ -37,7 +38,7 @@ pub shut_box-requires-clause-open : goal.shut_box-requires-clause-open
 shut_box-requires-clause-open g c =
     let mid = c.open_box.new.main.hand.now in
     let left : mid ≡ c.hand-2-1.given.0 = sym (c.hand-2-1.given.1 (sym c.open_box.ensures.nests.hand_is)) in
-    still_open _ mid c.hand-2-1.given.0 c.in-Some.ensures.may c.open_box.ensures.nests.same.1 c.open_box.ensures.gained left
+    still_open HOLDER mid c.hand-2-1.given.0 c.in-Some.ensures.may c.open_box.ensures.nests.same.1 c.open_box.ensures.gained left
 
 pub open_box-requires-clause-ends : goal.open_box-requires-clause-ends
 open_box-requires-clause-ends g c = (record { at_is = c.quiet-rtp.ensures; uncalled = tt }, record { at_is = c.quiet-rtcp.ensures; uncalled = tt })
