@@ -15,7 +15,7 @@ use Rattle.port_pool.specs.Reports.{CountsFit}
 use Rattle.call_cell.specs.declared.leg.Leg.{Leg}
 use Rattle.call_cell.specs.declared.cell.Cell as cell
 use Rattle.call_cell.specs.Cells.{CellEntry, Expire, Read, End, since_end}
-use Rattle.call_cell.specs.Shapes.{cell_shape, cell_leg_shapes, ended_shape, IsSmall}
+use Rattle.call_cell.specs.Shapes.{CellShape, cell_shape, cell_leg_shapes, ended_shape, IsSmall}
 use Rattle.call_cell.proofs.Shaped.{is_small}
 use Rattle.call_cell.specs.Demands.{CountsBelow}
 use Rattle.call_cell.specs.CellHistories.{CellFor}
@@ -33,16 +33,31 @@ use Rattle.relay_core.specs.PlaceHistories.{IsCellPart, CellIs, nested_of}
 use Rattle.relay_core.specs.Steps.{Relates}
 use Rattle.relay_core.specs.Turns.{made_by}
 use Rattle.relay_core.proofs.Given.{IsShort, given_cell, given_short}
+use Rattle.relay_core.proofs.KeptGiven.{kept_cell}
+use Rattle.relay_core.proofs.Shaped.{HasShape}
 use Rattle.board_turns.specs.NestedSteps.{MayNest, leaving, nested, gone_left}
 use Rattle.board_turns.specs.InCells.{HasNewKeys, CountsStand, TakesReading, moment_of_cell, EndsPart, ExpiresPart, ReadsPart, Ends, Expires, Reads}
+use Rattle.board_turns.specs.Departures.{cell_kept}
 use Rattle.board_turns.proofs.Nesting.{above_rows}
 use Rattle.board_turns.proofs.Boxing.{Gives}
+
+pub small_by : {O : Type 0} (c : cell.Cell O) (shape : CellShape) → cell_shape c ≡ shape → IsSmall shape.legs → IsSmall (cell_leg_shapes c.legs.items)
+small_by c shape is small = subst (λ (s : CellShape). IsSmall s.legs) (sym is) small
 
 module _ {I O : Type 0} where
   pub is_cell : (config : Config) (x : Part I O) (h : List CellEntry) → CellIs config x h → IsCellPart x
   is_cell config (part.Board board) h is = is
   is_cell config (part.Cell cell) h is = tt
   is_cell config (part.Pair box) h is = is
+
+  pub shaped_cell : (x : Part I O) (shape : CellShape) → HasShape x shape → IsCellPart x
+  shaped_cell (part.Board board) shape is = is
+  shaped_cell (part.Cell cell) shape is = tt
+  shaped_cell (part.Pair box) shape is = is
+
+  -- it is this one, and its legs are those that it keeps
+  pub shape_of : (x : Part I O) (c : cell.Cell O) (shape : CellShape) → x ≡ part.Cell c → HasShape x shape → cell_shape c ≡ shape
+  shape_of x c shape at is = subst (λ (y : Part I O). HasShape y shape) at is
 
   -- its legs are few
   pub held_small : (config : Config) (x : Part I O) (c : cell.Cell O) (h : List CellEntry) → x ≡ part.Cell c → CellIs config x h → IsSmall (cell_leg_shapes c.legs.items)
@@ -123,6 +138,15 @@ module _ {M I O T : Type 0} {g : _} (it : I → EndLog InCall) (ic : I → ℕ) 
         given_cell it ic ot oc config (view hand) place n now may.parts low high there may.main may.numbered
             (keys n (above_rows (entries hand) place n there.above)),
       )
+
+  -- and one that keeps what follows from the list, whatever its history
+  pub cell_held : (config : Config) (turns : Turns M (Part I O) Made T) (hand : Hand M (Part I O) Made T g) (place found n : ℕ) (x now : Part I O)
+      → MayNest config turns hand → 1 ≤ place → place ≤ config.max_sessions → found ≡ place → now ≡ x
+      → Gives it ic ot oc hand found n x → HasShape now (cell_kept config hand place)
+  cell_held config turns hand place found n x now may low high at same given =
+      let there : Gives it ic ot oc hand place n now
+      = subst (λ (k : ℕ). Gives it ic ot oc hand k n now) at (subst (λ (z : Part I O). Gives it ic ot oc hand found n z) (sym same) given) in
+      kept_cell it ic ot oc config (view hand) place n now may.whole_parts low high there may.main may.numbered
 
   -- and that can be read
   pub reading_given : (config : Config) (turns : Turns M (Part I O) Made T) (hand : Hand M (Part I O) Made T g) (place found n : ℕ) (x now : Part I O)

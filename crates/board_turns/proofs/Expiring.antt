@@ -2,6 +2,8 @@
 use Rattle.std.proofs.Common.{◌≡◌, ◌∙◌, refl, sym, ap, subst, ℕ, zero, suc, max, ◌<◌, ◌≤◌, Bool, true, false, cond, List, [], ◌∷◌, ◌++◌, Option, Some, map, filter, length, arith}
 use Rattle.std.specs.Prelude.{◌==◌, slice_get, if◌then◌else◌}
 use Rattle.std.specs.List.{filter_map, cons_option}
+use Rattle.std.specs.Option.{option_map}
+use Rattle.std.proofs.lemmas.List.{length-map}
 use Rattle.std.proofs.lemmas.List.Elements.{filter-append, filter_map-append}
 use Rattle.relay_outside.specs.declared.ports.PortCall.{PortCall}
 use Rattle.relay_outside.specs.declared.settings.Config.{Config}
@@ -23,12 +25,14 @@ use Rattle.call_cell.specs.declared.cell.Cell as cell
 use Rattle.call_cell.proofs.Asking.{cell_expires}
 use Rattle.call_cell.proofs.Nested.{legs_kept}
 use Rattle.call_cell.proofs.NewKeys.{brings_same}
+use Rattle.call_shapes.proofs.Needs.{cell_within}
 use Rattle.call_board.specs.Acts.{Call}
 use Rattle.call_board.specs.declared.board.Board.{Board}
+use Rattle.call_board.specs.declared.live_call.LiveCall.{LiveCall}
 use Rattle.call_board.specs.Calls.{is_due_by}
-use Rattle.call_board.specs.Shapes.{board_shape, shape_numbered}
+use Rattle.call_board.specs.Shapes.{LiveShape, board_shape, live_shape, shape_numbered}
 use Rattle.call_board.specs.Views.{View, CallView, call_numbered}
-use Rattle.call_board.specs.Boards.{BoardMatches, IsLive}
+use Rattle.call_board.specs.Boards.{BoardMatches, CallFor, CallsFor, IsLive}
 use Rattle.call_board.proofs.Found.{found_is_live}
 use Rattle.relay_core.specs.Entries as event
 use Rattle.relay_core.specs.Entries.{Event, Cell, Box, Entry, is_at, cell_at, cell_entry, cell_history, history}
@@ -36,7 +40,7 @@ use Rattle.relay_core.specs.Scripts.{Owed, owed_by}
 use Rattle.relay_core.specs.Records.{Made, list_of}
 use Rattle.relay_core.specs.Turns.{IsAbove, GainsNested, Numbered, made_by}
 use Rattle.relay_core.specs.FirstPlaces.{AreParts}
-use Rattle.relay_core.specs.KeptAfter.{IsWholeWith, cells_after, cell_shape_after}
+use Rattle.relay_core.specs.KeptAfter.{IsWholeWith, cells_after, cell_shape_after, relay_after}
 use Rattle.relay_core.specs.PlaceHistories.{Stands}
 use Rattle.relay_core.specs.declared.part.Part.{Part}
 use Rattle.relay_core.specs.declared.part.Part.TheVariants as part
@@ -50,9 +54,9 @@ use Rattle.board_turns.specs.InCells.{Expires, HasNewKeys, in_cell_of}
 use Rattle.board_turns.proofs.Nesting.{above_rows}
 use Rattle.board_turns.specs.CallEnds.{CanEnd, IsCallOf}
 use Rattle.board_turns.specs.Departures.{cell_kept}
-use Rattle.board_turns.specs.Ticks.{CanExpire, IsDueBy}
+use Rattle.board_turns.specs.Ticks.{CanAsk, CanExpire, IsDueBy}
 use Rattle.board_turns.proofs.Closed.{list_gained}
-use Rattle.board_turns.proofs.Stopped.{calls_long, get_map}
+use Rattle.board_turns.proofs.Stopped.{calls_long, get_map, in_at}
 use Rattle.board_turns.proofs.Tying.{NothingLeaves}
 
 -- The lasting entries of a cell, where others come.
@@ -208,6 +212,54 @@ pub below : {A : Type 0} (xs : List A) (i : ℕ) (x : A) → slice_get xs i ≡ 
 below [] i x at = absurd (let q = at in cc)
 below (y ∷ ys) zero x at = omega arith
 below (y ∷ ys) (suc i) x at = let rest = below ys i x at in omega (arith, rest)
+
+-- by what the board keeps
+pub ask_index : (board : Board) (index : ℕ) (live : LiveShape) → slice_get (board_shape board).calls index ≡ Some live → index < length board.calls.list
+ask_index board index live at =
+    let long = length-map board.calls.list live_shape in
+    let low = below (board_shape board).calls index live at in
+    omega (arith, long, low)
+
+pub ask_number : (board : Board) (index : ℕ) (live : LiveShape) (call : ℕ) → slice_get (board_shape board).calls index ≡ Some live
+    → option_map (λ (x : LiveShape). x.number) (slice_get (board_shape board).calls index) ≡ Some call → call ≡ live.number
+ask_number board index live call at is =
+    let found : Some call ≡ Some live.number = sym is ∙ ap (λ (o : Option LiveShape). option_map (λ (x : LiveShape). x.number) o) at in
+    cc
+
+pub ask_cell : {M I O T : Type 0} {g : _} (config : Config) (hand : Hand M (Part I O) Made T g) (board : Board) (log : Option (List PortCall)) (index cell : ℕ)
+    → (asks : CanAsk config hand board log index) → option_map (λ (x : LiveShape). x.cell) (slice_get (board_shape board).calls index) ≡ Some cell
+    → (1 ≤ cell) × (cell ≤ config.max_sessions)
+ask_cell config hand board log index cell asks is =
+    let relay = relay_after config (starts hand) (made_by hand) (board_shape board) in
+    let found : Some cell ≡ Some asks.live.cell = sym is ∙ ap (λ (o : Option LiveShape). option_map (λ (x : LiveShape). x.cell) o) asks.at in
+    let cell_is : cell ≡ asks.live.cell = cc in
+    let within = cell_within config (board_shape board) relay.cells relay.holders asks.live asks.can.whole (in_at (board_shape board).calls index asks.live asks.at) in
+    let low = within.0 in
+    let high = within.1 in
+    (omega (arith, low, cell_is), omega (arith, high, cell_is))
+
+-- the call at a place is kept at that place
+call_at : (config : Config) (calls : List LiveCall) (cs : List CallView) (i : ℕ) (c : CallView) → CallsFor config calls cs → slice_get cs i ≡ Some c
+    → (call : LiveCall) × (slice_get calls i ≡ Some call) × CallFor config call c
+call_at config [] [] i c for at = absurd (let q = at in cc)
+call_at config [] (d ∷ cs) i c for at = absurd for
+call_at config (call ∷ calls) [] i c for at = absurd for
+call_at config (call ∷ calls) (d ∷ cs) zero c for at =
+    let is : Some d ≡ Some c = at in
+    let same : d ≡ c = cc in
+    (call, refl, subst (λ (x : CallView). CallFor config call x) same for.0)
+call_at config (call ∷ calls) (d ∷ cs) (suc i) c for at = call_at config calls cs i c for.1 at
+
+pub ask_by : {M I O T : Type 0} {g : _} (config : Config) (hand : Hand M (Part I O) Made T g) (board : Board) (log : Option (List PortCall)) (moment index : ℕ) (of : Call)
+    (legs : List Holder) (overdue : Bool) → CanExpire config hand board log moment index of legs overdue → CanAsk config hand board log index
+ask_by config hand board log moment index of legs overdue asks =
+    let kept = call_at config board.calls.list asks.view.calls index asks.seen asks.shows.calls_for asks.at in
+    let number_is : kept.0.number ≡ of.number = kept.2.number_is ∙ ap (λ (c : Call). c.number) asks.of_is in
+    record {
+      live = live_shape kept.0;
+      at = get_map live_shape board.calls.list index kept.0 kept.1;
+      can = subst (λ (k : ℕ). CanEnd config hand board log k) (sym number_is) asks.can;
+    }
 
 module _ {M I O T : Type 0} {g : _} (config : Config) (hand : Hand M (Part I O) Made T g) (board : Board) (log : Option (List PortCall)) (moment index : ℕ) (of : Call)
     (legs : List Holder) (overdue : Bool) (asks : CanExpire config hand board log moment index of legs overdue) where

@@ -75,6 +75,14 @@ module _ {O : Type 0} where
   passing_leases goes (leg ∷ legs) have =
       passing_case goes leg legs (have (cell_leg_shape leg) (here refl)) (passing_leases goes legs (λ l i. have l (there i))) (goes leg.holder)
 
+  -- all legs of a cell that keeps this went
+  pub ended_leases : (old : cell.Cell O) (kept : CellShape) (gone : List (Lease × O × O)) → cell_shape old ≡ kept → gone ≡ parts_in old.legs.items
+      → AllHaveEnds kept → leases_of_legs gone ≡ leases_in kept.legs
+  ended_leases old kept gone is went have =
+      ap (λ (those : List (Lease × O × O)). leases_of_legs those) went
+      ∙ all_leases old.legs.items (subst (λ (s : CellShape). HaveEnds s.legs) (sym is) have)
+      ∙ ap (λ (s : CellShape). leases_in s.legs) is
+
   -- of the legs of a cell with this shape those that pass went
   passing_left : (goes : Holder → Bool) (old : cell.Cell O) (kept : CellShape) (gone : List (Lease × O × O)) → cell_shape old ≡ kept
       → gone ≡ parts_in (legs_passing goes old.legs.items) → AllHaveEnds kept → leases_of_legs gone ≡ leases_going goes kept
@@ -89,15 +97,6 @@ module _ {M I O T : Type 0} {g : _} (it : I → EndLog InCall) (ic : I → ℕ) 
       → MayNest config turns hand → 1 ≤ place → place ≤ config.max_sessions → IsCellAt it ic ot oc config hand place old h → cell_shape old ≡ cell_kept config hand place
   shape_at config turns hand place old h may low high was =
       kept_cell it ic ot oc config (view hand) place was.number (part.Cell old) may.whole_parts low high was.given may.main may.numbered
-
-  pub ended_left : (config : Config) (turns : Turns M (Part I O) Made T) (hand : Hand M (Part I O) Made T g) (place : ℕ) (gone : List (Lease × O × O))
-      → MayNest config turns hand → 1 ≤ place → place ≤ config.max_sessions → Ends it ic ot oc config hand place gone → AllHaveEnds (cell_kept config hand place)
-      → leases_of_legs gone ≡ map (λ (leg : CellLegShape). leg.lease) (cell_kept config hand place).legs
-  ended_left config turns hand place gone may low high ends have =
-      let is = shape_at config turns hand place ends.old ends.history may low high ends.was in
-      ap (λ (those : List (Lease × O × O)). leases_of_legs those) ends.ends.went
-      ∙ all_leases ends.old.legs.items (subst (λ (s : CellShape). HaveEnds s.legs) (sym is) have)
-      ∙ ap (λ (s : CellShape). leases_in s.legs) is
 
   pub prepared_left : (config : Config) (turns : Turns M (Part I O) Made T) (hand : Hand M (Part I O) Made T g) (place : ℕ) (signal : prepared.Prepare O) (call : ℕ)
       (keys : List NewKey) (dropped : List ℕ) (now : ℕ) (gone : List (Lease × O × O)) → MayNest config turns hand → 1 ≤ place → place ≤ config.max_sessions

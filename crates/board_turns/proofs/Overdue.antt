@@ -14,7 +14,7 @@ use Rattle.relay_core.specs.KeptAfter.{IsWholeWith}
 use Rattle.relay_core.specs.Scripts.{Owed}
 use Rattle.board_turns.specs.declared.board_turn.MainHand.{MainHand}
 use Rattle.board_turns.specs.declared.board_turn.BoardTurn.{BoardTurn}
-use Rattle.board_turns.specs.InCells.{Expires, in_cell_of}
+use Rattle.board_turns.specs.InCells.{Expires, HasNewKeys, in_cell_of}
 use Rattle.board_turns.specs.CallEnds.{CanEnd, IsCallOf, ending_of}
 use Rattle.board_turns.specs.Ticks.{asking_of}
 use Rattle.board_turns.specs.BoardTurns.{CanNest, IsTurnCall, MakesNested, MayEnd, Nests, Works, hand_list}
@@ -59,7 +59,7 @@ module _ {P I O : Type 0} {g : _} (log : P → Option (List PortCall)) (faults :
     pub gained : MakesNested (question cell overdue) old.main now.main
     pub board_is : now.board.now ≡ old.board.now
     pub ports_are : now.ports.now ≡ old.ports.now
-    pub timed_out : overdue ≡ false → Expires it ic ot oc old.main.config.now old.main.hand.now cell old.main.entry_id.moment true
+    pub timed_out : overdue ≡ false → HasNewKeys (hand_list old.main) cell → Expires it ic ot oc old.main.config.now old.main.hand.now cell old.main.entry_id.moment true
 
   pub ends_overdue : (turn : BoardTurn P I O g) (cell : ℕ) → CanNest turn.main → turn.gone.now ≡ [] → HasToEnd turn turn cell true
   ends_overdue turn cell may empty = record {
@@ -71,7 +71,7 @@ module _ {P I O : Type 0} {g : _} (log : P → Option (List PortCall)) (faults :
   }
 
   pub ends_timed_out : (old : BoardTurn P I O g) (main : MainHand I O g) (cell : ℕ) → Nests old.main main → MakesNested (in_cell_of cell (Expire true) ∷ []) old.main main
-      → old.gone.now ≡ [] → Expires it ic ot oc old.main.config.now old.main.hand.now cell old.main.entry_id.moment true → HasToEnd old (with_main old main) cell false
+      → old.gone.now ≡ [] → (HasNewKeys (hand_list old.main) cell → Expires it ic ot oc old.main.config.now old.main.hand.now cell old.main.entry_id.moment true) → HasToEnd old (with_main old main) cell false
   ends_timed_out old main cell nests gained empty asked = record {
     works = works_asked log faults old main cell true nests gained empty;
     gained = gained;
@@ -79,6 +79,20 @@ module _ {P I O : Type 0} {g : _} (log : P → Option (List PortCall)) (faults :
     ports_are = refl;
     timed_out = λ is. asked;
   }
+
+  -- a call that might be ended still may be
+  pub then_can : (old now : BoardTurn P I O g) (cell : ℕ) (said : Bool) (ends : HasToEnd old now cell said) (number call : ℕ)
+      → CanEnd old.main.config.now old.main.hand.now old.board.now (log old.ports.now) number → call ≡ number → MayEnd log now call
+  then_can old now cell said ends number call can call_is =
+      let hand = now.main.hand.now in
+      let same = same_config old.main now.main ends.works.stays.nests in
+      let whole = subst (λ (board : Board). IsWholeWith old.main.config.now hand (board_shape board)) ends.board_is
+      (subst (λ (config : Config). IsWholeWith config hand (board_shape now.board.now)) same (ends.works.whole can.whole)) in
+      subst (λ (config : Config). CanEnd config hand now.board.now (log now.ports.now) call) (sym same)
+      (subst (λ (board : Board). CanEnd old.main.config.now hand board (log now.ports.now) call) (sym ends.board_is)
+      (subst (λ (ports : P). CanEnd old.main.config.now hand old.board.now (log ports) call) (sym ends.ports_are)
+      (asked_can old.main.config.now old.main.entry_id.number old.main.entry_id.moment cell said old.main.hand.now now.main.hand.now old.board.now (log old.ports.now) call number
+      can call_is ends.works.stays.nests.same.1 ends.gained whole)))
 
   module _ (old now : BoardTurn P I O g) (cell : ℕ) (said : Bool) (ends : HasToEnd old now cell said) (of : Call) (legs : List Holder) (cell_is : cell ≡ of.cell) where
     -- so it is still the call, and may be ended
@@ -89,18 +103,6 @@ module _ {P I O : Type 0} {g : _} (log : P → Option (List PortCall)) (faults :
         (subst (λ (board : Board). IsCallOf old.main.config.now l board call of legs) (sym ends.board_is)
         (asked_call old.main.config.now old.main.entry_id.number old.main.entry_id.moment cell said old.main.hand.now now.main.hand.now old.board.now call of legs
         is call_is cell_is ends.gained))
-
-    pub then_can : (call : ℕ) → CanEnd old.main.config.now old.main.hand.now old.board.now (log old.ports.now) of.number → call ≡ of.number → MayEnd log now call
-    then_can call can call_is =
-        let hand = now.main.hand.now in
-        let same = same_config old.main now.main ends.works.stays.nests in
-        let whole = subst (λ (board : Board). IsWholeWith old.main.config.now hand (board_shape board)) ends.board_is
-        (subst (λ (config : Config). IsWholeWith config hand (board_shape now.board.now)) same (ends.works.whole can.whole)) in
-        subst (λ (config : Config). CanEnd config hand now.board.now (log now.ports.now) call) (sym same)
-        (subst (λ (board : Board). CanEnd old.main.config.now hand board (log now.ports.now) call) (sym ends.board_is)
-        (subst (λ (ports : P). CanEnd old.main.config.now hand old.board.now (log ports) call) (sym ends.ports_are)
-        (asked_can old.main.config.now old.main.entry_id.number old.main.entry_id.moment cell said old.main.hand.now now.main.hand.now old.board.now (log old.ports.now) call of.number
-        can call_is ends.works.stays.nests.same.1 ends.gained whole)))
 
     -- and with its end all is done that is owed for it
     pub then_gained : (main : MainHand I O g) (overdue : Bool) → said ≡ overdue → MakesNested (ending_of now.main.config.now of legs) now.main main

@@ -13,7 +13,7 @@ use Rattle.port_pool.specs.declared.pairs.Lease.{Lease}
 use Rattle.port_pool.specs.Pools.{Pairs}
 use Rattle.port_pool.specs.Ports.{pair_count}
 use Rattle.call_cell.specs.Cells.{End}
-use Rattle.call_cell.specs.Shapes.{CellLegShape}
+use Rattle.call_cell.specs.Shapes.{CellLegShape, IsSmall}
 use Rattle.call_board.specs.declared.board.Board.{Board}
 use Rattle.call_board.specs.declared.live_call.LiveCall.{LiveCall}
 use Rattle.call_board.specs.Boards.{AreOut, IsLive, pairs_in}
@@ -22,7 +22,7 @@ use Rattle.call_board.specs.Shapes.{BoardShape, LiveShape, ShapeEnds, board_shap
 use Rattle.call_shapes.specs.Agreement.{IsLegOf}
 use Rattle.call_shapes.specs.OfferFits.{cell_holders}
 use Rattle.call_shapes.specs.Turns.{RelayShape, IsWholeRelay}
-use Rattle.call_shapes.proofs.Needs.{leg_is_open, cell_within}
+use Rattle.call_shapes.proofs.Needs.{leg_is_open, cell_within, cell_is_small}
 use Rattle.call_shapes.proofs.NumberedSteps.{numbered_all_out}
 use Rattle.call_shapes.proofs.Numbered.{numbered}
 use Rattle.relay_core.specs.declared.part.Part.{Part}
@@ -67,6 +67,25 @@ live_in number (call ∷ calls) is = live_case number call calls (live_in number
 pub live_found : (board : Board) (number : ℕ) → IsLive board number → (call : LiveShape) × (shape_numbered (board_shape board) number ≡ Some call)
 live_found board number is = live_in number board.calls.list is
 
+-- and what has a shape is live
+find_case : (number : ℕ) (c : LiveCall) (calls : List LiveCall) (call : LiveShape)
+    → (first (filter (λ (x : LiveShape). x.number == number) (live_shapes calls)) ≡ Some call → list_any (λ (x : LiveCall). x.number == number) calls ≡ true)
+    → (t : Bool) → (c.number == number) ≡ t → first (filter (λ (x : LiveShape). x.number == number) (live_shapes (c ∷ calls))) ≡ Some call
+    → list_any (λ (x : LiveCall). x.number == number) (c ∷ calls) ≡ true
+find_case number c calls call rest true q is = ap (λ (b : Bool). b || list_any (λ (x : LiveCall). x.number == number) calls) q
+find_case number c calls call rest false q is =
+    let others = filter (λ (x : LiveShape). x.number == number) (live_shapes calls) in
+    ap (λ (b : Bool). b || list_any (λ (x : LiveCall). x.number == number) calls) q
+    ∙ rest (sym (ap (λ (b : Bool). first (cond b (live_shape c ∷ others) others)) q) ∙ is)
+
+find_live : (number : ℕ) (calls : List LiveCall) (call : LiveShape) → first (filter (λ (x : LiveShape). x.number == number) (live_shapes calls)) ≡ Some call
+    → list_any (λ (x : LiveCall). x.number == number) calls ≡ true
+find_live number [] call is = absurd (let wrong : None ≡ Some call = is in cc)
+find_live number (c ∷ calls) call is = find_case number c calls call (λ q. find_live number calls call q) (c.number == number) refl is
+
+pub found_live : (board : Board) (number : ℕ) (call : LiveShape) → shape_numbered (board_shape board) number ≡ Some call → IsLive board number
+found_live board number call is = find_live number board.calls.list call is
+
 -- Its legs.
 
 -- the leases of a cell's legs are those by which the legs hold their pairs
@@ -92,6 +111,26 @@ out_leased config pool (lease ∷ leases) out below =
     record { differ = (below lease.pair (here refl), out.1, (out_leased config pool leases out.2 (λ pair i. below pair (there i))).differ) }
 
 module _ {M I O T : Type 0} {g : _} where
+  -- its cell is one of the table's, and has few legs
+  pub ending_cell : (config : Config) (hand : Hand M (Part I O) Made T g) (before after : Board) (log : Option (List PortCall)) (call cell : ℕ)
+      → CanEnd config hand before log call → ShapeEnds call cell (board_shape before) (board_shape after)
+      → (1 ≤ cell) × (cell ≤ config.max_sessions) × IsSmall (cell_kept config hand cell).legs
+  ending_cell config hand before after log call cell can ends =
+      let k = can.live in
+      let board = board_shape before in
+      let relay = relay_after config (starts hand) (made_by hand) board in
+      let found_both : Some ends.call ≡ Some k = sym ends.found ∙ can.found in
+      let one : ends.call ≡ k = cc in
+      let cell_is : cell ≡ k.cell = ends.cell_is ∙ ap (λ (c : LiveShape). c.cell) one in
+      let alive = found_in board call k can.found in
+      let within = cell_within config board relay.cells relay.holders k can.whole alive in
+      let low = within.0 in
+      let high = within.1 in (
+        omega (arith, low, cell_is),
+        omega (arith, high, cell_is),
+        subst (λ (c : ℕ). IsSmall (cell_kept config hand c).legs) (sym cell_is) (cell_is_small config board relay.cells relay.holders k can.whole alive),
+      )
+
   -- they may be closed when it has ended
   pub ended_can : (config : Config) (number moment : ℕ) (old new : Hand M (Part I O) Made T g) (before after : Board) (log : Option (List PortCall)) (call cell : ℕ)
       (gone : List (Lease × O × O)) → CanEnd config old before log call → ShapeEnds call cell (board_shape before) (board_shape after) → starts new ≡ starts old

@@ -24,7 +24,7 @@ use Rattle.board_turns.specs.Controls.{RequestRecord}
 use Rattle.board_turns.specs.Ties.{PortsFollowRows}
 use Rattle.board_turns.specs.Closings.{CanClose}
 use Rattle.board_turns.specs.CallEnds.{CanEnd, IsCallOf, leg_pairs}
-use Rattle.board_turns.specs.Ticks.{CanExpire}
+use Rattle.board_turns.specs.Ticks.{CanAsk, CanExpire}
 use Rattle.media_ports.specs.OpenPorts.{LogsHeld}
 
 module _ {I O : Type 0} {g : _} where
@@ -81,6 +81,9 @@ module _ {P I O : Type 0} {g : _} (log : P → Option (List PortCall)) where
 
   abbrev pub MayEnd : BoardTurn P I O g → ℕ → Type 0
   MayEnd turn call = CanEnd turn.main.config.now turn.main.hand.now turn.board.now (log turn.ports.now) call
+
+  abbrev pub MayAsk : BoardTurn P I O g → ℕ → Type 0
+  MayAsk turn index = CanAsk turn.main.config.now turn.main.hand.now turn.board.now (log turn.ports.now) index
 
   abbrev pub MayExpire : BoardTurn P I O g → ℕ → Call → List Holder → (overdue : Bool) → Type 0
   MayExpire turn index of legs overdue =

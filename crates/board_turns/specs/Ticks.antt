@@ -19,7 +19,7 @@ use Rattle.call_board.specs.Futures.{closed_pairs}
 use Rattle.call_board.specs.Pairs.{held}
 use Rattle.call_board.specs.Boards.{BoardMatches}
 use Rattle.call_board.specs.Views.{View, CallView, call_numbered, board_last_moment}
-use Rattle.call_board.specs.Shapes.{BoardShape}
+use Rattle.call_board.specs.Shapes.{BoardShape, LiveShape, board_shape}
 use Rattle.relay_core.specs.declared.part.Part.{Part}
 use Rattle.relay_core.specs.Entries as event
 use Rattle.relay_core.specs.Entries.{Entry, cell_history}
@@ -79,8 +79,13 @@ pub record EndsRightly (config : Config) (h : List BoardEntry) (l : List Entry) 
   pub when_timed_out : is_due_at h c.number moment ≡ false → IsDueBy config l c.cell moment ends
 
 module _ {M I O T : Type 0} {g : _} where
-  -- The call at this place among the live ones, in order of their creation from 0, may be ended; its legs by the list; and whether it is
-  -- ending and due at this moment
+  -- The call at this place among the live ones, in order of their creation from 0, may be ended, by what the board, the cells and the boxes keep
+  pub record CanAsk (config : Config) (hand : Hand M (Part I O) Made T g) (board : Board) (log : Option (List PortCall)) (index : ℕ) : Type 0 where
+    pub live : LiveShape
+    pub at : slice_get (board_shape board).calls index ≡ Some live
+    pub can : CanEnd config hand board log live.number
+
+  -- The call at this place among the live ones may be ended; its legs by the list; and whether it is ending and due at this moment
   pub record CanExpire (config : Config) (hand : Hand M (Part I O) Made T g) (board : Board) (log : Option (List PortCall)) (moment index : ℕ) (of : Call)
       (legs : List Holder) (overdue : Bool) : Type 0 where
     pub can : CanEnd config hand board log of.number

@@ -7,6 +7,7 @@ ghost use Rattle.call_board.specs.Acts.{Call};
 ghost use Rattle.call_board.specs.Boards.{BoardMatches, CellsApart};
 ghost use Rattle.call_board.specs.Views.{View};
 ghost use Rattle.media_ports.specs.OpenPorts.{OpensHeld};
+ghost use Rattle.media_ports.specs.Openings.{NoneOpened};
 ghost use Rattle.board_turns.specs.Closings.{pairs_left};
 ghost use Rattle.board_turns.specs.CallEnds.{ClosesTheirs, ending_of, leg_pairs, with_call_ended};
 ghost use Rattle.board_turns.specs.BoardTurns.{CanNest, IsTurnCall, MakesNested, MayEnd, Works};
@@ -23,7 +24,6 @@ use std::sync::Wait;
 pub fn end_call<P: PortMaker, R: Wait>(rt: &R, turn: &mut BoardTurn<P>, call: u64)
     requires may { CanNest turn.old.main }
     requires can { MayEnd P.log turn.old call }
-    requires of { (of : Call) × (legs : List Holder) × IsTurnCall turn.old call of legs }
     requires empty { turn.old.gone.now ≡ [] }
     ensures works { Works P.log P.faults turn.old turn.new }
     ensures gained { (of : Call) (legs : List Holder) → IsTurnCall turn.old call of legs →
@@ -35,6 +35,7 @@ pub fn end_call<P: PortMaker, R: Wait>(rt: &R, turn: &mut BoardTurn<P>, call: u6
     ensures open { (of : Call) (legs : List Holder) → IsTurnCall turn.old call of legs →
         (held : List ℕ) → WhereLogged (P.log turn.old.ports.now) (λ calls. OpensHeld turn.old.main.config.now calls held) →
         WhereLogged (P.log turn.new.ports.now) (λ calls. OpensHeld turn.old.main.config.now calls (pairs_left (leg_pairs legs) held)) }
+    ensures none { Gained (P.log turn.old.ports.now) (P.log turn.new.ports.now) NoneOpened }
 {
     let cell = turn.board.end_call(call);
     end_cell(rt, &mut turn.main, cell, turn.gone);

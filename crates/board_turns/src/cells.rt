@@ -5,7 +5,7 @@ ghost use Rattle.histories.specs.Words.{In};
 ghost use Rattle.port_pool.specs.declared.reports.LegReport.{LegReport};
 ghost use Rattle.port_pool.specs.Reports.{CountsFit};
 ghost use Rattle.call_cell.specs.Cells.{Expire, Read, End};
-ghost use Rattle.call_cell.specs.Shapes.{CellLegShape};
+ghost use Rattle.call_cell.specs.Shapes.{CellLegShape, IsSmall};
 ghost use Rattle.relay_core.specs.Entries.{Cell};
 ghost use Rattle.relay_core.specs.PlaceHistories.{GoneHome};
 ghost use Rattle.board_turns.specs.NestedSteps.{gone_left, AddsRow};
@@ -39,13 +39,13 @@ pub fn end_cell<I: InEnd, O: OutEnd, R: Wait>(
 )
     requires may { CanNest main.old }
     requires cell { (1 ≤ cell) × (cell ≤ main.old.config.now.max_sessions) }
-    requires keys { HasNewKeys (hand_list main.old) cell }
+    requires small { IsSmall (cell_kept main.old.config.now main.old.hand.now cell).legs }
     requires empty { gone.old ≡ [] }
     ensures nests { Nests main.old main.new }
     ensures gained { MakesNested (in_cell_of cell End ∷ []) main.old main.new }
     ensures row { AddsRow cell (Cell End) (gone_left O.log gone.new) main.old.hand.now main.new.hand.now }
-    ensures ended { Ends I.log I.faults O.log O.faults main.old.config.now main.old.hand.now cell gone.new }
-    ensures went { AllRemoved main.old.config.now (hand_list main.old) cell gone.new }
+    ensures ended { HasNewKeys (hand_list main.old) cell → Ends I.log I.faults O.log O.faults main.old.config.now main.old.hand.now cell gone.new }
+    ensures went { HasNewKeys (hand_list main.old) cell → AllRemoved main.old.config.now (hand_list main.old) cell gone.new }
     ensures left { let kept = cell_kept main.old.config.now main.old.hand.now cell in AllHaveEnds kept →
         leases_of_legs gone.new ≡ map (λ (leg : CellLegShape). leg.lease) kept.legs }
     ensures home { GoneHome O.log main.old.config.now gone.new }
@@ -71,10 +71,9 @@ pub fn expire_cell<I: InEnd, O: OutEnd, R: Wait>(
 ) -> bool
     requires may { CanNest main.old }
     requires cell { (1 ≤ cell) × (cell ≤ main.old.config.now.max_sessions) }
-    requires keys { HasNewKeys (hand_list main.old) cell }
     ensures nests { Nests main.old main.new }
     ensures gained { MakesNested (in_cell_of cell (Expire result) ∷ []) main.old main.new }
-    ensures asked { Expires I.log I.faults O.log O.faults main.old.config.now main.old.hand.now cell main.old.entry_id.moment result }
+    ensures asked { HasNewKeys (hand_list main.old) cell → Expires I.log I.faults O.log O.faults main.old.config.now main.old.hand.now cell main.old.entry_id.moment result }
 {
     let mut step = main
         .turns

@@ -9,7 +9,7 @@ ghost use Rattle.call_board.specs.Boards.{BoardFor, BoardMatches, CellsApart};
 ghost use Rattle.call_board.specs.Views.{View};
 ghost use Rattle.media_ports.specs.Openings.{NoneOpened};
 ghost use Rattle.media_ports.specs.OpenPorts.{OpensHeld};
-ghost use Rattle.board_turns.specs.BoardTurns.{Begins, CanNest, MakesNested, MayExpire, Rests, RestsAgain, Works, hand_list, past_of};
+ghost use Rattle.board_turns.specs.BoardTurns.{Begins, CanNest, MakesNested, MayAsk, MayExpire, Rests, RestsAgain, Works, hand_list, past_of};
 ghost use Rattle.board_turns.specs.Closings.{pairs_left};
 ghost use Rattle.board_turns.specs.CallEnds.{leg_pairs};
 ghost use Rattle.board_turns.specs.Ticks.{EndsDue, IsDueBy, Ticks, asking_of, tick_at, with_asked};
@@ -27,7 +27,7 @@ use std::sync::Wait;
 /// says that it has timed out. Returns whether it ended.
 fn expire_call<P: PortMaker, R: Wait>(rt: &R, turn: &mut BoardTurn<P>, index: usize) -> bool
     requires may { CanNest turn.old.main }
-    requires can { (of : Call) × (legs : List Holder) × (overdue : Bool) × MayExpire P.log turn.old index of legs overdue }
+    requires can { MayAsk P.log turn.old index }
     requires empty { turn.old.gone.now ≡ [] }
     ensures works { Works P.log P.faults turn.old turn.new }
     ensures gained { (of : Call) (legs : List Holder) (overdue : Bool) → MayExpire P.log turn.old index of legs overdue →

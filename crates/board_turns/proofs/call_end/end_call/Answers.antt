@@ -8,7 +8,6 @@ use Rattle.call_cell.specs.Cells.{End}
 use Rattle.call_board.specs.Boards.{BoardMatches, pairs_in}
 use Rattle.call_board.specs.Shapes.{board_shape}
 use Rattle.call_board.specs.Views.{with_returned, without_call}
-use Rattle.call_board.proofs.Found.{found_is_live}
 use Rattle.relay_core.specs.Entries.{Cell}
 use Rattle.relay_core.specs.Scripts.{Owed}
 use Rattle.relay_core.specs.PlaceHistories.{GoneHome}
@@ -24,14 +23,13 @@ use Rattle.board_turns.specs.Closings.{CanClose, ClosesLegs, closings_of, leases
 use Rattle.board_turns.specs.CallEnds.{ClosesTheirs, ending_of}
 use Rattle.board_turns.proofs.KeptEnds.{end_keeps_whole}
 use Rattle.board_turns.proofs.Ended.{cell_is, went_are, pairs_are, closings_are}
-use Rattle.board_turns.proofs.WholeCalls.{ended_can, out_leased}
+use Rattle.board_turns.proofs.WholeCalls.{found_live, ending_cell, ended_can, out_leased}
 use Rattle.board_turns.proofs.Tying.{legs_leave, ties_gone}
+use Rattle.board_turns.proofs.Unopened.{gone_open_none}
 use Rattle.board_turns.proofs.call_end.end_call.Goals as goal
 
 pub end_call-cell-requires : goal.end_call-cell-requires
-end_call-cell-requires g c =
-    let of = c.requires.of.2 in
-    found_is_live c.args.turn.now.main.config.now c.args.turn.now.board.now of.view c.args.call of.seen of.shows of.found
+end_call-cell-requires g c = found_live c.args.turn.now.board.now c.args.call c.requires.can.live c.requires.can.found
 
 pub end_cell-requires-clause-may : goal.end_cell-requires-clause-may
 end_cell-requires-clause-may g c =
@@ -39,19 +37,16 @@ end_cell-requires-clause-may g c =
 
 pub end_cell-requires-clause-cell : goal.end_cell-requires-clause-cell
 end_cell-requires-clause-cell g c =
-    let can = c.requires.of.2 in
-    let is = cell_is c.args.turn.now.main.config.now (made_by c.args.turn.now.main.hand.now) c.args.turn.now.board.now c.args.call c.requires.of.0 c.requires.of.1
-    c.end_call-cell.result can c.end_call-cell.ensures.cell in
-    let low = can.low in
-    let high = can.high in
-    (omega (arith, is, low), omega (arith, is, high))
+    let turn = c.args.turn.now in
+    let ends = ending_cell turn.main.config.now turn.main.hand.now turn.board.now c.end_call-cell.new.self (g.P.PortMaker.log turn.ports.now) c.args.call c.end_call-cell.result
+    c.requires.can c.end_call-cell.ensures.shape in
+    (ends.0, ends.1)
 
-pub end_cell-requires-clause-keys : goal.end_cell-requires-clause-keys
-end_cell-requires-clause-keys g c =
-    let can = c.requires.of.2 in
-    let is = cell_is c.args.turn.now.main.config.now (made_by c.args.turn.now.main.hand.now) c.args.turn.now.board.now c.args.call c.requires.of.0 c.requires.of.1
-    c.end_call-cell.result can c.end_call-cell.ensures.cell in
-    subst (λ (k : ℕ). HasNewKeys (made_by c.args.turn.now.main.hand.now) k) (sym is) can.keys
+pub end_cell-requires-clause-small : goal.end_cell-requires-clause-small
+end_cell-requires-clause-small g c =
+    let turn = c.args.turn.now in
+    (ending_cell turn.main.config.now turn.main.hand.now turn.board.now c.end_call-cell.new.self (g.P.PortMaker.log turn.ports.now) c.args.call c.end_call-cell.result
+    c.requires.can c.end_call-cell.ensures.shape).2
 
 pub end_cell-requires-clause-empty : goal.end_cell-requires-clause-empty
 end_cell-requires-clause-empty g c =
@@ -83,8 +78,9 @@ returns-clause-gained g c of legs can =
     let cell = c.end_call-cell.result in
     let gone = c.end_cell.new.gone in
     let is = cell_is config l c.args.turn.now.board.now c.args.call of legs cell can c.end_call-cell.ensures.cell in
-    let was = c.end_cell.ensures.ended.was in
-    let are = went_are config l c.args.turn.now.board.now c.args.call of legs cell was.number gone can is c.end_cell.ensures.went
+    let keys = subst (λ (k : ℕ). HasNewKeys l k) (sym is) can.keys in
+    let was = (c.end_cell.ensures.ended keys).was in
+    let are = went_are config l c.args.turn.now.board.now c.args.call of legs cell was.number gone can is (c.end_cell.ensures.went keys)
     (above_rows (entries c.args.turn.now.main.hand.now) cell was.number was.given.above) in
     let main = c.args.turn.now.main in
     let mid = c.end_cell.new.main in
@@ -104,8 +100,9 @@ returns-clause-ended g c of legs can other v shows apart =
     let cell = c.end_call-cell.result in
     let gone = c.end_cell.new.gone in
     let is = cell_is config l c.args.turn.now.board.now c.args.call of legs cell can c.end_call-cell.ensures.cell in
-    let was = c.end_cell.ensures.ended.was in
-    let are = went_are config l c.args.turn.now.board.now c.args.call of legs cell was.number gone can is c.end_cell.ensures.went
+    let keys = subst (λ (k : ℕ). HasNewKeys l k) (sym is) can.keys in
+    let was = (c.end_cell.ensures.ended keys).was in
+    let are = went_are config l c.args.turn.now.board.now c.args.call of legs cell was.number gone can is (c.end_cell.ensures.went keys)
     (above_rows (entries c.args.turn.now.main.hand.now) cell was.number was.given.above) in
     subst (λ (ps : List ℕ). BoardMatches other c.close_legs.new.turn.board.now (with_returned (without_call v c.args.call) ps)) (pairs_are config gone legs are)
     (c.close_legs.ensures.returned other (without_call v c.args.call) (c.end_call-cell.ensures.shows other v shows apart))
@@ -118,8 +115,9 @@ returns-clause-closes g c of legs can =
     let cell = c.end_call-cell.result in
     let gone = c.end_cell.new.gone in
     let is = cell_is config l c.args.turn.now.board.now c.args.call of legs cell can c.end_call-cell.ensures.cell in
-    let was = c.end_cell.ensures.ended.was in
-    let are = went_are config l c.args.turn.now.board.now c.args.call of legs cell was.number gone can is c.end_cell.ensures.went
+    let keys = subst (λ (k : ℕ). HasNewKeys l k) (sym is) can.keys in
+    let was = (c.end_cell.ensures.ended keys).was in
+    let are = went_are config l c.args.turn.now.board.now c.args.call of legs cell was.number gone can is (c.end_cell.ensures.went keys)
     (above_rows (entries c.args.turn.now.main.hand.now) cell was.number was.given.above) in
     let same = same_config c.args.turn.now.main c.end_cell.new.main c.end_cell.ensures.nests in
     let after = g.P.PortMaker.log c.close_legs.new.turn.ports.now in
@@ -135,8 +133,9 @@ returns-clause-open g c of legs can held opens =
     let cell = c.end_call-cell.result in
     let gone = c.end_cell.new.gone in
     let is = cell_is config l c.args.turn.now.board.now c.args.call of legs cell can c.end_call-cell.ensures.cell in
-    let was = c.end_cell.ensures.ended.was in
-    let are = went_are config l c.args.turn.now.board.now c.args.call of legs cell was.number gone can is c.end_cell.ensures.went
+    let keys = subst (λ (k : ℕ). HasNewKeys l k) (sym is) can.keys in
+    let was = (c.end_cell.ensures.ended keys).was in
+    let are = went_are config l c.args.turn.now.board.now c.args.call of legs cell was.number gone can is (c.end_cell.ensures.went keys)
     (above_rows (entries c.args.turn.now.main.hand.now) cell was.number was.given.above) in
     let same = same_config c.args.turn.now.main c.end_cell.new.main c.end_cell.ensures.nests in
     let after = g.P.PortMaker.log c.close_legs.new.turn.ports.now in
@@ -147,18 +146,10 @@ returns-clause-open g c of legs can held opens =
 
 pub returns-clause-works : goal.returns-clause-works
 returns-clause-works g c =
-    let of = c.requires.of.0 in
-    let legs = c.requires.of.1 in
-    let can = c.requires.of.2 in
     let config = c.args.turn.now.main.config.now in
     let log = g.P.PortMaker.log c.args.turn.now.ports.now in
-    let l = made_by c.args.turn.now.main.hand.now in
     let cell = c.end_call-cell.result in
     let gone = c.end_cell.new.gone in
-    let is = cell_is config l c.args.turn.now.board.now c.args.call of legs cell can c.end_call-cell.ensures.cell in
-    let was = c.end_cell.ensures.ended.was in
-    let are = went_are config l c.args.turn.now.board.now c.args.call of legs cell was.number gone can is c.end_cell.ensures.went
-    (above_rows (entries c.args.turn.now.main.hand.now) cell was.number was.given.above) in
     let same = same_config c.args.turn.now.main c.end_cell.new.main c.end_cell.ensures.nests in
     let after = g.P.PortMaker.log c.close_legs.new.turn.ports.now in
     let main = c.args.turn.now.main in
@@ -187,3 +178,8 @@ returns-clause-works g c =
           (end_keeps_whole config main.entry_id.number main.entry_id.moment main.hand.now new.hand.now nests.same.1
           (board_shape c.args.turn.now.board.now) (board_shape c.end_call-cell.new.self) (board_shape c.close_legs.new.turn.board.now) c.args.call cell gone c.end_call-cell.ensures.shape gains c.end_cell.ensures.left c.close_legs.ensures.pool w);
     }
+
+pub returns-clause-none : goal.returns-clause-none
+returns-clause-none g c =
+    gone_open_none g.P.Out.OutEnd.log c.end_cell.new.main.config.now c.end_cell.new.gone (g.P.PortMaker.log c.args.turn.now.ports.now)
+    (g.P.PortMaker.log c.close_legs.new.turn.ports.now) c.close_legs.ensures.closes

@@ -1,14 +1,16 @@
-use Rattle.std.proofs.Common.{refl, arith, ◌∙◌, sym, subst}
+use Rattle.std.proofs.Common.{◌≡◌, refl, arith, ◌∙◌, sym, subst}
 use Rattle.call_cell.specs.Cells.{End}
+use Rattle.call_cell.specs.Shapes.{cell_shape}
 use Rattle.relay_core.specs.Entries.{Cell}
 use Rattle.board_turns.specs.NestedSteps.{gone_left, leaving}
 use Rattle.board_turns.specs.InCells.{moment_of_cell}
+use Rattle.board_turns.specs.Departures.{cell_kept}
 use Rattle.relay_core.specs.PlaceHistories.{IsCellPart}
 use Rattle.relay_core.specs.declared.part.Part.TheVariants as part
 use Rattle.board_turns.proofs.Nesting.{above_rows, turn_gained, turn_row, turn_may, may_turn, turn_same}
-use Rattle.board_turns.proofs.Celling.{is_cell, cell_given, ends_by, end_relates, ends_part, held_small}
+use Rattle.board_turns.proofs.Celling.{cell_given, cell_held, shaped_cell, shape_of, small_by, ends_by, end_relates, ends_part}
 use Rattle.board_turns.proofs.Leaving.{ended_went}
-use Rattle.board_turns.proofs.KeptLegs.{ended_left}
+use Rattle.board_turns.proofs.KeptLegs.{ended_leases}
 use Rattle.board_turns.proofs.Homing.{ended_home}
 use Rattle.board_turns.proofs.cells.end_cell.Goals as goal
 
@@ -27,26 +29,27 @@ returns-clause-row g c =
     c.turn-step.ensures.same c.turn-step.ensures.turn.0 c.put_step.ensures.entry
 
 pub returns-clause-ended : goal.returns-clause-ended
-returns-clause-ended g c =
+returns-clause-ended g c keys =
     ends_by g.I.InEnd.log g.I.InEnd.faults g.O.OutEnd.log g.O.OutEnd.faults c.args.main.now.config.now c.args.main.now.hand.now c.args.cell c.turn-step.result.front c.turn-step.result.taken.value
     (part.Cell c.end.new.self) c.end.new.gone
     (cell_given g.I.InEnd.log g.I.InEnd.faults g.O.OutEnd.log g.O.OutEnd.faults c.args.main.now.config.now c.args.main.now.turns.now c.args.main.now.hand.now c.args.cell c.cell_place.result
-    c.turn-step.result.front _ c.turn-step.result.taken.value c.requires.may c.requires.cell.0 c.requires.cell.1 c.requires.keys c.cell_place.ensures c.turn-step.ensures.turn.0.1
+    c.turn-step.result.front _ c.turn-step.result.taken.value c.requires.may c.requires.cell.0 c.requires.cell.1 keys c.cell_place.ensures c.turn-step.ensures.turn.0.1
     c.turn-step.ensures.turn.1)
     (ends_part c.turn-step.result.taken.value c.in-Cell.held c.end.new.self c.end.new.gone (c.turn-step.ensures.turn.0.1 ∙ sym c.state.ensures.value ∙ c.in-Cell.is) c.end.ensures.ends)
 
 pub returns-clause-went : goal.returns-clause-went
-returns-clause-went g c = ended_went g.I.InEnd.log g.I.InEnd.faults g.O.OutEnd.log g.O.OutEnd.faults c.args.main.now.config.now c.args.main.now.hand.now c.args.cell c.end.new.gone (returns-clause-ended g c)
+returns-clause-went g c keys = ended_went g.I.InEnd.log g.I.InEnd.faults g.O.OutEnd.log g.O.OutEnd.faults c.args.main.now.config.now c.args.main.now.hand.now c.args.cell c.end.new.gone (returns-clause-ended g c keys)
+
+-- what the cell keeps
+is_kept : (g : _) (c : goal.After-put_step g) → cell_shape c.in-Cell.held ≡ cell_kept c.args.main.now.config.now c.args.main.now.hand.now c.args.cell
+is_kept g c =
+    shape_of c.state.result.now c.in-Cell.held _ c.in-Cell.is (cell_held g.I.InEnd.log g.I.InEnd.faults g.O.OutEnd.log g.O.OutEnd.faults c.args.main.now.config.now c.args.main.now.turns.now c.args.main.now.hand.now c.args.cell c.cell_place.result
+    c.turn-step.result.front _ c.state.result.now c.requires.may c.requires.cell.0 c.requires.cell.1 c.cell_place.ensures c.state.ensures.value
+    c.turn-step.ensures.turn.1)
 
 pub returns-clause-left : goal.returns-clause-left
 returns-clause-left g c =
-    ended_left g.I.InEnd.log g.I.InEnd.faults g.O.OutEnd.log g.O.OutEnd.faults c.args.main.now.config.now c.args.main.now.turns.now c.args.main.now.hand.now c.args.cell c.end.new.gone c.requires.may c.requires.cell.0 c.requires.cell.1
-    (returns-clause-ended g c)
-
-pub returns-clause-home : goal.returns-clause-home
-returns-clause-home g c =
-    ended_home g.I.InEnd.log g.I.InEnd.faults g.O.OutEnd.log g.O.OutEnd.faults c.args.main.now.config.now c.args.main.now.turns.now c.args.main.now.hand.now c.args.cell c.end.new.gone c.requires.may c.requires.cell.0 c.requires.cell.1
-    c.requires.keys (returns-clause-ended g c)
+    ended_leases c.in-Cell.held _ c.end.new.gone (is_kept g c) (c.end.ensures.legs (small_by c.in-Cell.held _ (is_kept g c) c.requires.small))
 
 pub cell_place-requires : goal.cell_place-requires
 cell_place-requires g c =
@@ -65,17 +68,15 @@ turn-step-requires-clause-place g c =
 
 pub unreachable-requires : goal.unreachable-requires
 unreachable-requires g c =
-    let is = cell_given g.I.InEnd.log g.I.InEnd.faults g.O.OutEnd.log g.O.OutEnd.faults c.args.main.now.config.now c.args.main.now.turns.now c.args.main.now.hand.now c.args.cell c.cell_place.result
-    c.turn-step.result.front _ c.state.result.now c.requires.may c.requires.cell.0 c.requires.cell.1 c.requires.keys c.cell_place.ensures c.state.ensures.value
-    c.turn-step.ensures.turn.1 in
-    subst IsCellPart c.in-Board.is (is_cell c.args.main.now.config.now c.state.result.now _ is.1)
+    subst IsCellPart c.in-Board.is (shaped_cell c.state.result.now _ (cell_held g.I.InEnd.log g.I.InEnd.faults g.O.OutEnd.log g.O.OutEnd.faults c.args.main.now.config.now c.args.main.now.turns.now c.args.main.now.hand.now c.args.cell c.cell_place.result
+    c.turn-step.result.front _ c.state.result.now c.requires.may c.requires.cell.0 c.requires.cell.1 c.cell_place.ensures c.state.ensures.value
+    c.turn-step.ensures.turn.1))
 
 pub unreachable-requires-in-Pair : goal.unreachable-requires-in-Pair
 unreachable-requires-in-Pair g c =
-    let is = cell_given g.I.InEnd.log g.I.InEnd.faults g.O.OutEnd.log g.O.OutEnd.faults c.args.main.now.config.now c.args.main.now.turns.now c.args.main.now.hand.now c.args.cell c.cell_place.result
-    c.turn-step.result.front _ c.state.result.now c.requires.may c.requires.cell.0 c.requires.cell.1 c.requires.keys c.cell_place.ensures c.state.ensures.value
-    c.turn-step.ensures.turn.1 in
-    subst IsCellPart c.in-Pair.is (is_cell c.args.main.now.config.now c.state.result.now _ is.1)
+    subst IsCellPart c.in-Pair.is (shaped_cell c.state.result.now _ (cell_held g.I.InEnd.log g.I.InEnd.faults g.O.OutEnd.log g.O.OutEnd.faults c.args.main.now.config.now c.args.main.now.turns.now c.args.main.now.hand.now c.args.cell c.cell_place.result
+    c.turn-step.result.front _ c.state.result.now c.requires.may c.requires.cell.0 c.requires.cell.1 c.cell_place.ensures c.state.ensures.value
+    c.turn-step.ensures.turn.1))
 
 pub put_step-requires-clause-table : goal.put_step-requires-clause-table
 put_step-requires-clause-table g c =
@@ -87,11 +88,12 @@ put_step-requires-clause-turn g c =
 
 pub put_step-requires-clause-step : goal.put_step-requires-clause-step
 put_step-requires-clause-step g c =
-    let is = cell_given g.I.InEnd.log g.I.InEnd.faults g.O.OutEnd.log g.O.OutEnd.faults c.args.main.now.config.now c.args.main.now.turns.now c.args.main.now.hand.now c.args.cell c.cell_place.result
-    c.turn-step.result.front _ c.state.result.now c.requires.may c.requires.cell.0 c.requires.cell.1 c.requires.keys c.cell_place.ensures c.state.ensures.value
-    c.turn-step.ensures.turn.1 in
+    let kept = shape_of c.state.result.now c.in-Cell.held _ c.in-Cell.is (cell_held g.I.InEnd.log g.I.InEnd.faults g.O.OutEnd.log g.O.OutEnd.faults c.args.main.now.config.now c.args.main.now.turns.now c.args.main.now.hand.now c.args.cell c.cell_place.result
+    c.turn-step.result.front _ c.state.result.now c.requires.may c.requires.cell.0 c.requires.cell.1 c.cell_place.ensures c.state.ensures.value
+    c.turn-step.ensures.turn.1) in
     end_relates g.I.InEnd.log g.I.InEnd.faults g.O.OutEnd.log g.O.OutEnd.faults c.turn-step.result.taken.value c.in-Cell.held c.end.new.self c.end.new.gone
-    c.args.main.now.entry_id.number c.args.main.now.entry_id.moment (c.turn-step.ensures.turn.0.1 ∙ sym c.state.ensures.value ∙ c.in-Cell.is) (c.end.ensures.shape (held_small c.args.main.now.config.now c.state.result.now c.in-Cell.held _ c.in-Cell.is is.1)) c.end.ensures.none c.end.ensures.legs c.end.ensures.ends
+    c.args.main.now.entry_id.number c.args.main.now.entry_id.moment (c.turn-step.ensures.turn.0.1 ∙ sym c.state.ensures.value ∙ c.in-Cell.is)
+    (c.end.ensures.shape (small_by c.in-Cell.held _ kept c.requires.small)) c.end.ensures.none c.end.ensures.legs c.end.ensures.ends
 
 pub returns-clause-nests : goal.returns-clause-nests
 returns-clause-nests g c =

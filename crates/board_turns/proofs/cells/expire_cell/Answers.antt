@@ -7,7 +7,7 @@ use Rattle.relay_core.specs.PlaceHistories.{IsCellPart}
 use Rattle.board_turns.specs.NestedSteps.{nested}
 use Rattle.relay_core.specs.declared.part.Part.TheVariants as part
 use Rattle.board_turns.proofs.Nesting.{above_rows, turn_gained, turn_may, may_turn, turn_same}
-use Rattle.board_turns.proofs.Celling.{is_cell, cell_given, expires_by, expire_relates, expires_part}
+use Rattle.board_turns.proofs.Celling.{cell_given, cell_held, shaped_cell, expires_by, expire_relates, expires_part}
 use Rattle.board_turns.proofs.cells.expire_cell.Goals as goal
 
 pub returns-clause-gained : goal.returns-clause-gained
@@ -19,11 +19,11 @@ returns-clause-gained g c =
     c.turn-step.ensures.turn.0 c.put_step.ensures.entry
 
 pub returns-clause-asked : goal.returns-clause-asked
-returns-clause-asked g c =
+returns-clause-asked g c keys =
     expires_by g.I.InEnd.log g.I.InEnd.faults g.O.OutEnd.log g.O.OutEnd.faults c.args.main.now.config.now c.args.main.now.hand.now c.args.cell c.turn-step.result.front c.args.main.now.entry_id.moment c.turn-step.result.taken.value
     (part.Cell c.expire-due.new.self) c.expire-due.result
     (cell_given g.I.InEnd.log g.I.InEnd.faults g.O.OutEnd.log g.O.OutEnd.faults c.args.main.now.config.now c.args.main.now.turns.now c.args.main.now.hand.now c.args.cell c.cell_place.result
-    c.turn-step.result.front _ c.turn-step.result.taken.value c.requires.may c.requires.cell.0 c.requires.cell.1 c.requires.keys c.cell_place.ensures c.turn-step.ensures.turn.0.1
+    c.turn-step.result.front _ c.turn-step.result.taken.value c.requires.may c.requires.cell.0 c.requires.cell.1 keys c.cell_place.ensures c.turn-step.ensures.turn.0.1
     c.turn-step.ensures.turn.1)
     (expires_part c.turn-step.result.taken.value c.in-Cell.held c.expire-due.new.self c.args.main.now.entry_id.moment c.expire-due.result (c.turn-step.ensures.turn.0.1 ∙ sym c.state.ensures.value ∙ c.in-Cell.is) c.expire-due.ensures.expires)
 
@@ -44,17 +44,15 @@ turn-step-requires-clause-place g c =
 
 pub unreachable-requires : goal.unreachable-requires
 unreachable-requires g c =
-    let is = cell_given g.I.InEnd.log g.I.InEnd.faults g.O.OutEnd.log g.O.OutEnd.faults c.args.main.now.config.now c.args.main.now.turns.now c.args.main.now.hand.now c.args.cell c.cell_place.result
-    c.turn-step.result.front _ c.state.result.now c.requires.may c.requires.cell.0 c.requires.cell.1 c.requires.keys c.cell_place.ensures c.state.ensures.value
-    c.turn-step.ensures.turn.1 in
-    subst IsCellPart c.in-Board.is (is_cell c.args.main.now.config.now c.state.result.now _ is.1)
+    subst IsCellPart c.in-Board.is (shaped_cell c.state.result.now _ (cell_held g.I.InEnd.log g.I.InEnd.faults g.O.OutEnd.log g.O.OutEnd.faults c.args.main.now.config.now c.args.main.now.turns.now c.args.main.now.hand.now c.args.cell c.cell_place.result
+    c.turn-step.result.front _ c.state.result.now c.requires.may c.requires.cell.0 c.requires.cell.1 c.cell_place.ensures c.state.ensures.value
+    c.turn-step.ensures.turn.1))
 
 pub unreachable-requires-in-Pair : goal.unreachable-requires-in-Pair
 unreachable-requires-in-Pair g c =
-    let is = cell_given g.I.InEnd.log g.I.InEnd.faults g.O.OutEnd.log g.O.OutEnd.faults c.args.main.now.config.now c.args.main.now.turns.now c.args.main.now.hand.now c.args.cell c.cell_place.result
-    c.turn-step.result.front _ c.state.result.now c.requires.may c.requires.cell.0 c.requires.cell.1 c.requires.keys c.cell_place.ensures c.state.ensures.value
-    c.turn-step.ensures.turn.1 in
-    subst IsCellPart c.in-Pair.is (is_cell c.args.main.now.config.now c.state.result.now _ is.1)
+    subst IsCellPart c.in-Pair.is (shaped_cell c.state.result.now _ (cell_held g.I.InEnd.log g.I.InEnd.faults g.O.OutEnd.log g.O.OutEnd.faults c.args.main.now.config.now c.args.main.now.turns.now c.args.main.now.hand.now c.args.cell c.cell_place.result
+    c.turn-step.result.front _ c.state.result.now c.requires.may c.requires.cell.0 c.requires.cell.1 c.cell_place.ensures c.state.ensures.value
+    c.turn-step.ensures.turn.1))
 
 pub put_step-requires-clause-table : goal.put_step-requires-clause-table
 put_step-requires-clause-table g c =

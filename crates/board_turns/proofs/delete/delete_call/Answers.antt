@@ -13,40 +13,24 @@ use Rattle.board_turns.specs.Closings.{pairs_left}
 use Rattle.board_turns.specs.CallEnds.{IsCallOf, leg_pairs, with_call_ended}
 use Rattle.board_turns.specs.Stops.{stop_entry}
 use Rattle.board_turns.proofs.Lefts.{told_alike}
-use Rattle.board_turns.proofs.Unopened.{theirs_open_none}
 use Rattle.board_turns.proofs.Deleted.{ends_one, deleted_call, may_delete, deleted_held, deleted_owes, deleted_acts}
 use Rattle.board_turns.proofs.delete.delete_call.Goals as goal
-
-pub end_call-requires-clause-of : goal.end_call-requires-clause-of
-end_call-requires-clause-of g c =
-    let config = c.args.turn.now.main.config.now in
-    let h = board_history (made_by c.args.turn.now.main.hand.now) c.args.turn.now.main.entry_id.number in
-    let of : Call = c.requires.live.0 in
-    let log = g.P.PortMaker.log c.args.turn.now.ports.now in
-    let legs = closed_of h (stop_entry h) of in (
-      of,
-      legs,
-      subst (λ (k : ℕ). IsCallOf config (made_by c.args.turn.now.main.hand.now) c.args.turn.now.board.now k of legs) c.requires.live.2
-          (deleted_call config c.args.turn.now.main.turns.now c.args.turn.now.main.hand.now c.args.turn.now.main.entry_id c.args.turn.now.board.now log (stop_entry h) of c.requires.begins.in_turn c.requires.live.1 c.requires.live.1),
-    )
 
 pub end_call-requires-clause-can : goal.end_call-requires-clause-can
 end_call-requires-clause-can g c =
     let turn = c.args.turn.now in
-    let is = (end_call-requires-clause-of g c).2 in
-    may_delete turn.main.config.now turn.main.turns.now turn.main.hand.now turn.main.entry_id turn.board.now (g.P.PortMaker.log turn.ports.now) c.args.call c.requires.begins.in_turn
-    (found_is_live turn.main.config.now turn.board.now is.view c.args.call is.seen is.shows is.found)
+    let config = turn.main.config.now in
+    let l = made_by turn.main.hand.now in
+    let h = board_history l turn.main.entry_id.number in
+    let of : Call = c.requires.live.0 in
+    let log = g.P.PortMaker.log turn.ports.now in
+    let is = subst (λ (k : ℕ). IsCallOf config l turn.board.now k of (closed_of h (stop_entry h) of)) c.requires.live.2
+    (deleted_call config turn.main.turns.now turn.main.hand.now turn.main.entry_id turn.board.now log (stop_entry h) of c.requires.begins.in_turn c.requires.live.1 c.requires.live.1) in
+    may_delete config turn.main.turns.now turn.main.hand.now turn.main.entry_id turn.board.now log c.args.call c.requires.begins.in_turn
+    (found_is_live config turn.board.now is.view c.args.call is.seen is.shows is.found)
 
 pub returns-clause-closes : goal.returns-clause-closes
-returns-clause-closes g c =
-    let config = c.args.turn.now.main.config.now in
-    let h = board_history (made_by c.args.turn.now.main.hand.now) c.args.turn.now.main.entry_id.number in
-    let of : Call = c.requires.live.0 in
-    let log = g.P.PortMaker.log c.args.turn.now.ports.now in
-    let legs = closed_of h (stop_entry h) of in
-    let can = subst (λ (k : ℕ). IsCallOf config (made_by c.args.turn.now.main.hand.now) c.args.turn.now.board.now k of legs) c.requires.live.2
-    (deleted_call config c.args.turn.now.main.turns.now c.args.turn.now.main.hand.now c.args.turn.now.main.entry_id c.args.turn.now.board.now log (stop_entry h) of c.requires.begins.in_turn c.requires.live.1 c.requires.live.1) in
-    theirs_open_none g.P.Out.OutEnd.log config legs log (g.P.PortMaker.log c.end_call.new.turn.ports.now) (c.end_call.ensures.closes of legs can)
+returns-clause-closes g c = c.end_call.ensures.none
 
 pub returns-clause-does : goal.returns-clause-does
 returns-clause-does g c e of is number alive moment =

@@ -8,7 +8,7 @@ use Rattle.relay_outside.specs.DeviceLogs.{WhereLogged}
 use Rattle.histories.specs.Words.{has}
 use Rattle.port_pool.specs.declared.holder.Holder.{Holder}
 use Rattle.call_board.specs.Acts.{Call}
-use Rattle.call_board.specs.Boards.{BoardMatches}
+use Rattle.call_board.specs.Boards.{BoardMatches, IsLive}
 use Rattle.call_board.specs.Calls.{live}
 use Rattle.call_board.specs.Pairs.{held, closed_of}
 use Rattle.call_board.specs.Shapes.{board_shape}
@@ -31,7 +31,6 @@ use Rattle.board_turns.specs.CallEnds.{CanEnd, IsCallOf, ending_of, leg_pairs, w
 use Rattle.board_turns.specs.Stops.{stop_entry, still_held}
 use Rattle.board_turns.proofs.Lefts.{left_none, left_twice, told_alike}
 use Rattle.board_turns.proofs.Closed.{gains_nothing}
-use Rattle.board_turns.proofs.Unopened.{theirs_open_none}
 use Rattle.board_turns.proofs.Stopped.{nth, spread_more, next_number, one_left, stop_call}
 use Rattle.board_turns.proofs.TakenPairs.{may_end, ended_free}
 use Rattle.board_turns.proofs.stop.end_live.Goals as goal
@@ -58,35 +57,6 @@ pub end_call-requires-clause-empty : goal.end_call-requires-clause-empty
 end_call-requires-clause-empty g c =
     c.loop-ended.invariant.works.empty
 
-pub end_call-requires-clause-of : goal.end_call-requires-clause-of
-end_call-requires-clause-of g c =
-    let config = c.args.turn.now.main.config.now in
-    let number = c.args.turn.now.main.entry_id.number in
-    let moment = c.args.turn.now.main.entry_id.moment in
-    let turn = c.loop-ended.turn in
-    let l = made_by c.args.turn.now.main.hand.now in
-    let h = board_history l number in
-    let e = stop_entry h in
-    let fits = good_history config l c.requires.orderly number in
-    let count = c.live_count-count.ensures.live config (view_of config h) c.requires.board in
-    let long = length-map (live h) (call_view h) in
-    let i = c.loop-ended.ended in
-    let was = c.loop-ended.invariant in
-    let before : i < length (live h) = omega (arith, count, long) in
-    let next = nth (live h) i before in
-    let of : Call = next.0 in
-    let v = with_ended h e (take i (live h)) (view_of config h) in
-    let log = g.P.PortMaker.log turn.ports.now in
-    let legs = closed_of h e of in
-    let first : Some c.call_at-call.result ≡ Some of.number = sym (c.call_at-call.ensures.live config v was.shows) ∙ next_number config h e i of fits next.1 in
-    let same : c.call_at-call.result ≡ of.number = cc in
-    let config_same = same_config c.args.turn.now.main turn.main was.works.stays.nests in
-    let is : IsCallOf turn.main.config.now (made_by turn.main.hand.now) turn.board.now c.call_at-call.result of legs =
-    subst (λ (k : Config). IsCallOf k (made_by turn.main.hand.now) turn.board.now c.call_at-call.result of legs) (sym config_same)
-    (subst (λ (k : ℕ). IsCallOf config (made_by turn.main.hand.now) turn.board.now k of legs) (sym same)
-    (stop_call config number moment c.args.turn.now.main.hand.now turn.main.hand.now i of turn.board.now c.requires.orderly c.requires.above next.1 was.gained was.shows)) in
-    (of, legs, is)
-
 pub end_call-requires-clause-can : goal.end_call-requires-clause-can
 end_call-requires-clause-can g c =
     let old = c.args.turn.now in
@@ -94,16 +64,25 @@ end_call-requires-clause-can g c =
     let turn = c.loop-ended.turn in
     let h = board_history (made_by old.main.hand.now) old.main.entry_id.number in
     let e = stop_entry h in
-    let gone = take c.loop-ended.ended (live h) in
+    let i = c.loop-ended.ended in
+    let gone = take i (live h) in
+    let v = with_ended h e gone (view_of config h) in
     let was = c.loop-ended.invariant in
-    let is = (end_call-requires-clause-of g c).2 in
+    let fits = good_history config (made_by old.main.hand.now) c.requires.orderly old.main.entry_id.number in
+    let count = c.live_count-count.ensures.live config (view_of config h) c.requires.board in
+    let long = length-map (live h) (call_view h) in
+    let before : i < length (live h) = omega (arith, count, long) in
+    let next = nth (live h) i before in
+    let of : Call = next.0 in
+    let first : Some c.call_at-call.result ≡ Some of.number = sym (c.call_at-call.ensures.live config v was.shows) ∙ next_number config h e i of fits next.1 in
+    let number_is : c.call_at-call.result ≡ of.number = cc in
+    let is = stop_call config old.main.entry_id.number old.main.entry_id.moment old.main.hand.now turn.main.hand.now i of turn.board.now c.requires.orderly c.requires.above next.1 was.gained was.shows in
     let same = same_config old.main turn.main was.works.stays.nests in
     subst (λ (k : Config). CanEnd k turn.main.hand.now turn.board.now (g.P.PortMaker.log turn.ports.now) c.call_at-call.result) (sym same)
-    (may_end config turn.main.hand.now turn.board.now (g.P.PortMaker.log turn.ports.now) c.call_at-call.result h (leg_pairs (flat_map (closed_of h e) gone))
-    (with_ended h e gone (view_of config h))
+    (may_end config turn.main.hand.now turn.board.now (g.P.PortMaker.log turn.ports.now) c.call_at-call.result h (leg_pairs (flat_map (closed_of h e) gone)) v
     (subst (λ (k : Config). IsWholeWith k turn.main.hand.now (board_shape turn.board.now)) same (was.works.whole c.requires.whole))
     was.shows (ended_free h e gone (view_of config h))
-    (found_is_live turn.main.config.now turn.board.now is.view c.call_at-call.result is.seen is.shows is.found) was.opens)
+    (subst (λ (k : ℕ). IsLive turn.board.now k) (sym number_is) (found_is_live config turn.board.now is.view of.number is.seen is.shows is.found)) was.opens)
 
 pub loop-ended-preserved : goal.loop-ended-preserved
 loop-ended-preserved g c =
@@ -158,7 +137,7 @@ loop-ended-preserved g c =
       opens = told_alike config after (pairs_left (leg_pairs legs) (pairs_left pairs (leg_pairs (held h)))) (still_held h e (take (i + 1) (live h)))
           (λ q. left_twice pairs (leg_pairs legs) (leg_pairs (held h)) q ∙ ap (λ (ps : List ℕ). has (pairs_left ps (leg_pairs (held h))) q) all_pairs) opens;
       closes = gained_no_openings start log after was.closes
-          (theirs_open_none g.P.Out.OutEnd.log turn.main.config.now legs log after (now.closes of legs can));
+          now.none;
     }
 
 pub returns-clause-works : goal.returns-clause-works

@@ -4,11 +4,12 @@ use Rattle.relay_outside.specs.declared.settings.Config.{Config}
 use Rattle.relay_outside.specs.DeviceLogs.{Gained, WhereLogged}
 use Rattle.media_ports.specs.OpenPorts.{OpensHeld}
 use Rattle.media_ports.specs.Openings.{NoneOpened}
+use Rattle.media_ports.proofs.Asked.{gained_no_opening}
 use Rattle.port_pool.specs.declared.holder.Holder.{Holder}
 use Rattle.call_cell.specs.Cells.{Expire}
 use Rattle.call_board.specs.Acts.{Call}
 use Rattle.call_board.specs.declared.board.Board.{Board}
-use Rattle.call_board.specs.Boards.{BoardMatches}
+use Rattle.call_board.specs.Boards.{BoardMatches, IsLive}
 use Rattle.relay_core.specs.Turns.{made_by}
 use Rattle.board_turns.specs.declared.board_turn.BoardTurn.{BoardTurn}
 use Rattle.board_turns.specs.InCells.{HasNewKeys, in_cell_of}
@@ -17,30 +18,24 @@ use Rattle.board_turns.specs.Closings.{pairs_left}
 use Rattle.board_turns.specs.CallEnds.{leg_pairs, with_call_ended}
 use Rattle.board_turns.specs.Ticks.{IsDueBy, asking_of}
 use Rattle.board_turns.proofs.Staying.{may_again, same_config, works_both}
-use Rattle.board_turns.proofs.Expiring.{index_below, number_there, cell_there, live_there, overdue_there, due_by_whole}
+use Rattle.board_turns.proofs.Expiring.{ask_index, ask_number, ask_cell, number_there, cell_there, overdue_there, due_by_whole}
 use Rattle.board_turns.proofs.Overdue.{HasToEnd, works_asked, ends_overdue, ends_timed_out, then_can, then_call, then_gained}
-use Rattle.board_turns.proofs.Unopened.{theirs_open_none}
+use Rattle.board_turns.proofs.WholeCalls.{found_live}
 use Rattle.board_turns.proofs.tick.expire_call.Goals as goal
 use Rattle.board_turns.proofs.tick.expire_call.Goals.{else-not-overdue-via-then-not-overdue+else-not-expire_cell, else-not-overdue-via-else-not-overdue}
 
 pub call_at-call-requires : goal.call_at-call-requires
-call_at-call-requires g c =
-    let old = c.args.turn.now in
-    let can = c.requires.can in
-    index_below old.main.config.now old.main.hand.now old.board.now (g.P.PortMaker.log old.ports.now) old.main.entry_id.moment c.args.index can.0 can.1 can.2 can.3
+call_at-call-requires g c = ask_index c.args.turn.now.board.now c.args.index c.requires.can.live c.requires.can.at
 
 pub cell_at-cell-requires : goal.cell_at-cell-requires
-cell_at-cell-requires g c =
-    let old = c.args.turn.now in
-    let can = c.requires.can in
-    index_below old.main.config.now old.main.hand.now old.board.now (g.P.PortMaker.log old.ports.now) old.main.entry_id.moment c.args.index can.0 can.1 can.2 can.3
+cell_at-cell-requires g c = ask_index c.args.turn.now.board.now c.args.index c.requires.can.live c.requires.can.at
 
 pub is_due-overdue-requires : goal.is_due-overdue-requires
 is_due-overdue-requires g c =
-    let old = c.args.turn.now in
+    let board = c.args.turn.now.board.now in
     let can = c.requires.can in
-    live_there old.main.config.now old.main.hand.now old.board.now (g.P.PortMaker.log old.ports.now) old.main.entry_id.moment c.args.index can.0 can.1 can.2 can.3
-    c.call_at-call.result c.call_at-call.ensures.live
+    subst (λ (k : ℕ). IsLive board k) (sym (ask_number board c.args.index can.live c.call_at-call.result can.at c.call_at-call.ensures.shape))
+    (found_live board can.live.number can.can.live can.can.found)
 
 pub expire_cell-requires-clause-may : goal.expire_cell-requires-clause-may
 expire_cell-requires-clause-may g c =
@@ -49,20 +44,7 @@ expire_cell-requires-clause-may g c =
 pub expire_cell-requires-clause-cell : goal.expire_cell-requires-clause-cell
 expire_cell-requires-clause-cell g c =
     let old = c.args.turn.now in
-    let can = c.requires.can in
-    let is = cell_there old.main.config.now old.main.hand.now old.board.now (g.P.PortMaker.log old.ports.now) old.main.entry_id.moment c.args.index can.0 can.1 can.2 can.3
-    c.cell_at-cell.result c.cell_at-cell.ensures.live in
-    let low = can.3.is_call.low in
-    let high = can.3.is_call.high in
-    (omega (arith, is, low), omega (arith, is, high))
-
-pub expire_cell-requires-clause-keys : goal.expire_cell-requires-clause-keys
-expire_cell-requires-clause-keys g c =
-    let old = c.args.turn.now in
-    let can = c.requires.can in
-    let is = cell_there old.main.config.now old.main.hand.now old.board.now (g.P.PortMaker.log old.ports.now) old.main.entry_id.moment c.args.index can.0 can.1 can.2 can.3
-    c.cell_at-cell.result c.cell_at-cell.ensures.live in
-    subst (λ (k : ℕ). HasNewKeys (made_by old.main.hand.now) k) (sym is) can.3.is_call.keys
+    ask_cell old.main.config.now old.main.hand.now old.board.now (g.P.PortMaker.log old.ports.now) c.args.index c.cell_at-cell.result c.requires.can c.cell_at-cell.ensures.shape
 
 -- The call was asked, and has not timed out.
 
@@ -102,7 +84,11 @@ returns-then-not-expire_cell-clause-timed_out g c of legs overdue asks not_overd
     let may = c.requires.may in
     subst (λ (k : ℕ). IsDueBy config l k old.main.entry_id.moment false) is
     (due_by_whole g.P.In.InEnd.log g.P.In.InEnd.faults g.P.Out.OutEnd.log g.P.Out.OutEnd.faults config old.main.hand.now c.cell_at-cell.result old.main.entry_id.moment false may.parts
-    may.numbered (omega (arith, is, low)) (omega (arith, is, high)) (subst (λ (k : ℕ). HasNewKeys l k) (sym is) asks.is_call.keys) all c.if-not-expire_cell.ensures.asked)
+    may.numbered (omega (arith, is, low)) (omega (arith, is, high)) (subst (λ (k : ℕ). HasNewKeys l k) (sym is) asks.is_call.keys) all
+    (c.if-not-expire_cell.ensures.asked (subst (λ (k : ℕ). HasNewKeys l k) (sym is) asks.is_call.keys)))
+
+pub returns-then-not-expire_cell-clause-closes : goal.returns-then-not-expire_cell-clause-closes
+returns-then-not-expire_cell-clause-closes g c = gained_no_opening (g.P.PortMaker.log c.args.turn.now.ports.now)
 
 -- The call has to end.
 
@@ -118,7 +104,6 @@ end_call-requires g c =
     let oc = g.P.Out.OutEnd.faults in
     let cell = c.cell_at-cell.result in
     let can = c.requires.can in
-    let asks = can.3 in
     let ends : HasToEnd log faults it ic ot oc old now cell c.is_due-overdue.result =
     elim c.else-not-overdue.branch [
       | else-not-overdue-via-then-not-overdue+else-not-expire_cell w ↦ subst (λ (said : Bool). HasToEnd log faults it ic ot oc old now cell said) (sym w.if-not-overdue.true)
@@ -129,14 +114,10 @@ end_call-requires g c =
           (subst (λ (turn : BoardTurn _ _ _ _). HasToEnd log faults it ic ot oc old turn cell true) (sym w.turn-is)
           (ends_overdue log faults it ic ot oc old cell c.requires.may c.requires.empty))
     ] in
-    let call_is = number_there old.main.config.now old.main.hand.now old.board.now (log old.ports.now) old.main.entry_id.moment c.args.index can.0 can.1 can.2 asks
-    c.call_at-call.result c.call_at-call.ensures.live in
-    let is = cell_there old.main.config.now old.main.hand.now old.board.now (log old.ports.now) old.main.entry_id.moment c.args.index can.0 can.1 can.2 asks
-    cell c.cell_at-cell.ensures.live in
     record {
       may = may_again old.main now.main ends.works.stays.nests;
-      can = then_can log faults it ic ot oc old now cell c.is_due-overdue.result ends can.0 can.1 is c.call_at-call.result asks.can call_is;
-      of = (can.0, can.1, then_call log faults it ic ot oc old now cell c.is_due-overdue.result ends can.0 can.1 is c.call_at-call.result asks.is_call call_is);
+      can = then_can log faults it ic ot oc old now cell c.is_due-overdue.result ends can.live.number c.call_at-call.result can.can
+          (ask_number old.board.now c.args.index can.live c.call_at-call.result can.at c.call_at-call.ensures.shape);
       empty = ends.works.empty;
     }
 
@@ -221,13 +202,10 @@ returns-clause-timed_out g c of legs overdue asks not_overdue all =
     let may = c.requires.may in
     subst (λ (k : ℕ). IsDueBy config l k old.main.entry_id.moment true) is
     (due_by_whole g.P.In.InEnd.log g.P.In.InEnd.faults g.P.Out.OutEnd.log g.P.Out.OutEnd.faults config old.main.hand.now c.cell_at-cell.result old.main.entry_id.moment true may.parts
-    may.numbered (omega (arith, is, low)) (omega (arith, is, high)) (subst (λ (k : ℕ). HasNewKeys l k) (sym is) asks.is_call.keys) all ((reached g c).timed_out (said ∙ not_overdue)))
+    may.numbered (omega (arith, is, low)) (omega (arith, is, high)) (subst (λ (k : ℕ). HasNewKeys l k) (sym is) asks.is_call.keys) all
+    ((reached g c).timed_out (said ∙ not_overdue) (subst (λ (k : ℕ). HasNewKeys l k) (sym is) asks.is_call.keys)))
 
 pub returns-clause-closes : goal.returns-clause-closes
 returns-clause-closes g c =
-    let can = c.requires.can in
-    let now = c.else-not-overdue.turn in
     let log = g.P.PortMaker.log in
-    let new = log c.end_call.new.turn.ports.now in
-    subst (λ (ports : _). Gained (log ports) new NoneOpened) (reached g c).ports_are
-    (theirs_open_none g.P.Out.OutEnd.log now.main.config.now can.1 (log now.ports.now) new (c.end_call.ensures.closes can.0 can.1 (ended_call g c can.0 can.1 can.2 can.3)))
+    subst (λ (ports : _). Gained (log ports) (log c.end_call.new.turn.ports.now) NoneOpened) (reached g c).ports_are c.end_call.ensures.none

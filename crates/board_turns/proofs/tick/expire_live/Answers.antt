@@ -22,6 +22,7 @@ use Rattle.board_turns.proofs.Staying.{may_again, same_config, works_none, works
 use Rattle.relay_core.proofs.Histories.{good_history}
 use Rattle.media_ports.proofs.Asked.{gained_no_opening, gained_no_openings}
 use Rattle.board_turns.specs.Stops.{stop_entry}
+use Rattle.board_turns.proofs.Expiring.{ask_by}
 use Rattle.board_turns.proofs.Stopped.{nth}
 use Rattle.board_turns.proofs.Ticked.{none_asked, next_asks, one_asked, all_asked}
 use Rattle.board_turns.proofs.tick.expire_live.Goals as goal
@@ -73,7 +74,7 @@ expire_call-requires-clause-can g c =
     (subst (λ (k : Config). CanExpire k turn.main.hand.now turn.board.now told_now moment (i - c.loop-asked.ended) of legs overdue) (sym same)
     (next_asks config number moment c.args.turn.now.main.hand.now turn.main.hand.now turn.board.now told_now i c.loop-asked.ended (i - c.loop-asked.ended) of
     (subst (λ (k : Config). IsWholeWith k turn.main.hand.now (board_shape turn.board.now)) same (was.works.whole c.requires.begins.in_turn.whole)) c.requires.begins.in_turn.orderly c.requires.begins.in_turn.above next.1 was.asked (omega (arith, few)))) in
-    (of, legs, overdue, asks)
+    ask_by turn.main.config.now turn.main.hand.now turn.board.now told_now turn.main.entry_id.moment (i - c.loop-asked.ended) of legs overdue asks
 
 pub loop-asked-preserved : goal.loop-asked-preserved
 loop-asked-preserved g c =
