@@ -16,6 +16,7 @@ pub mod Unopened
 pub mod Ended
 pub mod WholeCalls
 pub mod TakenPairs
+pub mod HeldPorts
 pub mod Next
 pub mod StayHeld
 pub mod CloseAfter

@@ -6,13 +6,14 @@ use Rattle.ng_bencode.specs.Room.{Room}
 use Rattle.port_pool.specs.declared.holder.Holder.{Holder}
 use Rattle.port_pool.specs.declared.pairs.Lease.{Lease}
 use Rattle.call_board.specs.Acts.{Call, BoardEntry}
-use Rattle.call_board.specs.Boards.{KeepsReplies}
+use Rattle.call_board.specs.Boards.{BoardFor, KeepsReplies}
 use Rattle.call_board.specs.Pairs.{held}
 use Rattle.call_board.specs.Shapes.{board_shape}
 use Rattle.relay_core.specs.Entries.{Entry, board_history}
 use Rattle.relay_core.specs.KeptAfter.{IsWholeWith}
+use Rattle.relay_core.specs.Legal.{Orderly}
 use Rattle.relay_core.specs.Scripts.{Owed}
-use Rattle.relay_core.specs.Turns.{GainsNested, made_by}
+use Rattle.relay_core.specs.Turns.{GainsNested, IsAbove, made_by}
 use Rattle.board_turns.specs.declared.board_turn.MainHand.{MainHand}
 use Rattle.board_turns.specs.declared.board_turn.BoardTurn.{BoardTurn}
 use Rattle.board_turns.specs.declared.board_turn.Between.{Between}
@@ -23,7 +24,7 @@ use Rattle.board_turns.specs.Commands.{ExecutesCommand}
 use Rattle.board_turns.specs.Controls.{RequestRecord}
 use Rattle.board_turns.specs.Ties.{PortsFollowRows}
 use Rattle.board_turns.specs.Closings.{CanClose}
-use Rattle.board_turns.specs.CallEnds.{CanEnd, IsCallOf, leg_pairs}
+use Rattle.board_turns.specs.CallEnds.{CanEnd, HoldsOpen, IsCallOf, leg_pairs}
 use Rattle.board_turns.specs.Ticks.{CanAsk, CanExpire}
 use Rattle.media_ports.specs.OpenPorts.{LogsHeld}
 
@@ -85,9 +86,21 @@ module _ {P I O : Type 0} {g : _} (log : P → Option (List PortCall)) where
   abbrev pub MayAsk : BoardTurn P I O g → ℕ → Type 0
   MayAsk turn index = CanAsk turn.main.config.now turn.main.hand.now turn.board.now (log turn.ports.now) index
 
+  -- the ports of each pair whose box is open are open
+  abbrev pub HoldsPorts : BoardTurn P I O g → Type 0
+  HoldsPorts turn = HoldsOpen turn.main.config.now turn.main.hand.now (log turn.ports.now)
+
   abbrev pub MayExpire : BoardTurn P I O g → ℕ → Call → List Holder → (overdue : Bool) → Type 0
   MayExpire turn index of legs overdue =
       CanExpire turn.main.config.now turn.main.hand.now turn.board.now (log turn.ports.now) turn.main.entry_id.moment index of legs overdue
+
+  -- The board's turn has the number of its next entry, and the board stands for the history that the hand's list has of it; where the port maker
+  -- tells, just the ports of the held pairs are open
+  pub record Continues (turn : BoardTurn P I O g) : Type 0 where
+    pub above : IsAbove (hand_list turn.main) 0 turn.main.entry_id.number
+    pub orderly : Orderly turn.main.config.now (hand_list turn.main)
+    pub board : BoardFor turn.main.config.now turn.board.now (past_of turn.main)
+    pub opens : LogsHeld turn.main.config.now (log turn.ports.now) (leg_pairs (held (past_of turn.main)))
 
   -- the turn did what the entry owes
   abbrev pub Does : (old new : BoardTurn P I O g) → BoardEntry → Type 0

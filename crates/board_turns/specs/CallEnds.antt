@@ -1,5 +1,5 @@
 -- A call that ends: when it may be ended, and what that adds to the lists.
-use Rattle.std.specs.Prelude.{◌≡◌, ◌≤◌, ℕ, true, Option, Some, List, ◌∷◌, map}
+use Rattle.std.specs.Prelude.{◌≡◌, ◌≤◌, ◌<◌, ℕ, true, Option, Some, List, ◌∷◌, map}
 use Rattle.relay_outside.specs.declared.ports.OutCall.{OutCall}
 use Rattle.relay_outside.specs.declared.ports.PortCall.{PortCall}
 use Rattle.relay_outside.specs.declared.settings.Config.{Config}
@@ -8,6 +8,7 @@ use Rattle.histories.specs.Words.{In, has}
 use Rattle.turn_table.specs.declared.hands.Hand.{Hand}
 use Rattle.port_pool.specs.declared.pairs.Lease as pairs
 use Rattle.port_pool.specs.declared.holder.Holder.{Holder}
+use Rattle.port_pool.specs.Ports.{pair_count}
 use Rattle.call_cell.specs.Cells.{End}
 use Rattle.call_cell.specs.Shapes.{CellLegShape}
 use Rattle.call_board.specs.Acts.{Call}
@@ -22,6 +23,7 @@ use Rattle.relay_core.specs.Records.{Made}
 use Rattle.relay_core.specs.Scripts.{Owed, in_cell, closing}
 use Rattle.relay_core.specs.Turns.{IsAbove}
 use Rattle.media_ports.specs.OpenPorts.{OpensHeld}
+use Rattle.board_turns.specs.NestedSteps.{IsTurnOpen}
 use Rattle.board_turns.specs.InCells.{HasNewKeys}
 use Rattle.board_turns.specs.Departures.{legs_in, AreLeasesOf, cell_kept}
 use Rattle.board_turns.specs.Closings.{ClosesLegs}
@@ -44,6 +46,12 @@ module _ {M I O T : Type 0} {g : _} where
     pub held : List ℕ
     pub opens : WhereLogged log (λ calls. OpensHeld config calls held)
     pub are_held : (leg : CellLegShape) → In leg (cell_kept config hand live.cell).legs → has held leg.holder.pair ≡ true
+
+  -- Where the port maker tells, just the ports of some pairs are open, those of each pair of the range whose box is open among them
+  pub record HoldsOpen (config : Config) (hand : Hand M (Part I O) Made T g) (log : Option (List PortCall)) : Type 0 where
+    pub held : List ℕ
+    pub opens : WhereLogged log (λ calls. OpensHeld config calls held)
+    pub are_held : (pair : ℕ) → pair < pair_count config → IsTurnOpen config hand pair → has held pair ≡ true
 
 -- By the list, this is the live call of that number, and these are its legs: those of its cell
 pub record IsCallOf (config : Config) (l : List Entry) (board : Board) (call : ℕ) (of : Call) (legs : List Holder) : Type 0 where

@@ -1,16 +1,17 @@
 //! A call, ended.
-ghost use Rattle.std.specs.Prelude.{◌≡◌, ℕ, List, []};
+ghost use Rattle.std.specs.Prelude.{◌≡◌, ◌+◌, ℕ, List, [], length};
 ghost use Rattle.relay_outside.specs.declared.settings.Config.{Config};
 ghost use Rattle.relay_outside.specs.DeviceLogs.{Gained, WhereLogged};
 ghost use Rattle.port_pool.specs.declared.holder.Holder.{Holder};
 ghost use Rattle.call_board.specs.Acts.{Call};
+ghost use Rattle.call_board.specs.Shapes.{board_shape};
 ghost use Rattle.call_board.specs.Boards.{BoardMatches, CellsApart};
 ghost use Rattle.call_board.specs.Views.{View};
 ghost use Rattle.media_ports.specs.OpenPorts.{OpensHeld};
 ghost use Rattle.media_ports.specs.Openings.{NoneOpened};
 ghost use Rattle.board_turns.specs.Closings.{pairs_left};
 ghost use Rattle.board_turns.specs.CallEnds.{ClosesTheirs, ending_of, leg_pairs, with_call_ended};
-ghost use Rattle.board_turns.specs.BoardTurns.{CanNest, IsTurnCall, MakesNested, MayEnd, Works};
+ghost use Rattle.board_turns.specs.BoardTurns.{CanNest, HoldsPorts, IsTurnCall, MakesNested, MayEnd, Works};
 
 use crate::board_turn::BoardTurn;
 use crate::cells::end_cell;
@@ -36,6 +37,8 @@ pub fn end_call<P: PortMaker, R: Wait>(rt: &R, turn: &mut BoardTurn<P>, call: u6
         (held : List ℕ) → WhereLogged (P.log turn.old.ports.now) (λ calls. OpensHeld turn.old.main.config.now calls held) →
         WhereLogged (P.log turn.new.ports.now) (λ calls. OpensHeld turn.old.main.config.now calls (pairs_left (leg_pairs legs) held)) }
     ensures none { Gained (P.log turn.old.ports.now) (P.log turn.new.ports.now) NoneOpened }
+    ensures holds { HoldsPorts P.log turn.old → HoldsPorts P.log turn.new }
+    ensures fewer { length (board_shape turn.old.board.now).calls ≡ length (board_shape turn.new.board.now).calls + 1 }
 {
     let cell = turn.board.end_call(call);
     end_cell(rt, &mut turn.main, cell, turn.gone);

@@ -3,15 +3,12 @@ ghost use Rattle.std.specs.Prelude.{◌≡◌, [], ◌∷◌, length};
 ghost use Rattle.relay_outside.specs.DeviceLogs.{Gained, WhereLogged};
 ghost use Rattle.call_board.specs.Boards.{BoardFor};
 ghost use Rattle.call_board.specs.Calls.{live};
-ghost use Rattle.call_board.specs.Pairs.{held};
-ghost use Rattle.relay_core.specs.Legal.{Orderly};
 ghost use Rattle.relay_core.specs.Scripts.{script};
-ghost use Rattle.relay_core.specs.Turns.{IsAbove, made_by};
+ghost use Rattle.relay_core.specs.Turns.{made_by};
 ghost use Rattle.media_ports.specs.Openings.{NoneOpened};
 ghost use Rattle.media_ports.specs.OpenPorts.{OpensHeld, LogsHeld};
 ghost use Rattle.board_turns.specs.Between.{MakesTurn, board_of};
-ghost use Rattle.board_turns.specs.BoardTurns.{CanNest, IsWholeTurn, MakesNested, Rests, RestsAgain, Works, hand_list, past_of};
-ghost use Rattle.board_turns.specs.CallEnds.{leg_pairs};
+ghost use Rattle.board_turns.specs.BoardTurns.{CanNest, Continues, HoldsPorts, IsWholeTurn, MakesNested, Rests, RestsAgain, Works, past_of};
 ghost use Rattle.board_turns.specs.Stops.{stop_entry, still_held};
 
 use crate::board_entry::put_entry;
@@ -26,17 +23,14 @@ use std::sync::Wait;
 /// board then stands for its history with the stop, which has the moment of the last entry. It takes no memory.
 pub fn end_live<P: PortMaker, R: Wait>(rt: &R, turn: &mut BoardTurn<P>) -> usize
     requires may { CanNest turn.old.main }
-    requires above { IsAbove (hand_list turn.old.main) 0 turn.old.main.entry_id.number }
-    requires orderly { Orderly turn.old.main.config.now (hand_list turn.old.main) }
-    requires board { BoardFor turn.old.main.config.now turn.old.board.now (past_of turn.old.main) }
-    requires open { WhereLogged (P.log turn.old.ports.now) (λ calls. OpensHeld turn.old.main.config.now calls (leg_pairs (held (past_of turn.old.main)))) }
     requires empty { turn.old.gone.now ≡ [] }
     requires whole { IsWholeTurn turn.old }
+    requires holds { HoldsPorts P.log turn.old }
     ensures works { Works P.log P.faults turn.old turn.new }
-    ensures gained { let h = past_of turn.old.main in MakesNested (script turn.old.main.config.now h (stop_entry h)) turn.old.main turn.new.main }
-    ensures board { let h = past_of turn.old.main in BoardFor turn.old.main.config.now turn.new.board.now (stop_entry h ∷ h) }
-    ensures count { result ≡ length (live (past_of turn.old.main)) }
-    ensures open { let h = past_of turn.old.main in
+    ensures gained { Continues P.log turn.old → let h = past_of turn.old.main in MakesNested (script turn.old.main.config.now h (stop_entry h)) turn.old.main turn.new.main }
+    ensures board { Continues P.log turn.old → let h = past_of turn.old.main in BoardFor turn.old.main.config.now turn.new.board.now (stop_entry h ∷ h) }
+    ensures count { Continues P.log turn.old → result ≡ length (live (past_of turn.old.main)) }
+    ensures open { Continues P.log turn.old → let h = past_of turn.old.main in
         WhereLogged (P.log turn.new.ports.now) (λ calls. OpensHeld turn.old.main.config.now calls (still_held h (stop_entry h) (live h))) }
     ensures closes { Gained (P.log turn.old.ports.now) (P.log turn.new.ports.now) NoneOpened }
 {

@@ -1,15 +1,16 @@
 //! The live calls that are due or have timed out, ended in order, and the turn of the board in which a tick does so.
-ghost use Rattle.std.specs.Prelude.{◌≡◌, ℕ, Bool, true, false, List, [], ◌∷◌, if◌then◌else◌};
+ghost use Rattle.std.specs.Prelude.{◌≡◌, ◌+◌, ℕ, Bool, true, false, List, [], ◌∷◌, length, if◌then◌else◌};
 ghost use Rattle.relay_outside.specs.declared.settings.Config.{Config};
 ghost use Rattle.relay_outside.specs.DeviceLogs.{Gained, WhereLogged};
 ghost use Rattle.turn_table.specs.Hands.{parts};
 ghost use Rattle.port_pool.specs.declared.holder.Holder.{Holder};
 ghost use Rattle.call_board.specs.Acts.{Call};
 ghost use Rattle.call_board.specs.Boards.{BoardFor, BoardMatches, CellsApart};
+ghost use Rattle.call_board.specs.Shapes.{board_shape};
 ghost use Rattle.call_board.specs.Views.{View};
 ghost use Rattle.media_ports.specs.Openings.{NoneOpened};
 ghost use Rattle.media_ports.specs.OpenPorts.{OpensHeld};
-ghost use Rattle.board_turns.specs.BoardTurns.{Begins, CanNest, MakesNested, MayAsk, MayExpire, Rests, RestsAgain, Works, hand_list, past_of};
+ghost use Rattle.board_turns.specs.BoardTurns.{Begins, CanNest, HoldsPorts, IsWholeTurn, MakesNested, MayAsk, MayExpire, Rests, RestsAgain, Works, hand_list, past_of};
 ghost use Rattle.board_turns.specs.Closings.{pairs_left};
 ghost use Rattle.board_turns.specs.CallEnds.{leg_pairs};
 ghost use Rattle.board_turns.specs.Ticks.{EndsDue, IsDueBy, Ticks, asking_of, tick_at, with_asked};
@@ -41,6 +42,8 @@ fn expire_call<P: PortMaker, R: Wait>(rt: &R, turn: &mut BoardTurn<P>, index: us
     ensures timed_out { (of : Call) (legs : List Holder) (overdue : Bool) → MayExpire P.log turn.old index of legs overdue → overdue ≡ false →
         parts turn.old.main.hand.now ≡ 1024 → IsDueBy turn.old.main.config.now (hand_list turn.old.main) of.cell turn.old.main.entry_id.moment result }
     ensures closes { Gained (P.log turn.old.ports.now) (P.log turn.new.ports.now) NoneOpened }
+    ensures holds { HoldsPorts P.log turn.old → HoldsPorts P.log turn.new }
+    ensures fewer { length (board_shape turn.old.board.now).calls ≡ length (board_shape turn.new.board.now).calls + (if result then 1 else 0) }
 {
     let call = turn.board.call_at(index);
     let cell = turn.board.cell_at(index);
@@ -56,9 +59,12 @@ fn expire_call<P: PortMaker, R: Wait>(rt: &R, turn: &mut BoardTurn<P>, index: us
 /// has timed out, ends it if it has, and returns how many ended: the board then stands for its history with the tick that ended these. It takes no memory, and its work is linear in the
 /// live calls, but for what ending a call costs.
 pub fn expire_live<P: PortMaker, R: Wait>(rt: &R, turn: &mut BoardTurn<P>) -> usize
-    requires begins { Begins P.log turn.old }
+    requires may { CanNest turn.old.main }
+    requires empty { turn.old.gone.now ≡ [] }
+    requires whole { IsWholeTurn turn.old }
+    requires holds { HoldsPorts P.log turn.old }
     ensures works { Works P.log P.faults turn.old turn.new }
-    ensures ends { (calls : List Call) × EndsDue turn.old.main.config.now (past_of turn.old.main) turn.old.main.entry_id.number turn.old.main.entry_id.moment
+    ensures ends { Begins P.log turn.old → (calls : List Call) × EndsDue turn.old.main.config.now (past_of turn.old.main) turn.old.main.entry_id.number turn.old.main.entry_id.moment
         turn.old.main.hand.now turn.new.main.hand.now result (P.log turn.new.ports.now) calls
         × BoardFor turn.old.main.config.now turn.new.board.now (tick_at turn.old.main.entry_id.moment calls ∷ past_of turn.old.main) }
     ensures closes { Gained (P.log turn.old.ports.now) (P.log turn.new.ports.now) NoneOpened }

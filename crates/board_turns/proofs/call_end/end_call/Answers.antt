@@ -1,4 +1,4 @@
-use Rattle.std.proofs.Common.{◌≡◌, ◌∙◌, refl, ap, subst, ℕ, List, [], ◌∷◌, sym, arith}
+use Rattle.std.proofs.Common.{◌≡◌, ◌∙◌, ◌+◌, refl, ap, subst, ℕ, List, [], ◌∷◌, sym, length, arith}
 use Rattle.relay_outside.specs.declared.ports.PortCall.{PortCall}
 use Rattle.relay_outside.specs.declared.settings.Config.{Config}
 use Rattle.relay_outside.specs.DeviceLogs.{Gained, WhereLogged}
@@ -6,7 +6,7 @@ use Rattle.relay_outside.proofs.Telling.{gained_less}
 use Rattle.turn_table.specs.Hands.{entries}
 use Rattle.call_cell.specs.Cells.{End}
 use Rattle.call_board.specs.Boards.{BoardMatches, pairs_in}
-use Rattle.call_board.specs.Shapes.{board_shape}
+use Rattle.call_board.specs.Shapes.{board_shape, live_shapes}
 use Rattle.call_board.specs.Views.{with_returned, without_call}
 use Rattle.relay_core.specs.Entries.{Cell}
 use Rattle.relay_core.specs.Scripts.{Owed}
@@ -20,9 +20,10 @@ use Rattle.board_turns.proofs.Nesting.{above_rows}
 use Rattle.board_turns.proofs.Staying.{may_again, same_config, nests_both, makes_both}
 use Rattle.board_turns.specs.BoardTurns.{MakesNested}
 use Rattle.board_turns.specs.Closings.{CanClose, ClosesLegs, closings_of, leases_of_legs, pairs_left}
-use Rattle.board_turns.specs.CallEnds.{ClosesTheirs, ending_of}
+use Rattle.board_turns.specs.CallEnds.{ClosesTheirs, HoldsOpen, ending_of}
 use Rattle.board_turns.proofs.KeptEnds.{end_keeps_whole}
 use Rattle.board_turns.proofs.Ended.{cell_is, went_are, pairs_are, closings_are}
+use Rattle.board_turns.proofs.HeldPorts.{ended_fewer, holds_ended}
 use Rattle.board_turns.proofs.WholeCalls.{found_live, ending_cell, ended_can, out_leased}
 use Rattle.board_turns.proofs.Tying.{legs_leave, ties_gone}
 use Rattle.board_turns.proofs.Unopened.{gone_open_none}
@@ -183,3 +184,26 @@ pub returns-clause-none : goal.returns-clause-none
 returns-clause-none g c =
     gone_open_none g.P.Out.OutEnd.log c.end_cell.new.main.config.now c.end_cell.new.gone (g.P.PortMaker.log c.args.turn.now.ports.now)
     (g.P.PortMaker.log c.close_legs.new.turn.ports.now) c.close_legs.ensures.closes
+
+pub returns-clause-holds : goal.returns-clause-holds
+returns-clause-holds g c holds =
+    let main = c.args.turn.now.main in
+    let mid = c.end_cell.new.main in
+    let new = c.close_legs.new.turn.main in
+    let config = main.config.now in
+    let gone = c.end_cell.new.gone in
+    let log = g.P.PortMaker.log c.args.turn.now.ports.now in
+    let after = g.P.PortMaker.log c.close_legs.new.turn.ports.now in
+    let same = same_config main mid c.end_cell.ensures.nests in
+    let nests = nests_both main mid new c.end_cell.ensures.nests c.close_legs.ensures.stays.nests in
+    let gains = makes_both (in_cell_of c.end_call-cell.result End ∷ []) (closings_of config gone) main mid new c.end_cell.ensures.nests c.end_cell.ensures.gained
+    (subst (λ (k : Config). MakesNested (closings_of k gone) mid new) same c.close_legs.ensures.gained) in
+    let closed = subst (λ (k : Config). (held : List ℕ) → WhereLogged log (λ (calls : List PortCall). OpensHeld k calls held)
+    → WhereLogged after (λ (calls : List PortCall). OpensHeld k calls (pairs_left (pairs_in (leases_of_legs gone)) held))) same c.close_legs.ensures.«open» in
+    subst (λ (k : Config). HoldsOpen k new.hand.now after) (sym (same_config main new nests))
+    (holds_ended config main.entry_id.number main.entry_id.moment main.hand.now new.hand.now nests.same.1 log after c.end_call-cell.result gone gains closed holds)
+
+pub returns-clause-fewer : goal.returns-clause-fewer
+returns-clause-fewer g c =
+    let shorter = ended_fewer c.args.call c.end_call-cell.result (board_shape c.args.turn.now.board.now) (board_shape c.end_call-cell.new.self) c.end_call-cell.ensures.shape in
+    shorter ∙ ap (λ (calls : _). length (live_shapes calls.list) + 1) (sym c.close_legs.ensures.calls.calls_are)

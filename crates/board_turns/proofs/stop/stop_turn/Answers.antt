@@ -14,12 +14,13 @@ use Rattle.relay_core.specs.Entries.{board_history}
 use Rattle.relay_core.specs.Records.{Made}
 use Rattle.relay_core.specs.Scripts.{script}
 use Rattle.relay_core.specs.Turns.{GainsNested, IsAbove, made_by}
-use Rattle.call_board.specs.Views.{board_last_moment}
+use Rattle.call_board.specs.Views.{board_last_moment, view_of}
 use Rattle.board_turns.specs.Between.{board_of}
 use Rattle.board_turns.specs.CallEnds.{leg_pairs}
 use Rattle.board_turns.specs.Stops.{stop_entry, stop_made}
 use Rattle.board_turns.specs.Ties.{PortsFollowRows}
 use Rattle.board_turns.proofs.Betweens.{between_may, turn_begins, begins_whole, still_has}
+use Rattle.board_turns.proofs.HeldPorts.{board_holds}
 use Rattle.board_turns.proofs.Grown.{makes_history}
 use Rattle.board_turns.proofs.StopTurns.{moved, stop_begins, stop_gained, stop_stands, stop_opens_none, stop_relates, stop_history, stop_ends}
 use Rattle.board_turns.proofs.Tying.{ties_ended}
@@ -66,17 +67,6 @@ end_live-count-requires-clause-may g c =
     let begins = turn_begins g.P.In.InEnd.log g.P.In.InEnd.faults g.P.Out.OutEnd.log g.P.Out.OutEnd.faults config turns old mid step between c.turn-step.ensures.same c.turn-step.ensures.turn in
     begins.may
 
-pub end_live-count-requires-clause-above : goal.end_live-count-requires-clause-above
-end_live-count-requires-clause-above g c =
-    let config = c.args.at.now.config.now in
-    let turns = c.args.at.now.turns.now in
-    let old = c.args.at.now.hand.now in
-    let mid = c.turn-step.new.hand in
-    let step = c.turn-step.result in
-    let between = c.requires.rests.between in
-    let begins = turn_begins g.P.In.InEnd.log g.P.In.InEnd.faults g.P.Out.OutEnd.log g.P.Out.OutEnd.faults config turns old mid step between c.turn-step.ensures.same c.turn-step.ensures.turn in
-    subst (λ (k : ℕ). IsAbove (made_by mid) 0 k) (sym c.front-number.ensures) begins.above
-
 pub end_live-count-requires-clause-whole : goal.end_live-count-requires-clause-whole
 end_live-count-requires-clause-whole g c =
     let config = c.args.at.now.config.now in
@@ -88,19 +78,8 @@ end_live-count-requires-clause-whole g c =
     let begins = turn_begins g.P.In.InEnd.log g.P.In.InEnd.faults g.P.Out.OutEnd.log g.P.Out.OutEnd.faults config turns old mid step between c.turn-step.ensures.same c.turn-step.ensures.turn in
     same_shape config mid c.in-Board.board c.advance-moment.new.self c.advance-moment.ensures.shape (begins.whole c.in-Board.board (sym c.state.ensures.value ∙ c.in-Board.is))
 
-pub end_live-count-requires-clause-orderly : goal.end_live-count-requires-clause-orderly
-end_live-count-requires-clause-orderly g c =
-    let config = c.args.at.now.config.now in
-    let turns = c.args.at.now.turns.now in
-    let old = c.args.at.now.hand.now in
-    let mid = c.turn-step.new.hand in
-    let step = c.turn-step.result in
-    let between = c.requires.rests.between in
-    let begins = turn_begins g.P.In.InEnd.log g.P.In.InEnd.faults g.P.Out.OutEnd.log g.P.Out.OutEnd.faults config turns old mid step between c.turn-step.ensures.same c.turn-step.ensures.turn in
-    begins.orderly
-
-pub end_live-count-requires-clause-board : goal.end_live-count-requires-clause-board
-end_live-count-requires-clause-board g c =
+pub end_live-count-requires-clause-holds : goal.end_live-count-requires-clause-holds
+end_live-count-requires-clause-holds g c =
     let config = c.args.at.now.config.now in
     let turns = c.args.at.now.turns.now in
     let old = c.args.at.now.hand.now in
@@ -110,20 +89,11 @@ end_live-count-requires-clause-board g c =
     let begins = turn_begins g.P.In.InEnd.log g.P.In.InEnd.faults g.P.Out.OutEnd.log g.P.Out.OutEnd.faults config turns old mid step between c.turn-step.ensures.same c.turn-step.ensures.turn in
     let stops = stop_begins config turns mid step c.front-number.result c.advance-moment.result c.state.result.now c.in-Board.board c.advance-moment.new.self begins
     c.front-number.ensures c.state.ensures.value c.in-Board.is c.advance-moment.ensures.moment in
-    stops.stands
-
-pub end_live-count-requires-clause-open : goal.end_live-count-requires-clause-open
-end_live-count-requires-clause-open g c =
-    let config = c.args.at.now.config.now in
-    let turns = c.args.at.now.turns.now in
-    let old = c.args.at.now.hand.now in
-    let mid = c.turn-step.new.hand in
-    let step = c.turn-step.result in
-    let between = c.requires.rests.between in
-    let begins = turn_begins g.P.In.InEnd.log g.P.In.InEnd.faults g.P.Out.OutEnd.log g.P.Out.OutEnd.faults config turns old mid step between c.turn-step.ensures.same c.turn-step.ensures.turn in
-    let log = g.P.PortMaker.log c.args.at.now.ports.now in
-    subst (λ (k : ℕ). LogsHeld config log (leg_pairs (held (board_history (made_by mid) k)))) (sym c.front-number.ensures)
-    (subst (λ (h : List BoardEntry). LogsHeld config log (leg_pairs (held h))) (sym (begins_whole config turns old mid step c.turn-step.ensures.same.1 begins)) c.requires.rests.opens)
+    let whole = same_shape config mid c.in-Board.board c.advance-moment.new.self c.advance-moment.ensures.shape (begins.whole c.in-Board.board (sym c.state.ensures.value ∙ c.in-Board.is)) in
+    board_holds config mid c.advance-moment.new.self (g.P.PortMaker.log c.args.at.now.ports.now) (board_history (made_by mid) c.front-number.result)
+    (view_of config (board_history (made_by mid) c.front-number.result)) whole stops.stands refl
+    (subst (λ (k : ℕ). LogsHeld config (g.P.PortMaker.log c.args.at.now.ports.now) (leg_pairs (held (board_history (made_by mid) k)))) (sym c.front-number.ensures)
+          (subst (λ (h : List BoardEntry). LogsHeld config (g.P.PortMaker.log c.args.at.now.ports.now) (leg_pairs (held h))) (sym (begins_whole config turns old mid step c.turn-step.ensures.same.1 begins)) c.requires.rests.opens))
 
 pub end_live-count-requires-clause-empty : goal.end_live-count-requires-clause-empty
 end_live-count-requires-clause-empty g c = c.requires.rests.empty
@@ -160,11 +130,23 @@ put_entry-requires-clause-step g c =
     let left : new.main.hand.now ≡ nested = sym (c.at-1.given.1 (sym nests.hand_is)) in
     let h = board_history (made_by mid) (front_of step) in
     let gains = subst (λ hand. GainsNested (front_of step) (board_last_moment h) (script config h (stop_entry h)) mid hand) left
-    (stop_gained config mid new.main.hand.now step c.front-number.result c.advance-moment.result c.advance-moment.new.self stops c.end_live-count.ensures.gained) in
+    (stop_gained config mid new.main.hand.now step c.front-number.result c.advance-moment.result c.advance-moment.new.self stops (c.end_live-count.ensures.gained (record {
+      above = subst (λ (k : ℕ). IsAbove (made_by mid) 0 k) (sym c.front-number.ensures) begins.above;
+      orderly = begins.orderly;
+      board = stops.stands;
+      opens = (subst (λ (k : ℕ). LogsHeld config (g.P.PortMaker.log c.args.at.now.ports.now) (leg_pairs (held (board_history (made_by mid) k)))) (sym c.front-number.ensures)
+          (subst (λ (h : List BoardEntry). LogsHeld config (g.P.PortMaker.log c.args.at.now.ports.now) (leg_pairs (held h))) (sym (begins_whole config turns old mid step c.turn-step.ensures.same.1 begins)) c.requires.rests.opens));
+    }))) in
     stop_relates g.P.In.InEnd.log g.P.In.InEnd.faults g.P.Out.OutEnd.log g.P.Out.OutEnd.faults config h (board_history (made_by nested) (front_of step)) (taken_of step) (part.Board new.board.now)
     (stop_history config turns mid nested step begins gains)
     (moved config h (state_of step) (taken_of step) begins.untouched begins.board)
-    (stop_stands config mid step c.front-number.result c.advance-moment.result c.advance-moment.new.self new.board.now stops c.end_live-count.ensures.board)
+    (stop_stands config mid step c.front-number.result c.advance-moment.result c.advance-moment.new.self new.board.now stops (c.end_live-count.ensures.board (record {
+      above = subst (λ (k : ℕ). IsAbove (made_by mid) 0 k) (sym c.front-number.ensures) begins.above;
+      orderly = begins.orderly;
+      board = stops.stands;
+      opens = (subst (λ (k : ℕ). LogsHeld config (g.P.PortMaker.log c.args.at.now.ports.now) (leg_pairs (held (board_history (made_by mid) k)))) (sym c.front-number.ensures)
+          (subst (λ (h : List BoardEntry). LogsHeld config (g.P.PortMaker.log c.args.at.now.ports.now) (leg_pairs (held h))) (sym (begins_whole config turns old mid step c.turn-step.ensures.same.1 begins)) c.requires.rests.opens));
+    })))
 
 -- what the board, the cells and the boxes keep when all calls have ended goes together
 left_whole : (g : _) (c : goal.After-put_entry g) → IsWholeWith c.args.at.now.config.now c.at-1.given.0 (board_shape c.end_live-count.new.turn.board.now)
@@ -197,7 +179,13 @@ returns-clause-makes g c =
     let left : new.main.hand.now ≡ nested = sym (c.at-1.given.1 (sym nests.hand_is)) in
     let h = board_history (made_by mid) (front_of step) in
     let gains = subst (λ hand. GainsNested (front_of step) (board_last_moment h) (script config h (stop_entry h)) mid hand) left
-    (stop_gained config mid new.main.hand.now step c.front-number.result c.advance-moment.result c.advance-moment.new.self stops c.end_live-count.ensures.gained) in
+    (stop_gained config mid new.main.hand.now step c.front-number.result c.advance-moment.result c.advance-moment.new.self stops (c.end_live-count.ensures.gained (record {
+      above = subst (λ (k : ℕ). IsAbove (made_by mid) 0 k) (sym c.front-number.ensures) begins.above;
+      orderly = begins.orderly;
+      board = stops.stands;
+      opens = (subst (λ (k : ℕ). LogsHeld config (g.P.PortMaker.log c.args.at.now.ports.now) (leg_pairs (held (board_history (made_by mid) k)))) (sym c.front-number.ensures)
+          (subst (λ (h : List BoardEntry). LogsHeld config (g.P.PortMaker.log c.args.at.now.ports.now) (leg_pairs (held h))) (sym (begins_whole config turns old mid step c.turn-step.ensures.same.1 begins)) c.requires.rests.opens));
+    }))) in
     let sames = subst (λ hand. IsSameHand mid hand × SameTurns mid hand) left (nests.same, nests.same_turns) in
     let put = stop_ends _ config turns old mid nested c.put_entry.new.hand step tt between c.turn-step.ensures.same c.turn-step.ensures.turn.0 begins sames gains
     c.put_entry.ensures.same c.put_entry.ensures.entry (board_shape new.board.now) refl (left_whole g c) in
@@ -212,7 +200,15 @@ returns-clause-count g c =
     let step = c.turn-step.result in
     let between = c.requires.rests.between in
     let begins = turn_begins g.P.In.InEnd.log g.P.In.InEnd.faults g.P.Out.OutEnd.log g.P.Out.OutEnd.faults config turns old mid step between c.turn-step.ensures.same c.turn-step.ensures.turn in
-    c.end_live-count.ensures.count
+    let stops = stop_begins config turns mid step c.front-number.result c.advance-moment.result c.state.result.now c.in-Board.board c.advance-moment.new.self begins
+    c.front-number.ensures c.state.ensures.value c.in-Board.is c.advance-moment.ensures.moment in
+    c.end_live-count.ensures.count (record {
+      above = subst (λ (k : ℕ). IsAbove (made_by mid) 0 k) (sym c.front-number.ensures) begins.above;
+      orderly = begins.orderly;
+      board = stops.stands;
+      opens = (subst (λ (k : ℕ). LogsHeld config (g.P.PortMaker.log c.args.at.now.ports.now) (leg_pairs (held (board_history (made_by mid) k)))) (sym c.front-number.ensures)
+          (subst (λ (h : List BoardEntry). LogsHeld config (g.P.PortMaker.log c.args.at.now.ports.now) (leg_pairs (held h))) (sym (begins_whole config turns old mid step c.turn-step.ensures.same.1 begins)) c.requires.rests.opens));
+    })
     ∙ ap (λ (k : ℕ). length (live (board_history (made_by mid) k))) c.front-number.ensures
     ∙ ap (λ (h : List BoardEntry). length (live h)) (begins_whole config turns old mid step c.turn-step.ensures.same.1 begins)
 
@@ -228,7 +224,13 @@ returns-clause-shut g c =
     let stops = stop_begins config turns mid step c.front-number.result c.advance-moment.result c.state.result.now c.in-Board.board c.advance-moment.new.self begins
     c.front-number.ensures c.state.ensures.value c.in-Board.is c.advance-moment.ensures.moment in
     stop_opens_none config mid step c.front-number.result c.advance-moment.result c.advance-moment.new.self (g.P.PortMaker.log c.end_live-count.new.turn.ports.now) stops
-    c.end_live-count.ensures.«open»
+    (c.end_live-count.ensures.«open» (record {
+      above = subst (λ (k : ℕ). IsAbove (made_by mid) 0 k) (sym c.front-number.ensures) begins.above;
+      orderly = begins.orderly;
+      board = stops.stands;
+      opens = (subst (λ (k : ℕ). LogsHeld config (g.P.PortMaker.log c.args.at.now.ports.now) (leg_pairs (held (board_history (made_by mid) k)))) (sym c.front-number.ensures)
+          (subst (λ (h : List BoardEntry). LogsHeld config (g.P.PortMaker.log c.args.at.now.ports.now) (leg_pairs (held h))) (sym (begins_whole config turns old mid step c.turn-step.ensures.same.1 begins)) c.requires.rests.opens));
+    }))
 
 pub returns-clause-closes : goal.returns-clause-closes
 returns-clause-closes g c = c.end_live-count.ensures.closes
@@ -250,7 +252,13 @@ returns-clause-rests g c =
     let left : new.main.hand.now ≡ nested = sym (c.at-1.given.1 (sym nests.hand_is)) in
     let h = board_history (made_by mid) (front_of step) in
     let gains = subst (λ hand. GainsNested (front_of step) (board_last_moment h) (script config h (stop_entry h)) mid hand) left
-    (stop_gained config mid new.main.hand.now step c.front-number.result c.advance-moment.result c.advance-moment.new.self stops c.end_live-count.ensures.gained) in
+    (stop_gained config mid new.main.hand.now step c.front-number.result c.advance-moment.result c.advance-moment.new.self stops (c.end_live-count.ensures.gained (record {
+      above = subst (λ (k : ℕ). IsAbove (made_by mid) 0 k) (sym c.front-number.ensures) begins.above;
+      orderly = begins.orderly;
+      board = stops.stands;
+      opens = (subst (λ (k : ℕ). LogsHeld config (g.P.PortMaker.log c.args.at.now.ports.now) (leg_pairs (held (board_history (made_by mid) k)))) (sym c.front-number.ensures)
+          (subst (λ (h : List BoardEntry). LogsHeld config (g.P.PortMaker.log c.args.at.now.ports.now) (leg_pairs (held h))) (sym (begins_whole config turns old mid step c.turn-step.ensures.same.1 begins)) c.requires.rests.opens));
+    }))) in
     let sames = subst (λ hand. IsSameHand mid hand × SameTurns mid hand) left (nests.same, nests.same_turns) in
     let put = stop_ends _ config turns old mid nested c.put_entry.new.hand step tt between c.turn-step.ensures.same c.turn-step.ensures.turn.0 begins sames gains
     c.put_entry.ensures.same c.put_entry.ensures.entry (board_shape new.board.now) refl (left_whole g c) in

@@ -1,4 +1,4 @@
-use Rattle.std.proofs.Common.{◌∙◌, sym, subst, ℕ, Bool, true, false, List, [], ◌∷◌, arith}
+use Rattle.std.proofs.Common.{◌≡◌, ◌∙◌, ◌+◌, sym, subst, ℕ, Bool, true, false, List, [], ◌∷◌, length, arith}
 use Rattle.relay_outside.specs.declared.ports.PortCall.{PortCall}
 use Rattle.relay_outside.specs.declared.settings.Config.{Config}
 use Rattle.relay_outside.specs.DeviceLogs.{Gained, WhereLogged}
@@ -9,17 +9,19 @@ use Rattle.port_pool.specs.declared.holder.Holder.{Holder}
 use Rattle.call_cell.specs.Cells.{Expire}
 use Rattle.call_board.specs.Acts.{Call}
 use Rattle.call_board.specs.declared.board.Board.{Board}
+use Rattle.call_board.specs.Shapes.{board_shape}
 use Rattle.call_board.specs.Boards.{BoardMatches, IsLive}
 use Rattle.relay_core.specs.Turns.{made_by}
 use Rattle.board_turns.specs.declared.board_turn.BoardTurn.{BoardTurn}
 use Rattle.board_turns.specs.InCells.{HasNewKeys, in_cell_of}
 use Rattle.board_turns.specs.BoardTurns.{IsTurnCall, MakesNested, MayExpire}
 use Rattle.board_turns.specs.Closings.{pairs_left}
-use Rattle.board_turns.specs.CallEnds.{leg_pairs, with_call_ended}
+use Rattle.board_turns.specs.CallEnds.{HoldsOpen, leg_pairs, with_call_ended}
 use Rattle.board_turns.specs.Ticks.{IsDueBy, asking_of}
 use Rattle.board_turns.proofs.Staying.{may_again, same_config, works_both}
 use Rattle.board_turns.proofs.Expiring.{ask_index, ask_number, ask_cell, number_there, cell_there, overdue_there, due_by_whole}
 use Rattle.board_turns.proofs.Overdue.{HasToEnd, works_asked, ends_overdue, ends_timed_out, then_can, then_call, then_gained}
+use Rattle.board_turns.proofs.HeldPorts.{holds_asked, holds_question}
 use Rattle.board_turns.proofs.WholeCalls.{found_live}
 use Rattle.board_turns.proofs.tick.expire_call.Goals as goal
 use Rattle.board_turns.proofs.tick.expire_call.Goals.{else-not-overdue-via-then-not-overdue+else-not-expire_cell, else-not-overdue-via-else-not-overdue}
@@ -89,6 +91,20 @@ returns-then-not-expire_cell-clause-timed_out g c of legs overdue asks not_overd
 
 pub returns-then-not-expire_cell-clause-closes : goal.returns-then-not-expire_cell-clause-closes
 returns-then-not-expire_cell-clause-closes g c = gained_no_opening (g.P.PortMaker.log c.args.turn.now.ports.now)
+
+pub returns-then-not-expire_cell-clause-holds : goal.returns-then-not-expire_cell-clause-holds
+returns-then-not-expire_cell-clause-holds g c holds =
+    let main = c.args.turn.now.main in
+    let new = c.expire_cell.new.main in
+    let log = g.P.PortMaker.log c.args.turn.now.ports.now in
+    subst (λ (k : Config). HoldsOpen k new.hand.now log) (sym (same_config main new c.if-not-expire_cell.ensures.nests))
+    (holds_asked main.config.now main.entry_id.number main.entry_id.moment main.hand.now new.hand.now c.if-not-expire_cell.ensures.nests.same.1 log c.cell_at-cell.result false
+    c.if-not-expire_cell.ensures.gained holds)
+
+pub returns-then-not-expire_cell-clause-fewer : goal.returns-then-not-expire_cell-clause-fewer
+returns-then-not-expire_cell-clause-fewer g c =
+    let n = length (board_shape c.args.turn.now.board.now).calls in
+    omega arith
 
 -- The call has to end.
 
@@ -209,3 +225,20 @@ pub returns-clause-closes : goal.returns-clause-closes
 returns-clause-closes g c =
     let log = g.P.PortMaker.log in
     subst (λ (ports : _). Gained (log ports) (log c.end_call.new.turn.ports.now) NoneOpened) (reached g c).ports_are c.end_call.ensures.none
+
+pub returns-clause-holds : goal.returns-clause-holds
+returns-clause-holds g c holds =
+    let old = c.args.turn.now in
+    let now = c.else-not-overdue.turn in
+    let log = g.P.PortMaker.log in
+    let ends = reached g c in
+    let same = same_config old.main now.main ends.works.stays.nests in
+    c.end_call.ensures.holds
+    (subst (λ (k : Config). HoldsOpen k now.main.hand.now (log now.ports.now)) (sym same)
+    (subst (λ (ports : _). HoldsOpen old.main.config.now now.main.hand.now (log ports)) (sym ends.ports_are)
+    (holds_question old.main.config.now old.main.entry_id.number old.main.entry_id.moment old.main.hand.now now.main.hand.now ends.works.stays.nests.same.1 (log old.ports.now)
+    c.cell_at-cell.result c.is_due-overdue.result ends.gained holds)))
+
+pub returns-clause-fewer : goal.returns-clause-fewer
+returns-clause-fewer g c =
+    subst (λ (board : Board). length (board_shape board).calls ≡ length (board_shape c.end_call.new.turn.board.now).calls + 1) (reached g c).board_is c.end_call.ensures.fewer

@@ -3,6 +3,7 @@ use Rattle.turn_table.specs.declared.machine.Entry as table
 use Rattle.turn_table.specs.Hands.{IsSameHand, SameTurns, place_of, front_of, state_of, taken_of, entries}
 use Rattle.call_board.specs.Acts.{BoardEntry}
 use Rattle.call_board.specs.Pairs.{held}
+use Rattle.call_board.specs.Views.{view_of, view_at_moment}
 use Rattle.media_ports.specs.OpenPorts.{LogsHeld}
 use Rattle.call_board.specs.Shapes.{board_shape}
 use Rattle.relay_core.specs.KeptAfter.{IsWholeWith}
@@ -15,6 +16,7 @@ use Rattle.board_turns.specs.CallEnds.{leg_pairs}
 use Rattle.board_turns.specs.Ticks.{tick_entry}
 use Rattle.board_turns.specs.Ties.{PortsFollowRows}
 use Rattle.board_turns.proofs.Betweens.{between_may, turn_begins, begins_whole, in_turn, still_has}
+use Rattle.board_turns.proofs.HeldPorts.{board_holds}
 use Rattle.board_turns.proofs.Grown.{makes_history}
 use Rattle.board_turns.proofs.StopTurns.{moved}
 use Rattle.board_turns.proofs.TickTurns.{made_after, tick_begins, tick_ended, tick_relates, tick_ends, due_before_turn}
@@ -59,13 +61,15 @@ expire_live-ended-requires g c =
     let step = c.turn-step.result in
     let between = c.requires.rests.between in
     let begins = turn_begins g.P.In.InEnd.log g.P.In.InEnd.faults g.P.Out.OutEnd.log g.P.Out.OutEnd.faults config turns old mid step between c.turn-step.ensures.same c.turn-step.ensures.turn in
-    record {
-      begins = record {
-        in_turn = in_turn config turns old mid step (record { number = c.front-number.result; moment = c.advance.result }) c.in-Board.board c.advance.new.self c.args.now
+    let turn = in_turn config turns old mid step (record { number = c.front-number.result; moment = c.advance.result }) c.in-Board.board c.advance.new.self c.args.now
             (g.P.PortMaker.log c.args.at.now.ports.now) c.turn-step.ensures.same.1 begins c.front-number.ensures (sym c.state.ensures.value ∙ c.in-Board.is) c.advance.ensures.moment
-            c.advance.ensures.shape c.requires.rests.opens;
-        empty = c.requires.rests.empty;
-      };
+            c.advance.ensures.shape c.requires.rests.opens in
+    record {
+      may = turn.may;
+      empty = c.requires.rests.empty;
+      whole = turn.whole;
+      holds = board_holds config mid c.advance.new.self (g.P.PortMaker.log c.args.at.now.ports.now) (board_history (made_by mid) c.front-number.result)
+          (view_at_moment (view_of config (board_history (made_by mid) c.front-number.result)) c.advance.result) turn.whole turn.shows refl turn.opens;
     }
 
 pub put_step-requires-clause-table : goal.put_step-requires-clause-table
@@ -101,7 +105,9 @@ put_step-requires-clause-step g c =
     let ticks = tick_begins config turns mid step c.front-number.result c.advance.result c.args.now c.state.result.now c.in-Board.board c.advance.new.self begins
     c.front-number.ensures c.state.ensures.value c.in-Board.is c.advance.ensures.moment in
     let ends = tick_ended config mid new.main.hand.now nested step c.front-number.result c.advance.result c.args.now count new.board.now after ticks left
-    c.expire_live-ended.ensures.ends in
+    (c.expire_live-ended.ensures.ends (record { in_turn = in_turn config turns old mid step (record { number = c.front-number.result; moment = c.advance.result }) c.in-Board.board c.advance.new.self c.args.now
+            (g.P.PortMaker.log c.args.at.now.ports.now) c.turn-step.ensures.same.1 begins c.front-number.ensures (sym c.state.ensures.value ∙ c.in-Board.is) c.advance.ensures.moment
+            c.advance.ensures.shape c.requires.rests.opens; empty = c.requires.rests.empty })) in
     tick_relates config turns mid nested step c.args.now count (part.Board new.board.now) after ends.0 begins ends.1 ends.2 g.P.In.InEnd.log g.P.In.InEnd.faults g.P.Out.OutEnd.log g.P.Out.OutEnd.faults (taken_of step)
     (moved config (board_history (made_by mid) (front_of step)) (state_of step) (taken_of step) begins.untouched begins.board)
 
@@ -137,7 +143,9 @@ returns-clause-ticks g c =
     let ticks = tick_begins config turns mid step c.front-number.result c.advance.result c.args.now c.state.result.now c.in-Board.board c.advance.new.self begins
     c.front-number.ensures c.state.ensures.value c.in-Board.is c.advance.ensures.moment in
     let ends = tick_ended config mid new.main.hand.now nested step c.front-number.result c.advance.result c.args.now count new.board.now after ticks left
-    c.expire_live-ended.ensures.ends in
+    (c.expire_live-ended.ensures.ends (record { in_turn = in_turn config turns old mid step (record { number = c.front-number.result; moment = c.advance.result }) c.in-Board.board c.advance.new.self c.args.now
+            (g.P.PortMaker.log c.args.at.now.ports.now) c.turn-step.ensures.same.1 begins c.front-number.ensures (sym c.state.ensures.value ∙ c.in-Board.is) c.advance.ensures.moment
+            c.advance.ensures.shape c.requires.rests.opens; empty = c.requires.rests.empty })) in
     let sames = subst (λ hand. IsSameHand mid hand × SameTurns mid hand) left (nests.same, nests.same_turns) in
     let put = tick_ends config turns mid nested step c.args.now count (part.Board new.board.now) after ends.0 begins ends.1 ends.2 old c.put_step.new.hand tt between
     c.turn-step.ensures.same c.turn-step.ensures.turn.0 sames c.put_step.ensures.same c.put_step.ensures.entry (board_shape new.board.now) refl (left_whole g c) in
@@ -170,7 +178,9 @@ returns-clause-rests g c =
     let ticks = tick_begins config turns mid step c.front-number.result c.advance.result c.args.now c.state.result.now c.in-Board.board c.advance.new.self begins
     c.front-number.ensures c.state.ensures.value c.in-Board.is c.advance.ensures.moment in
     let ends = tick_ended config mid new.main.hand.now nested step c.front-number.result c.advance.result c.args.now count new.board.now after ticks left
-    c.expire_live-ended.ensures.ends in
+    (c.expire_live-ended.ensures.ends (record { in_turn = in_turn config turns old mid step (record { number = c.front-number.result; moment = c.advance.result }) c.in-Board.board c.advance.new.self c.args.now
+            (g.P.PortMaker.log c.args.at.now.ports.now) c.turn-step.ensures.same.1 begins c.front-number.ensures (sym c.state.ensures.value ∙ c.in-Board.is) c.advance.ensures.moment
+            c.advance.ensures.shape c.requires.rests.opens; empty = c.requires.rests.empty })) in
     let sames = subst (λ hand. IsSameHand mid hand × SameTurns mid hand) left (nests.same, nests.same_turns) in
     let put = tick_ends config turns mid nested step c.args.now count (part.Board new.board.now) after ends.0 begins ends.1 ends.2 old c.put_step.new.hand tt between
     c.turn-step.ensures.same c.turn-step.ensures.turn.0 sames c.put_step.ensures.same c.put_step.ensures.entry (board_shape new.board.now) refl (left_whole g c) in
