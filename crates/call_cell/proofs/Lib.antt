@@ -49,6 +49,7 @@ pub mod Again
 pub mod Nested
 pub mod NewKeys
 pub mod Shaped
+pub mod Forms
 pub mod TakenFirst
 pub mod Moved
 pub mod SavedLegs

@@ -1,6 +1,7 @@
 -- Legs of some sections go from a cell, and the others stay.
-use Rattle.std.specs.Prelude.{◌≡◌, ◌<◌, ◌+◌, ◌≤◌, ◌++◌, ℕ, Bool, false, not, List, [], ◌∷◌, filter, filter_map, length, slice_index_or, if◌then◌else◌}
+use Rattle.std.specs.Prelude.{◌≡◌, ◌<◌, ◌+◌, ◌≤◌, ◌++◌, ℕ, Bool, false, not, List, [], ◌∷◌, filter, filter_map, length, map, slice_index_or, Some, ◌⊎◌, if◌then◌else◌}
 use Rattle.std.specs.Option.{option_to_list}
+use Rattle.histories.specs.Words.{In}
 use Rattle.port_pool.specs.declared.pairs.Lease.{Lease}
 use Rattle.call_cell.specs.declared.leg.Leg.{Leg}
 use Rattle.call_cell.specs.CellEnds.{parts_of}
@@ -27,3 +28,8 @@ going flags leg = if goes flags leg then option_to_list (parts_of leg) else []
 abbrev pub Part : {O : Type 0} → List Bool → List (Leg O) → List (Leg O) → List (Lease × O × O) → List (Lease × O × O) → Type 0
 Part {O} flags old new before after = length before + length old ≤ 16 → (new ≡ filter (λ (leg : Leg O). stays flags leg) old)
     × (after ≡ before ++ filter_map (λ (leg : Leg O). parts_of leg) (filter (λ (leg : Leg O). goes flags leg) old))
+
+-- with room or without: the legs that are there were there, and what went since then are leases and ends of legs that were there
+pub record StayWhole {O : Type 0} (old new : List (Leg O)) (before after : List (Lease × O × O)) : Type 0 where
+  pub stay : (leg : Leg O) → In leg new → In leg old
+  pub went : (parts : Lease × O × O) → In parts after → In parts before ⊎ In (Some parts) (map (λ (leg : Leg O). parts_of leg) old)

@@ -153,3 +153,23 @@ pub record LegsGo {O : Type 0} (goes : Holder → Bool) (came old new : List (Le
   pub went : gone ≡ filter_map (λ (leg : Leg O). parts_of leg) (filter (λ (leg : Leg O). goes leg.holder) old)
   pub ends : ends_of_legs new ≡ ends_of_legs (filter (λ (leg : Leg O). not (goes leg.holder)) old) ++ ends_of_legs came
   pub counts : counts_of_legs new ≡ counts_of_legs (filter (λ (leg : Leg O). not (goes leg.holder)) old) ++ counts_of_legs came
+
+-- Legs that stay and legs that go are whole, whatever the cell holds.
+
+-- for whom a leg is, in which lease of its pair, and with which out ends
+pub record LegForm (O : Type 0) : Type 0 where
+  pub holder : Holder
+  pub lease : Lease
+  pub ends : Option (O × O)
+
+abbrev pub leg_form : {O : Type 0} → Leg O → LegForm O
+leg_form leg = record { holder = leg.holder; lease = leg.lease; ends = leg.sending.ends }
+
+abbrev pub leg_forms : {O : Type 0} → List (Leg O) → List (LegForm O)
+leg_forms {O} those = map (λ (leg : Leg O). leg_form leg) those
+
+-- each leg that is there then has the holder, the lease and the out ends of an old one or of one that came, and each that went left with
+-- the lease and the out ends of an old one
+pub record FormsStay {O : Type 0} (came old new : List (Leg O)) (gone : List (Lease × O × O)) : Type 0 where
+  pub new_are : (leg : Leg O) → In leg new → In (leg_form leg) (leg_forms old ++ leg_forms came)
+  pub gone_are : (parts : Lease × O × O) → In parts gone → In (Some parts) (map (λ (leg : Leg O). parts_of leg) old)

@@ -232,7 +232,7 @@ impl<O: OutEnd> Cell<O> {
     ghost use Rattle.port_pool.specs.Reports.{CountsFit};
     ghost use Rattle.port_pool.specs.declared.reports.LegReport.{LegReport};
     ghost use Rattle.call_cell.specs.declared.leg.Leg.{Leg};
-    ghost use Rattle.call_cell.specs.Shapes.{IsSmall, LegsGo, counts_of, cell_shape, offered_shape, answered_shape, ended_shape};
+    ghost use Rattle.call_cell.specs.Shapes.{IsSmall, LegsGo, FormsStay, counts_of, cell_shape, offered_shape, answered_shape, ended_shape};
     ghost use Rattle.call_cell.specs.Counts.{CountsUnder};
     ghost use Rattle.call_cell.specs.Commits.{CellCommits, NamesKeys};
     ghost use Rattle.call_cell.specs.Expiries.{CellExpires};
@@ -281,6 +281,7 @@ impl<O: OutEnd> Cell<O> {
         ensures legs { LegsGo (λ leg. slice_index_or signal.dropped leg.section false) signal.legs.items self.old.legs.items self.new.legs.items gone.new }
         ensures prepares { (config : Config) (h : List CellEntry) (keys : List NewKey) (dropped : List ℕ) → CellFor config self.old h → PrepareFor signal keys dropped →
             CanCome config (since_end h) signal call keys dropped → CellPrepares config self.old self.new h signal call keys dropped now gone.new }
+        ensures forms { FormsStay signal.legs.items self.old.legs.items self.new.legs.items gone.new }
     {
         let Prepare {
             legs,
@@ -308,6 +309,7 @@ impl<O: OutEnd> Cell<O> {
             LegsGo (λ leg. is_rejected signal.now leg.section) [] self.old.legs.items self.new.legs.items gone.new }
         ensures commits { (config : Config) (h : List CellEntry) → CellFor config self.old h → NamesKeys (since_end h) signal.now →
             CellCommits config self.old self.new h signal.now now gone.new }
+        ensures forms { FormsStay [] self.old.legs.items self.new.legs.items gone.new }
     {
         let mut contexts = contexts;
         self.moment = self.moment.max(now);
@@ -345,6 +347,7 @@ impl<O: OutEnd> Cell<O> {
         ensures legs { IsSmall (cell_leg_shapes self.old.legs.items) → gone.new ≡ filter_map (λ leg. parts_of leg) self.old.legs.items }
         ensures ends { (config : Config) (h : List CellEntry) → CellFor config self.old h → CellEnds config self.old self.new h gone.new }
         ensures none { IsSmall (cell_leg_shapes self.old.legs.items) → self.new.legs.items ≡ [] }
+        ensures forms { FormsStay [] self.old.legs.items self.new.legs.items gone.new }
     {
         self.call = None;
         self.is_committed = false;

@@ -3,7 +3,7 @@ ghost use Rattle.call_cell.specs.declared.leg.Leg.{Leg};
 ghost use Rattle.port_pool.specs.Signals.{side_eq};
 ghost use Rattle.call_cell.specs.LegHistories.{AreApart};
 ghost use Rattle.call_cell.specs.Preparations.{is_key_at, put_if, with_keys};
-ghost use Rattle.call_cell.specs.Shapes.{counts_of_legs, ends_of_legs, cell_leg_shapes, with_prepared};
+ghost use Rattle.call_cell.specs.Shapes.{counts_of_legs, ends_of_legs, cell_leg_shapes, leg_forms, with_prepared};
 
 use crate::leg::Leg;
 use crate::prepare::PreparedKey;
@@ -48,6 +48,7 @@ fn put_key<O>(legs: &mut [Leg<O>], key: PreparedKey)
     ensures shape { cell_leg_shapes legs.new ≡ with_prepared (key ∷ []) (cell_leg_shapes legs.old) }
     ensures ends { ends_of_legs legs.new ≡ ends_of_legs legs.old }
     ensures counts { counts_of_legs legs.new ≡ counts_of_legs legs.old }
+    ensures forms { leg_forms legs.new ≡ leg_forms legs.old }
 {
     if let Some(at) = place_for(legs, &key) {
         legs[at].put(key.suite, key.contexts);
@@ -60,6 +61,7 @@ pub(crate) fn put_keys<O>(legs: &mut [Leg<O>], keys: Vec<PreparedKey>)
     ensures shape { cell_leg_shapes legs.new ≡ with_prepared keys.items (cell_leg_shapes legs.old) }
     ensures ends { ends_of_legs legs.new ≡ ends_of_legs legs.old }
     ensures counts { counts_of_legs legs.new ≡ counts_of_legs legs.old }
+    ensures forms { leg_forms legs.new ≡ leg_forms legs.old }
 {
     let mut keys = keys;
     while let Some(key) = keys.pop() {

@@ -20,7 +20,7 @@ use Rattle.relay_core.proofs.Homes.{no_legs_home, rows_home}
 use Rattle.relay_core.proofs.Given.{Gives, begins_as, cell_begins, given_brings}
 
 module _ {I O : Type 0} (it : I → EndLog InCall) (ot : O → EndLog OutCall) (oc : O → ℕ) where
-  box_begins_home : (config : Config) (pair : ℕ) (x : Part I O) → BeginsAs config (box_of config pair) x → BoxHome it config pair x
+  pub box_begins_home : (config : Config) (pair : ℕ) (x : Part I O) → BeginsAs config (box_of config pair) x → BoxHome it config pair x
   box_begins_home config pair (part.Board b) is = absurd (let k = is.0 in omega (arith, k))
   box_begins_home config pair (part.Cell c) is = absurd (let k = is.1 in omega (arith, k))
   box_begins_home config pair (part.Pair b) is =

@@ -61,9 +61,10 @@ cell_later_by ot oc config before old new made (Prepare call legs keys dropped) 
   left_are = step.left_are;
   moves = step.moves;
   steps = step.steps;
+  forms = step.forms;
 }
 cell_later_by ot oc config before old new made (Commit signal) step =
-    record { shape = step.shape; gone = step.gone; left_are = step.left_are; moves = step.moves; steps = step.steps }
+    record { shape = step.shape; gone = step.gone; left_are = step.left_are; moves = step.moves; steps = step.steps; forms = step.forms }
 cell_later_by ot oc config before old new made (Relay x) step = record {
   is_told = ap (later_relayed config before) step.is_told;
   shape = step.shape;
@@ -75,7 +76,7 @@ cell_later_by ot oc config before old new made (Relay x) step = record {
 cell_later_by ot oc config before old new made (Expire due) step = record { shape = step.shape; legs = step.legs; steps = step.steps }
 cell_later_by ot oc config before old new made (Read reports) step = record { same = step.same; steps = step.steps }
 cell_later_by ot oc config before old new made End step =
-    record { shape = step.shape; gone = step.gone; left_are = step.left_are; none = step.none; went = step.went; steps = step.steps }
+    record { shape = step.shape; gone = step.gone; left_are = step.left_are; none = step.none; went = step.went; steps = step.steps; forms = step.forms }
 
 cell_later : {O : Type 0} (ot : O → EndLog OutCall) (oc : O → ℕ) (config : Config) (before : List Entry) (old new : cell.Cell O) (made : Made) (event : Event)
     → CellSteps ot oc old made event new → CellSteps ot oc old (later_made config before made) (later_event config before event) new

@@ -65,6 +65,7 @@ pub mod OutsTold
 pub mod Homes
 pub mod HomesKept
 pub mod GivenHomes
+pub mod HomesGiven
 pub mod Closed
 pub mod Logged
 pub mod Numbers

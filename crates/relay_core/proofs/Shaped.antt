@@ -1,38 +1,35 @@
 -- The shape of a cell, the holder of a box and what the board keeps, as a turn gives them to the main hand: they follow from the start and from
 -- the hand's own list, since a relay and a take change nothing of them.
-use Rattle.std.proofs.Common.{◌≡◌, refl, sym, ◌∙◌, ap, subst, ℕ, zero, suc, ◌+◌, ◌<◌, ◌≤◌, Bool, true, false, List, [], ◌∷◌, Option, Some, None, IfSome, cond, filter, arith}
+use Rattle.std.proofs.Common.{◌≡◌, refl, sym, ◌∙◌, ap, subst, ℕ, ◌≤◌, Bool, true, false, List, [], ◌∷◌, Option, Some, None, IfSome, cond, filter}
 use Rattle.std.specs.List.{filter_map, cons_option}
 use Rattle.relay_outside.specs.declared.ports.InCall.{InCall}
 use Rattle.relay_outside.specs.declared.ports.OutCall.{OutCall}
 use Rattle.relay_outside.specs.DeviceLogs.{EndLog}
 use Rattle.turn_table.specs.declared.machine.Entry as table
 use Rattle.turn_table.specs.declared.view.View.{View}
-use Rattle.turn_table.specs.Histories.{Leaves, IsMemberOf}
-use Rattle.histories.specs.Words.{In}
+use Rattle.turn_table.specs.Histories.{Leaves}
 use Rattle.port_pool.specs.declared.holder.Holder.{Holder}
 use Rattle.port_pool.specs.declared.boxes.PairBox.{PairBox}
 use Rattle.port_pool.specs.Boxes.{BoxEvent, Open, Take, Close, holder}
-use Rattle.port_pool.specs.PairBoxes.{BoxFor, holder_in, cells_of}
+use Rattle.port_pool.specs.PairBoxes.{holder_in, cells_of}
 use Rattle.call_cell.specs.declared.cell.Cell as cell
 use Rattle.call_cell.specs.Cells.{CellEvent, CellEntry, Prepare, Commit, Relay, Expire, Read, End}
 use Rattle.call_cell.specs.Shapes.{CellShape, cell_shape}
-use Rattle.call_board.specs.declared.board.Board as board
 use Rattle.call_board.specs.Shapes.{BoardShape, board_shape}
 use Rattle.call_shapes.specs.Events.{shape_after_event, shape_by, holder_by}
 use Rattle.relay_core.specs.declared.part.Part.{Part}
 use Rattle.relay_core.specs.declared.part.Part.TheVariants as part
 use Rattle.relay_core.specs.Entries.{Event, Board, Cell, Box, Entry, history, cell_at, cell_entry, cell_history, box_in, box_event, box_history}
 use Rattle.relay_core.specs.PlaceHistories.{nested_of}
-use Rattle.relay_core.specs.PartShapes.{board_shape_in, cell_shape_in, box_holder_in}
 use Rattle.relay_core.specs.Records.{Made, entry_of, list_of}
-use Rattle.relay_core.specs.Steps.{CellSteps, CellStepsBy, BoxSteps, BoardSteps, is_reserved}
+use Rattle.relay_core.specs.Steps.{CellSteps, CellStepsBy, BoxSteps, is_reserved}
 use Rattle.relay_core.specs.Turns.{Numbered}
 use Rattle.relay_core.proofs.Stays.{onto, Steps}
 use Rattle.relay_core.proofs.Given.{Gives, same_nested, kept_history}
 
 -- A cell.
 
-cell_shaped : {O : Type 0} (ot : O → EndLog OutCall) (oc : O → ℕ) (old new : cell.Cell O) (made : Made) (event : CellEvent) → CellStepsBy ot oc old made event new
+pub cell_shaped : {O : Type 0} (ot : O → EndLog OutCall) (oc : O → ℕ) (old new : cell.Cell O) (made : Made) (event : CellEvent) → CellStepsBy ot oc old made event new
     → cell_shape new ≡ shape_after_event event (cell_shape old)
 cell_shaped ot oc old new made (Prepare call legs keys dropped) step = step.shape
 cell_shaped ot oc old new made (Commit signal) step = step.shape

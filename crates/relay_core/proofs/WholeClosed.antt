@@ -1,5 +1,5 @@
 -- What the close of the table returns goes together, where what the hand's list leaves does.
-use Rattle.std.proofs.Common.{◌≡◌, refl, sym, ◌∙◌, ap, subst, ℕ, ◌+◌, ◌<◌, ◌≤◌, Bool, true, false, List, [], ◌∷◌, ◌++◌, Option, Some, None, map, length, arith, slice_get}
+use Rattle.std.proofs.Common.{◌≡◌, refl, sym, ◌∙◌, ap, subst, ℕ, ◌<◌, ◌≤◌, true, List, [], ◌∷◌, ◌++◌, Option, Some, None, map, length, arith, slice_get}
 use Rattle.std.proofs.lemmas.Option.{slice_get_within}
 use Rattle.relay_outside.specs.declared.ports.InCall.{InCall}
 use Rattle.relay_outside.specs.declared.ports.OutCall.{OutCall}
@@ -13,17 +13,17 @@ use Rattle.rtp_packet.specs.declared.head.Half.TheVariants.{Rtp}
 use Rattle.port_pool.specs.declared.holder.Holder.{Holder}
 use Rattle.port_pool.specs.Ports.{pair_count, port_address}
 use Rattle.port_pool.specs.declared.boxes.PairBox.{PairBox}
-use Rattle.port_pool.specs.PairBoxes.{holder_in, cells_of, at_of}
+use Rattle.port_pool.specs.PairBoxes.{cells_of, at_of}
 use Rattle.call_cell.specs.declared.cell.Cell as cell
 use Rattle.call_board.specs.declared.board.Board as board
-use Rattle.call_cell.specs.Shapes.{CellShape, CellLegShape, cell_shape}
+use Rattle.call_cell.specs.Shapes.{CellShape, CellLegShape}
 use Rattle.call_board.specs.Shapes.{BoardShape, LiveShape, board_shape}
 use Rattle.call_shapes.specs.Agreement.{CallAgrees}
 use Rattle.call_shapes.specs.WholeRelay.{AreWhole, held_legs, PoolHolds, holder_among}
 use Rattle.call_shapes.proofs.Needs.{cell_within}
 use Rattle.relay_core.specs.declared.part.Part.{Part}
 use Rattle.relay_core.specs.declared.part.Part.TheVariants as part
-use Rattle.relay_core.specs.Entries.{Entry, box_of}
+use Rattle.relay_core.specs.Entries.{box_of}
 use Rattle.relay_core.specs.Records.{Made, list_of}
 use Rattle.relay_core.specs.Turns.{Numbered}
 use Rattle.relay_core.specs.PartShapes.{board_shape_in}

@@ -1,15 +1,14 @@
 -- What a relay's places hold at first goes together: the board has no calls, all pairs are free, the cells are empty and the boxes shut.
-use Rattle.std.proofs.Common.{◌≡◌, refl, sym, ◌∙◌, ap, subst, ℕ, zero, suc, ◌+◌, ◌<◌, ◌≤◌, Bool, false, List, ◌++◌, [], ◌∷◌, Option, Some, None, map, length, append_assoc, arith, slice_get}
+use Rattle.std.proofs.Common.{◌≡◌, refl, sym, ◌∙◌, ap, ℕ, suc, ◌+◌, ◌<◌, ◌≤◌, Bool, false, List, ◌++◌, [], ◌∷◌, Option, Some, None, map, length, append_assoc, arith, slice_get}
 use Rattle.std.proofs.lemmas.List.{length-append}
 use Rattle.relay_outside.specs.declared.settings.Config.{Config}
 use Rattle.turn_table.proofs.Lists.{get_there}
-use Rattle.port_pool.specs.declared.holder.Holder.{Holder}
 use Rattle.rtp_packet.specs.declared.head.Half.TheVariants.{Rtp}
 use Rattle.port_pool.specs.Ports.{pair_count, port_address}
 use Rattle.call_cell.specs.declared.cell.Cell as cell
 use Rattle.call_cell.specs.declared.leg.Leg.{Leg}
 use Rattle.call_cell.specs.CellHistories.{CellFor}
-use Rattle.call_cell.specs.Shapes.{CellShape, CellLegShape, cell_shape, cell_leg_shapes, ended_shape}
+use Rattle.call_cell.specs.Shapes.{cell_shape, cell_leg_shapes, ended_shape}
 use Rattle.call_board.specs.declared.board.Board as board
 use Rattle.call_board.specs.Shapes.{IsFreshShape, board_shape}
 use Rattle.call_shapes.proofs.Starting.{fresh_whole}
@@ -22,7 +21,7 @@ use Rattle.relay_core.proofs.Given.{begins_as}
 
 -- A cell without a history.
 
-no_items : {A B : Type 0} (f : A → B) (xs : List A) → map f xs ≡ [] → xs ≡ []
+pub no_items : {A B : Type 0} (f : A → B) (xs : List A) → map f xs ≡ [] → xs ≡ []
 no_items f [] q = refl
 no_items f (x ∷ xs) q = absurd (let p : f x ∷ map f xs ≡ [] = q in cc)
 

@@ -10,6 +10,7 @@ pub mod Steps
 pub mod EndLogs
 pub mod FirstPlaces
 pub mod PlaceHistories
+pub mod Homes
 pub mod Turns
 pub mod NestedMoments
 pub mod RowMoments

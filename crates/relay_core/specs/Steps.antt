@@ -29,7 +29,7 @@ use Rattle.call_cell.specs.Commits.{CellCommits}
 use Rattle.call_cell.specs.Expiries.{CellExpires}
 use Rattle.call_cell.specs.LegReports.{CellReads}
 use Rattle.call_cell.specs.CellEnds.{CellEnds, parts_of}
-use Rattle.call_cell.specs.Shapes.{IsSmall, LegsGo, KeepsPorts, CountsRoseByOne, cell_shape, cell_leg_shapes}
+use Rattle.call_cell.specs.Shapes.{IsSmall, LegsGo, FormsStay, KeepsPorts, CountsRoseByOne, cell_shape, cell_leg_shapes}
 use Rattle.call_board.specs.declared.board.Board as board
 use Rattle.call_board.specs.Acts.{BoardEvent, BoardEntry}
 use Rattle.call_board.specs.Boards.{BoardFor}
@@ -114,7 +114,7 @@ abbrev pub with_take : ℕ → Receipt → Receipt
 with_take take p = record { take = take; half = p.half; source = p.source; bytes = p.bytes; holder = p.holder }
 
 -- What a step makes of the cell's shape, and of its legs' out ends and counts, is said of each cell, of some steps where the cell is
--- small, and all else for every history that the cell stands for.
+-- small, and that its legs stay and go whole of each cell (`forms`); all else for every history that the cell stands for.
 
 -- a relay of this packet with this outcome, whichever number its take has, and whatever the buffer holds after it
 pub record CellRelayed {O : Type 0} (log : O → EndLog OutCall) (faults : O → ℕ) (old : cell.Cell O) (made : Made) (x : Relayed) (new : cell.Cell O) : Type 0 where
@@ -151,6 +151,7 @@ pub record CellPrepared {O : Type 0} (log : O → EndLog OutCall) (old : cell.Ce
   pub moves : IsSmall (cell_leg_shapes old.legs.items) → LegsGo (λ leg. has dropped leg.section) signal.legs.items old.legs.items new.legs.items gone
   pub steps : (config : Config) (h : List CellEntry) → CellFor config old h → AreNew h keys
       → HasMoment made (Prepare call legs keys dropped) h × CellPrepares config old new h signal call keys dropped made.handed gone
+  pub forms : FormsStay signal.legs.items old.legs.items new.legs.items gone
 
 pub record CellCommitted {O : Type 0} (log : O → EndLog OutCall) (old : cell.Cell O) (made : Made) (signal : List SectionSignal) (new : cell.Cell O) : Type 0 where
   pub shape : cell_shape new ≡ shape_after_event (Commit signal) (cell_shape old)
@@ -159,6 +160,7 @@ pub record CellCommitted {O : Type 0} (log : O → EndLog OutCall) (old : cell.C
   pub moves : IsSmall (cell_leg_shapes old.legs.items) → LegsGo (λ leg. is_rejected signal leg.section) [] old.legs.items new.legs.items gone
   pub steps : (config : Config) (h : List CellEntry) → CellFor config old h
       → HasMoment made (Commit signal) h × CellCommits config old new h signal made.handed gone
+  pub forms : FormsStay [] old.legs.items new.legs.items gone
 
 pub record CellEnded {O : Type 0} (log : O → EndLog OutCall) (old : cell.Cell O) (made : Made) (new : cell.Cell O) : Type 0 where
   pub shape : cell_shape new ≡ shape_after_event End (cell_shape old)
@@ -167,6 +169,7 @@ pub record CellEnded {O : Type 0} (log : O → EndLog OutCall) (old : cell.Cell 
   pub none : IsSmall (cell_leg_shapes old.legs.items) → new.legs.items ≡ []
   pub went : IsSmall (cell_leg_shapes old.legs.items) → gone ≡ filter_map (λ (leg : Leg O). parts_of leg) old.legs.items
   pub steps : (config : Config) (h : List CellEntry) → CellFor config old h → HasMoment made End h × CellEnds config old new h gone
+  pub forms : FormsStay [] old.legs.items new.legs.items gone
 
 -- the cell was asked whether its call is due
 pub record CellAsked {O : Type 0} (old : cell.Cell O) (made : Made) (due : Bool) (new : cell.Cell O) : Type 0 where

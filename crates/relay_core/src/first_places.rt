@@ -6,6 +6,7 @@ ghost use Rattle.port_pool.specs.Ports.{pair_count};
 ghost use Rattle.relay_core.specs.FirstPlaces.{AreParts, AddsCells, AddsBoxes};
 ghost use Rattle.relay_core.specs.WholeParts.{AreWholeParts};
 ghost use Rattle.relay_core.specs.Continued.{AreLeftBy};
+ghost use Rattle.relay_core.specs.Homes.{AreEndsHome};
 
 use crate::part::Part;
 use call_board::Board;
@@ -47,7 +48,8 @@ fn add_boxes<I: InEnd + Drop, O: OutEnd + Drop>(
 /// closed box for each port pair. Each interface of the configuration has an address of its family.
 /// A board and a cell stand for histories under one configuration, which is read off them: so what the places begin as
 /// is said once (`AreParts`). They are also what the empty list leaves: a fresh start is one that goes on from nothing. And what
-/// they keep goes together, whatever their histories.
+/// they keep goes together, whatever their histories, and the ends that they keep, of which there are none yet, are those of their
+/// ports.
 pub fn parts<I: InEnd + Drop, O: OutEnd + Drop>(
     alloc: Global,
     config: &Config,
@@ -56,6 +58,7 @@ pub fn parts<I: InEnd + Drop, O: OutEnd + Drop>(
     ensures begins { IfOk result (λ parts. AreParts config.now parts.items) }
     ensures left { IfOk result (λ parts. AreLeftBy config.now [] parts.items) }
     ensures whole { IfOk result (λ parts. AreWholeParts config.now parts.items) }
+    ensures homes { IfOk result (λ parts. AreEndsHome I.log O.log config.now parts.items) }
 {
     let board = Board::new(alloc, config)?;
     let mut parts = Vec::new(alloc);

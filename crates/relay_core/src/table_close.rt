@@ -13,6 +13,7 @@ ghost use Rattle.relay_core.specs.RowMoments.{AreTimed};
 ghost use Rattle.relay_core.specs.Continued.{AreLeftBy, IsSoundAfter, continued};
 ghost use Rattle.relay_core.specs.KeptAfter.{IsWholeNow};
 ghost use Rattle.relay_core.specs.WholeParts.{AreWholeParts};
+ghost use Rattle.relay_core.specs.Homes.{AreEndsHome};
 ghost use Rattle.relay_core.specs.EndLogs.{InOrder, InsAreTold, OutsAreTold};
 ghost use Rattle.relay_core.specs.Turns.{Numbered, made_by};
 ghost use Rattle.relay_core.specs.Joins.{IsSound, AreStanding};
@@ -33,6 +34,8 @@ use turn_table::{Hand, Turns};
 /// list, which leaves what the places hold now. So a list can go on from that one in turn.
 ///
 /// Where what the board, the cells and the boxes keep goes together, so do the states that are returned: a node may begin with them.
+/// And where the ends that the boxes and cells kept at first are those of their ports, so are those of the states that are returned,
+/// whatever the list and whatever the histories of the places.
 ///
 /// A leg's sends are told by its call, pair and generation, since two legs of one cell may have had the pair one after the
 /// other. Without `AreTimed` a sweep with another clock would meet every clause.
@@ -51,6 +54,7 @@ pub fn close_relay<I: InEnd, O: OutEnd>(
     ensures continued { (config : Config) (before : List Entry) → AreLeftBy config before (starts hand) → IsSoundAfter config before (entries hand) → (l : List Entry) × (map as_logged l ≡ made_by hand) × AreLeftBy config (continued config before l) result.items }
     ensures timed { (config : Config) → AreParts config (starts hand) → IsSound config (entries hand) → AreTimed (entries hand) }
     ensures whole { (config : Config) → AreWholeParts config (starts hand) → IsWholeNow config hand → AreWholeParts config result.items }
+    ensures homes { (config : Config) → AreEndsHome I.log O.log config (starts hand) → AreEndsHome I.log O.log config result.items }
 {
     turns.close(hand)
 }

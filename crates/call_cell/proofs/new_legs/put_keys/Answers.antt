@@ -11,6 +11,7 @@ loop-key-preserved g c = (
       c.in-Some.ensures.items c.loop-key.invariant.1 c.put_key.ensures.shape,
   c.put_key.ensures.ends ∙ c.loop-key.invariant.2,
   c.put_key.ensures.counts ∙ c.loop-key.invariant.3,
+  c.put_key.ensures.forms ∙ c.loop-key.invariant.4,
 )
 
 pub returns-clause-legs : goal.returns-clause-legs

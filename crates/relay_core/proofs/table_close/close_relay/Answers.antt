@@ -6,6 +6,7 @@ use Rattle.relay_core.proofs.Partings.{sound_outs}
 use Rattle.relay_core.proofs.Filling.{filled_in}
 use Rattle.relay_core.specs.Records.{list_of}
 use Rattle.relay_core.proofs.WholeClosed.{closed_whole}
+use Rattle.relay_core.proofs.HomesGiven.{closed_home}
 use Rattle.relay_core.proofs.table_close.close_relay.Goals as goal
 
 pub returns-clause-numbered : goal.returns-clause-numbered
@@ -46,3 +47,8 @@ pub returns-clause-whole : goal.returns-clause-whole
 returns-clause-whole g c = λ config parts now.
     closed_whole g.I.InEnd.log g.I.InEnd.faults g.O.OutEnd.log g.O.OutEnd.faults config (starts c.args.hand) (entries c.args.hand) c.close.result.items now.shape
     parts c.close.ensures.range c.close.ensures.states c.close.ensures.length now.kept now.whole
+
+pub returns-clause-homes : goal.returns-clause-homes
+returns-clause-homes g c = λ config homes.
+    closed_home g.I.InEnd.log g.I.InEnd.faults g.O.OutEnd.log g.O.OutEnd.faults config (starts c.args.hand) (entries c.args.hand) c.close.result.items
+    c.close.ensures.states c.close.ensures.length homes
