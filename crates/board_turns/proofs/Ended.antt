@@ -8,8 +8,8 @@ use Rattle.port_pool.specs.declared.pairs.Lease.{Lease}
 use Rattle.port_pool.specs.declared.holder.Holder.{Holder}
 use Rattle.call_board.specs.Acts.{Call}
 use Rattle.call_board.specs.declared.board.Board.{Board}
-use Rattle.call_board.specs.Views.{View, CallView, call_numbered, without_call}
-use Rattle.call_board.specs.Boards.{BoardMatches, CellsApart, pairs_in}
+use Rattle.call_board.specs.Views.{View, CallView, call_numbered}
+use Rattle.call_board.specs.Boards.{BoardMatches, pairs_in}
 use Rattle.call_board.specs.Returns.{leg_lease, MayReturnAll}
 use Rattle.relay_core.specs.Entries.{Entry}
 use Rattle.relay_core.specs.Scripts.{closing}

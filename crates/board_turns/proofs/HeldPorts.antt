@@ -19,7 +19,7 @@ use Rattle.call_board.specs.declared.board.Board.{Board}
 use Rattle.call_board.specs.declared.live_call.LiveCall.{LiveCall}
 use Rattle.call_board.specs.Boards.{BoardMatches, IsLive, pairs_in}
 use Rattle.call_board.specs.Pairs.{held, free}
-use Rattle.call_board.specs.Shapes.{BoardShape, LiveShape, ShapeEnds, board_shape, live_shape, live_shapes, shape_numbered, without_live}
+use Rattle.call_board.specs.Shapes.{BoardShape, LiveShape, ShapeEnds, board_shape, live_shape, live_shapes, without_live}
 use Rattle.call_board.specs.Views.{View}
 use Rattle.call_shapes.specs.Turns.{pairs_held}
 use Rattle.call_shapes.proofs.Needs.{leg_is_open}
@@ -27,12 +27,12 @@ use Rattle.relay_core.specs.declared.part.Part.{Part}
 use Rattle.relay_core.specs.Entries.{box_of}
 use Rattle.relay_core.specs.KeptAfter.{IsWholeWith, holders_after, relay_after}
 use Rattle.relay_core.specs.Records.{Made}
-use Rattle.relay_core.specs.Scripts.{Owed, closing}
+use Rattle.relay_core.specs.Scripts.{Owed}
 use Rattle.relay_core.specs.Turns.{GainsNested, made_by}
 use Rattle.relay_core.proofs.KeptGained.{hand_holders}
 use Rattle.relay_core.proofs.KeptScripts.{closed_all}
 use Rattle.media_ports.specs.OpenPorts.{OpensHeld, LogsHeld}
-use Rattle.board_turns.specs.NestedSteps.{IsTurnOpen, holder_now}
+use Rattle.board_turns.specs.NestedSteps.{holder_now}
 use Rattle.board_turns.specs.InCells.{in_cell_of}
 use Rattle.board_turns.specs.Closings.{closings_of, leases_of_legs, pairs_left}
 use Rattle.board_turns.specs.CallEnds.{CanEnd, HoldsOpen, leg_pairs}

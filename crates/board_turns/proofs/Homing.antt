@@ -1,5 +1,5 @@
 -- The ends of what the main hand is given, and so of what leaves its place, are those that were opened for its ports.
-use Rattle.std.proofs.Common.{◌≡◌, sym, subst, ℕ, ◌<◌, ◌≤◌, List, Option, filter}
+use Rattle.std.proofs.Common.{◌≡◌, sym, subst, ℕ, ◌<◌, ◌≤◌, List, Option}
 use Rattle.relay_outside.specs.declared.ports.InCall.{InCall}
 use Rattle.relay_outside.specs.declared.ports.OutCall.{OutCall}
 use Rattle.relay_outside.specs.declared.settings.Config.{Config}
@@ -7,32 +7,28 @@ use Rattle.relay_outside.specs.DeviceLogs.{EndLog, IsOpenedFor}
 use Rattle.rtp_packet.specs.declared.head.Half.TheVariants.{Rtp, Rtcp}
 use Rattle.turn_table.specs.declared.hands.Turns.{Turns}
 use Rattle.turn_table.specs.declared.hands.Hand.{Hand}
-use Rattle.turn_table.specs.Hands.{view, entries}
-use Rattle.histories.specs.Words.{has}
-use Rattle.histories.proofs.Lists.{filtered}
+use Rattle.turn_table.specs.Hands.{starts, view}
 use Rattle.port_pool.specs.Ports.{pair_count, port_address, rtcp_address, AreOfPair}
 use Rattle.port_pool.specs.declared.pairs.Lease.{Lease}
-use Rattle.port_pool.specs.declared.signal.SectionSignal.{SectionSignal}
-use Rattle.port_pool.specs.Signals.{NewKey}
 use Rattle.call_cell.specs.declared.leg.Leg.{Leg}
 use Rattle.call_cell.specs.declared.cell.Cell as cell
 use Rattle.call_cell.specs.declared.prepare.Prepare as prepared
 use Rattle.call_cell.specs.Cells.{CellEntry}
-use Rattle.call_cell.specs.Commits.{goes_by}
+use Rattle.call_cell.specs.Shapes.{FormsStay}
 use Rattle.relay_core.specs.declared.part.Part.{Part}
 use Rattle.relay_core.specs.declared.part.Part.TheVariants as part
 use Rattle.relay_core.specs.Entries.{box_of}
 use Rattle.relay_core.specs.Records.{Made}
-use Rattle.relay_core.specs.PlaceHistories.{CellIs, AreHome, BoxHome, LegsHome, GoneHome}
+use Rattle.relay_core.specs.PlaceHistories.{CellIs, AreHome, GoneHome}
+use Rattle.relay_core.specs.Homes.{IsCellHome, KeepsHome}
 use Rattle.relay_core.specs.Steps.{AreOpened}
-use Rattle.relay_core.specs.Turns.{made_by}
 use Rattle.relay_core.proofs.KeptGiven.{IsBoxAt, kept_box_at}
-use Rattle.relay_core.proofs.GivenHomes.{given_box_home, given_cell_home}
-use Rattle.relay_core.proofs.Homes.{gone_home}
+use Rattle.relay_core.proofs.GivenHomes.{given_box_home}
+use Rattle.relay_core.proofs.HomesGiven.{cell_home_given, first_home}
+use Rattle.relay_core.proofs.HomesKept.{forms_gone_home}
 use Rattle.board_turns.specs.NestedSteps.{MayNest, Shuts}
-use Rattle.board_turns.specs.InCells.{HasNewKeys, OpenedFor, IsCellAt, Ends, Prepares, Commits}
+use Rattle.board_turns.specs.InCells.{OpenedFor}
 use Rattle.board_turns.specs.BoxStates.{FitEnds}
-use Rattle.board_turns.proofs.Nesting.{above_rows}
 use Rattle.board_turns.proofs.Boxing.{Gives}
 
 module _ {I O : Type 0} (it : I → EndLog InCall) (ot : O → EndLog OutCall) where
@@ -69,33 +65,17 @@ module _ {M I O T : Type 0} {g : _} (it : I → EndLog InCall) (ic : I → ℕ) 
 
   -- Cells.
 
-  -- the legs of the cell that the hand is given have the out ends of their pairs
-  legs_home : (config : Config) (turns : Turns M (Part I O) Made T) (hand : Hand M (Part I O) Made T g) (place : ℕ) (c : cell.Cell O) (h : List CellEntry)
-      → MayNest config turns hand → 1 ≤ place → place ≤ config.max_sessions → HasNewKeys (made_by hand) place → IsCellAt it ic ot oc config hand place c h
-      → LegsHome ot config c.legs.items
-  legs_home config turns hand place c h may low high keys was =
-      given_cell_home it ic ot oc config (view hand) place was.number (part.Cell c) may.parts low high was.given may.main may.numbered
-      (keys was.number (above_rows (entries hand) place was.number was.given.above))
+  -- the cell that the hand is given has those of its pairs, whatever its history
+  pub home_held : (config : Config) (turns : Turns M (Part I O) Made T) (hand : Hand M (Part I O) Made T g) (place found n : ℕ) (x now : Part I O)
+      → MayNest config turns hand → 1 ≤ place → place ≤ config.max_sessions → found ≡ place → now ≡ x → Gives it ic ot oc hand found n x → KeepsHome ot config now
+  home_held config turns hand place found n x now may low high at same given =
+      let there : Gives it ic ot oc hand place n now
+      = subst (λ (k : ℕ). Gives it ic ot oc hand k n now) at (subst (λ (z : Part I O). Gives it ic ot oc hand found n z) (sym same) given) in
+      cell_home_given it ic ot oc config (view hand) place n now (first_home it ot oc config (starts hand) may.parts) low high there
 
-  pub ended_home : (config : Config) (turns : Turns M (Part I O) Made T) (hand : Hand M (Part I O) Made T g) (place : ℕ) (gone : List (Lease × O × O))
-      → MayNest config turns hand → 1 ≤ place → place ≤ config.max_sessions → HasNewKeys (made_by hand) place → Ends it ic ot oc config hand place gone
-      → GoneHome ot config gone
-  ended_home config turns hand place gone may low high keys ends =
-      gone_home ot oc config ends.old ends.history ends.old.legs.items gone ends.was.stands
-      (legs_home config turns hand place ends.old ends.history may low high keys ends.was) (λ leg i. i) ends.ends.went
-
-  pub prepared_home : (config : Config) (turns : Turns M (Part I O) Made T) (hand : Hand M (Part I O) Made T g) (place : ℕ) (signal : prepared.Prepare O) (call : ℕ)
-      (keys : List NewKey) (dropped : List ℕ) (now : ℕ) (gone : List (Lease × O × O)) → MayNest config turns hand → 1 ≤ place → place ≤ config.max_sessions
-      → HasNewKeys (made_by hand) place → Prepares it ic ot oc config hand place signal call keys dropped now gone → GoneHome ot config gone
-  prepared_home config turns hand place signal call keys dropped now gone may low high new does =
-      gone_home ot oc config does.old does.history (filter (λ (leg : Leg O). has dropped leg.holder.section) does.old.legs.items) gone does.was.stands
-      (legs_home config turns hand place does.old does.history may low high new does.was)
-      (λ leg i. (filtered (λ (l : Leg O). has dropped l.holder.section) does.old.legs.items i).0) does.prepares.went
-
-  pub committed_home : (config : Config) (turns : Turns M (Part I O) Made T) (hand : Hand M (Part I O) Made T g) (place : ℕ) (signal : List SectionSignal) (now : ℕ)
-      (gone : List (Lease × O × O)) → MayNest config turns hand → 1 ≤ place → place ≤ config.max_sessions → HasNewKeys (made_by hand) place
-      → Commits it ic ot oc config hand place signal now gone → GoneHome ot config gone
-  committed_home config turns hand place signal now gone may low high new does =
-      gone_home ot oc config does.old does.history (filter (λ (leg : Leg O). goes_by signal leg) does.old.legs.items) gone does.was.stands
-      (legs_home config turns hand place does.old does.history may low high new does.was)
-      (λ leg i. (filtered (λ (l : Leg O). goes_by signal l) does.old.legs.items i).0) does.commits.went
+-- so what goes from it has them
+pub went_home : {I O : Type 0} (ot : O → EndLog OutCall) (oc : O → ℕ) (config : Config) (x : Part I O) (old : cell.Cell O) (came new : List (Leg O)) (gone : List (Lease × O × O))
+    → x ≡ part.Cell old → KeepsHome ot config x → FormsStay came old.legs.items new gone → GoneHome ot config gone
+went_home {I} {O} ot oc config x old came new gone is home forms =
+    let held : IsCellHome ot config old = subst (λ (y : Part I O). KeepsHome ot config y) is home in
+    forms_gone_home ot oc config came old.legs.items new gone forms held.legs held.paired

@@ -25,7 +25,7 @@ use Rattle.relay_core.specs.declared.part.Part.TheVariants as part
 use Rattle.relay_core.specs.Records.{Made}
 use Rattle.relay_core.proofs.KeptGiven.{kept_cell}
 use Rattle.board_turns.specs.NestedSteps.{MayNest}
-use Rattle.board_turns.specs.InCells.{IsCellAt, Ends, Prepares, Commits}
+use Rattle.board_turns.specs.InCells.{IsCellAt, Prepares, Commits}
 use Rattle.board_turns.specs.Closings.{leases_of_legs}
 use Rattle.board_turns.specs.Departures.{AllHaveEnds, cell_kept, leases_going}
 

@@ -1,5 +1,5 @@
 -- The pairs of a live call's legs are held by the history of a board that stands for one, so their ports are open.
-use Rattle.std.proofs.Common.{◌≡◌, ◌∙◌, refl, sym, ap, subst, ℕ, ◌<◌, Bool, true, false, not, List, [], ◌∷◌, ◌++◌, Option, Some, IsSome, map, filter, cond, arith}
+use Rattle.std.proofs.Common.{◌≡◌, ◌∙◌, refl, sym, ap, subst, ℕ, ◌<◌, Bool, true, false, not, List, [], ◌∷◌, ◌++◌, Option, Some, IsSome, map, arith}
 use Rattle.std.specs.Prelude.{◌&&◌}
 use Rattle.std.specs.List.{flat_map}
 use Rattle.std.proofs.lemmas.List.{map-append}
@@ -25,7 +25,7 @@ use Rattle.call_board.specs.Boards.{AreOut, BoardMatches, IsLive, IsOut}
 use Rattle.call_board.specs.Fits.{IsFitting}
 use Rattle.call_board.specs.Pairs.{held, free, closed_of}
 use Rattle.call_board.specs.Returns.{leg_lease}
-use Rattle.call_board.specs.Shapes.{LiveShape, board_shape, shape_numbered}
+use Rattle.call_board.specs.Shapes.{board_shape}
 use Rattle.call_board.specs.Views.{View, without_call}
 use Rattle.call_board.specs.Whole.{with_closed, with_ended}
 use Rattle.call_board.proofs.Free.{free_not_held, held_below}

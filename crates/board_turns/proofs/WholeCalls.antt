@@ -1,5 +1,5 @@
 -- What holds of a live call where the board, the cells and the boxes go together: its legs may be closed when it has ended.
-use Rattle.std.proofs.Common.{◌≡◌, ◌∙◌, refl, sym, ap, subst, ℕ, ◌<◌, ◌≤◌, ◌==◌, Bool, true, false, List, [], ◌∷◌, ◌++◌, Option, Some, None, IsSome, map, filter, cond, arith}
+use Rattle.std.proofs.Common.{◌≡◌, ◌∙◌, refl, sym, ap, subst, ℕ, ◌<◌, ◌≤◌, ◌==◌, Bool, true, false, List, [], ◌∷◌, Option, Some, None, IsSome, map, filter, cond, arith}
 use Rattle.std.specs.Prelude.{◌||◌}
 use Rattle.std.specs.List.{list_any}
 use Rattle.relay_outside.specs.declared.ports.PortCall.{PortCall}
@@ -7,7 +7,7 @@ use Rattle.relay_outside.specs.declared.settings.Config.{Config}
 use Rattle.turn_table.specs.declared.hands.Hand.{Hand}
 use Rattle.turn_table.specs.Hands.{starts}
 use Rattle.histories.specs.Words.{In, here, there, has, first}
-use Rattle.histories.proofs.Lists.{in_right, mapped, maps}
+use Rattle.histories.proofs.Lists.{in_right, mapped}
 use Rattle.port_pool.specs.declared.holder.Holder.{Holder}
 use Rattle.port_pool.specs.declared.pairs.Lease.{Lease}
 use Rattle.port_pool.specs.Pools.{Pairs}
@@ -21,7 +21,6 @@ use Rattle.call_board.specs.Returns.{leg_lease}
 use Rattle.call_board.specs.Shapes.{BoardShape, LiveShape, ShapeEnds, board_shape, live_shape, live_shapes, shape_numbered}
 use Rattle.call_shapes.specs.Agreement.{IsLegOf}
 use Rattle.call_shapes.specs.OfferFits.{cell_holders}
-use Rattle.call_shapes.specs.Turns.{RelayShape, IsWholeRelay}
 use Rattle.call_shapes.proofs.Needs.{leg_is_open, cell_within, cell_is_small}
 use Rattle.call_shapes.proofs.NumberedSteps.{numbered_all_out}
 use Rattle.call_shapes.proofs.Numbered.{numbered}

@@ -1,4 +1,4 @@
-use Rattle.std.proofs.Common.{◌≡◌, refl, arith, ◌∙◌, sym, subst}
+use Rattle.std.proofs.Common.{◌≡◌, refl, [], arith, ◌∙◌, sym, subst}
 use Rattle.call_cell.specs.Cells.{End}
 use Rattle.call_cell.specs.Shapes.{cell_shape}
 use Rattle.relay_core.specs.Entries.{Cell}
@@ -11,7 +11,7 @@ use Rattle.board_turns.proofs.Nesting.{above_rows, turn_gained, turn_row, turn_m
 use Rattle.board_turns.proofs.Celling.{cell_given, cell_held, shaped_cell, shape_of, small_by, ends_by, end_relates, ends_part}
 use Rattle.board_turns.proofs.Leaving.{ended_went}
 use Rattle.board_turns.proofs.KeptLegs.{ended_leases}
-use Rattle.board_turns.proofs.Homing.{ended_home}
+use Rattle.board_turns.proofs.Homing.{home_held, went_home}
 use Rattle.board_turns.proofs.cells.end_cell.Goals as goal
 
 pub returns-clause-gained : goal.returns-clause-gained
@@ -50,6 +50,12 @@ is_kept g c =
 pub returns-clause-left : goal.returns-clause-left
 returns-clause-left g c =
     ended_leases c.in-Cell.held _ c.end.new.gone (is_kept g c) (c.end.ensures.legs (small_by c.in-Cell.held _ (is_kept g c) c.requires.small))
+
+pub returns-clause-home : goal.returns-clause-home
+returns-clause-home g c =
+    went_home g.O.OutEnd.log g.O.OutEnd.faults c.args.main.now.config.now c.state.result.now c.in-Cell.held [] c.end.new.self.legs.items c.end.new.gone c.in-Cell.is
+    (home_held g.I.InEnd.log g.I.InEnd.faults g.O.OutEnd.log g.O.OutEnd.faults c.args.main.now.config.now c.args.main.now.turns.now c.args.main.now.hand.now c.args.cell c.cell_place.result
+    c.turn-step.result.front _ c.state.result.now c.requires.may c.requires.cell.0 c.requires.cell.1 c.cell_place.ensures c.state.ensures.value c.turn-step.ensures.turn.1) c.end.ensures.forms
 
 pub cell_place-requires : goal.cell_place-requires
 cell_place-requires g c =
@@ -93,7 +99,7 @@ put_step-requires-clause-step g c =
     c.turn-step.ensures.turn.1) in
     end_relates g.I.InEnd.log g.I.InEnd.faults g.O.OutEnd.log g.O.OutEnd.faults c.turn-step.result.taken.value c.in-Cell.held c.end.new.self c.end.new.gone
     c.args.main.now.entry_id.number c.args.main.now.entry_id.moment (c.turn-step.ensures.turn.0.1 ∙ sym c.state.ensures.value ∙ c.in-Cell.is)
-    (c.end.ensures.shape (small_by c.in-Cell.held _ kept c.requires.small)) c.end.ensures.none c.end.ensures.legs c.end.ensures.ends
+    (c.end.ensures.shape (small_by c.in-Cell.held _ kept c.requires.small)) c.end.ensures.none c.end.ensures.legs c.end.ensures.forms c.end.ensures.ends
 
 pub returns-clause-nests : goal.returns-clause-nests
 returns-clause-nests g c =

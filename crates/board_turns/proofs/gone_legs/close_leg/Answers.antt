@@ -15,7 +15,7 @@ use Rattle.call_board.specs.Shapes.{board_shape}
 use Rattle.board_turns.specs.NestedSteps.{AddsRow, IsTurnOpen, ends_left, closing_of}
 use Rattle.board_turns.specs.Closings.{ClosesLegs}
 use Rattle.relay_core.specs.Entries.{Box, box_of}
-use Rattle.relay_core.specs.Turns.{made_by, GainsNested}
+use Rattle.relay_core.specs.Turns.{GainsNested}
 use Rattle.board_turns.proofs.KeptPools.{one_returned}
 use Rattle.board_turns.proofs.Lefts.{told_open, told_closed}
 use Rattle.board_turns.proofs.Staying.{same_config}

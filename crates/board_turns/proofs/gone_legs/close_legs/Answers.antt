@@ -12,7 +12,7 @@ use Rattle.call_board.specs.Shapes.{board_shape, shape_returns}
 use Rattle.call_board.specs.Boards.{BoardMatches, pairs_in}
 use Rattle.call_board.proofs.Entries.{returned_more, returned_none}
 use Rattle.relay_core.specs.Scripts.{Owed}
-use Rattle.relay_core.specs.Turns.{GainsNested, made_by}
+use Rattle.relay_core.specs.Turns.{GainsNested}
 use Rattle.relay_outside.specs.declared.settings.Config.{Config}
 use Rattle.board_turns.specs.BoardTurns.{MakesNested}
 use Rattle.board_turns.specs.Ties.{TiesTakes}

@@ -7,7 +7,6 @@ use Rattle.call_board.specs.Boards.{BoardMatches, KeepsCalls, pairs_in}
 use Rattle.call_board.specs.Views.{View, with_returned}
 use Rattle.call_board.specs.Shapes.{board_shape, shape_returns}
 use Rattle.relay_core.specs.PlaceHistories.{GoneHome}
-use Rattle.relay_core.specs.Turns.{made_by}
 use Rattle.media_ports.specs.OpenPorts.{OpensHeld}
 use Rattle.board_turns.specs.BoardTurns.{MakesNested, StaysInTurn}
 use Rattle.board_turns.specs.Closings.{CanClose, leases_of_legs, closings_of, ClosesLegs, pairs_left}

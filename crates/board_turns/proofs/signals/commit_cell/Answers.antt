@@ -1,4 +1,4 @@
-use Rattle.std.proofs.Common.{refl, arith, max, ◌∙◌, sym, subst}
+use Rattle.std.proofs.Common.{[], refl, arith, max, ◌∙◌, sym, subst}
 use Rattle.call_cell.specs.Cells.{Commit}
 use Rattle.relay_core.specs.Entries.{Cell, cell_history}
 use Rattle.relay_core.specs.Turns.{made_by}
@@ -11,7 +11,7 @@ use Rattle.board_turns.proofs.Celling.{cell_given, is_cell}
 use Rattle.board_turns.proofs.Signalling.{takes_answer, space_is, commits_by, answer_fits, commit_relates, commits_part}
 use Rattle.board_turns.proofs.Leaving.{committed_went}
 use Rattle.board_turns.proofs.KeptLegs.{committed_left}
-use Rattle.board_turns.proofs.Homing.{committed_home}
+use Rattle.board_turns.proofs.Homing.{home_held, went_home}
 use Rattle.board_turns.proofs.signals.commit_cell.Goals as goal
 
 pub returns-clause-gained : goal.returns-clause-gained
@@ -48,8 +48,9 @@ returns-clause-left g c =
 
 pub returns-clause-home : goal.returns-clause-home
 returns-clause-home g c =
-    committed_home g.I.InEnd.log g.I.InEnd.faults g.O.OutEnd.log g.O.OutEnd.faults c.args.main.now.config.now c.args.main.now.turns.now c.args.main.now.hand.now c.args.cell c.args.signal.now c.args.main.now.entry_id.moment c.commit.new.gone c.requires.may
-    c.requires.cell.0 c.requires.cell.1 c.requires.keys (returns-clause-committed g c)
+    went_home g.O.OutEnd.log g.O.OutEnd.faults c.args.main.now.config.now c.state.result.now c.in-Cell.held [] c.commit.new.self.legs.items c.commit.new.gone c.in-Cell.is
+    (home_held g.I.InEnd.log g.I.InEnd.faults g.O.OutEnd.log g.O.OutEnd.faults c.args.main.now.config.now c.args.main.now.turns.now c.args.main.now.hand.now c.args.cell c.cell_place.result
+    c.turn-step.result.front _ c.state.result.now c.requires.may c.requires.cell.0 c.requires.cell.1 c.cell_place.ensures c.state.ensures.value c.turn-step.ensures.turn.1) c.commit.ensures.forms
 
 pub cell_place-requires : goal.cell_place-requires
 cell_place-requires g c =
@@ -109,7 +110,7 @@ put_step-requires-clause-step g c =
     let takes = takes_answer c.args.main.now.config.now c.turn-step.result.taken.value own c.args.signal.now c.args.contexts is.1 (c.requires.names c.turn-step.result.front above)
     (space_is c.args.main.now.config.now c.turn-step.result.taken.value (made_by c.args.main.now.hand.now) c.args.cell c.turn-step.result.front c.args.signal.now c.args.contexts is.1 above c.requires.room) in
     commit_relates g.I.InEnd.log g.I.InEnd.faults g.O.OutEnd.log g.O.OutEnd.faults c.turn-step.result.taken.value c.in-Cell.held c.commit.new.self c.args.signal.now c.args.contexts
-    c.args.main.now.entry_id.moment c.commit.new.gone c.args.main.now.entry_id.number (c.turn-step.ensures.turn.0.1 ∙ sym c.state.ensures.value ∙ c.in-Cell.is) takes c.commit.ensures.shape c.commit.ensures.legs c.commit.ensures.commits
+    c.args.main.now.entry_id.moment c.commit.new.gone c.args.main.now.entry_id.number (c.turn-step.ensures.turn.0.1 ∙ sym c.state.ensures.value ∙ c.in-Cell.is) takes c.commit.ensures.shape c.commit.ensures.legs c.commit.ensures.forms c.commit.ensures.commits
 
 pub returns-clause-nests : goal.returns-clause-nests
 returns-clause-nests g c =

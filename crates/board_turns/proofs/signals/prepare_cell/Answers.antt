@@ -11,7 +11,7 @@ use Rattle.board_turns.proofs.Celling.{cell_given, is_cell}
 use Rattle.board_turns.proofs.Signalling.{takes_offer, prepares_by, tells_brought, offer_fits, prepares_part, prepare_relates, relates_brought}
 use Rattle.board_turns.proofs.Leaving.{prepared_went}
 use Rattle.board_turns.proofs.KeptLegs.{prepared_left}
-use Rattle.board_turns.proofs.Homing.{prepared_home, opened_for}
+use Rattle.board_turns.proofs.Homing.{home_held, went_home, opened_for}
 use Rattle.board_turns.proofs.signals.prepare_cell.Goals as goal
 
 pub returns-clause-gained : goal.returns-clause-gained
@@ -54,8 +54,9 @@ returns-clause-left g c =
 
 pub returns-clause-home : goal.returns-clause-home
 returns-clause-home g c =
-    prepared_home g.I.InEnd.log g.I.InEnd.faults g.O.OutEnd.log g.O.OutEnd.faults c.args.main.now.config.now c.args.main.now.turns.now c.args.main.now.hand.now c.args.cell c.args.signal c.args.call (prepared_keys c.args.signal)
-    (drops_of c.args.signal) c.args.main.now.entry_id.moment c.prepare.new.gone c.requires.may c.requires.cell.0 c.requires.cell.1 c.requires.keys (returns-clause-prepared g c)
+    went_home g.O.OutEnd.log g.O.OutEnd.faults c.args.main.now.config.now c.state.result.now c.in-Cell.held c.args.signal.legs.items c.prepare.new.self.legs.items c.prepare.new.gone c.in-Cell.is
+    (home_held g.I.InEnd.log g.I.InEnd.faults g.O.OutEnd.log g.O.OutEnd.faults c.args.main.now.config.now c.args.main.now.turns.now c.args.main.now.hand.now c.args.cell c.cell_place.result
+    c.turn-step.result.front _ c.state.result.now c.requires.may c.requires.cell.0 c.requires.cell.1 c.cell_place.ensures c.state.ensures.value c.turn-step.ensures.turn.1) c.prepare.ensures.forms
 
 pub cell_place-requires : goal.cell_place-requires
 cell_place-requires g c =
@@ -115,7 +116,7 @@ put_step-requires-clause-step g c =
     let opened = opened_for g.I.InEnd.log g.O.OutEnd.log c.args.main.now.config.now c.turn-step.result.taken.value _ c.args.signal is.1 c.requires.opened in
     relates_brought g.I.InEnd.log g.I.InEnd.faults g.O.OutEnd.log g.O.OutEnd.faults c.turn-step.result.taken.value (part.Cell c.prepare.new.self) c.args.main.now.entry_id.number c.args.main.now.entry_id.moment (max c.args.main.now.entry_id.moment (moment_of_cell c.turn-step.result.taken.value)) c.args.call c.of-brought.result.value c.args.signal (gone_left g.O.OutEnd.log c.prepare.new.gone) c.of-brought.ensures
     (prepare_relates g.I.InEnd.log g.I.InEnd.faults g.O.OutEnd.log g.O.OutEnd.faults c.turn-step.result.taken.value c.in-Cell.held c.prepare.new.self c.args.signal c.args.call
-    (prepared_keys c.args.signal) (drops_of c.args.signal) c.args.main.now.entry_id.moment c.prepare.new.gone c.args.main.now.entry_id.number (c.turn-step.ensures.turn.0.1 ∙ sym c.state.ensures.value ∙ c.in-Cell.is) takes opened c.prepare.ensures.shape c.prepare.ensures.legs c.prepare.ensures.prepares)
+    (prepared_keys c.args.signal) (drops_of c.args.signal) c.args.main.now.entry_id.moment c.prepare.new.gone c.args.main.now.entry_id.number (c.turn-step.ensures.turn.0.1 ∙ sym c.state.ensures.value ∙ c.in-Cell.is) takes opened c.prepare.ensures.shape c.prepare.ensures.legs c.prepare.ensures.forms c.prepare.ensures.prepares)
 
 pub returns-clause-nests : goal.returns-clause-nests
 returns-clause-nests g c =

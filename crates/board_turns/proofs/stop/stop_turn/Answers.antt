@@ -93,7 +93,7 @@ end_live-count-requires-clause-holds g c =
     board_holds config mid c.advance-moment.new.self (g.P.PortMaker.log c.args.at.now.ports.now) (board_history (made_by mid) c.front-number.result)
     (view_of config (board_history (made_by mid) c.front-number.result)) whole stops.stands refl
     (subst (λ (k : ℕ). LogsHeld config (g.P.PortMaker.log c.args.at.now.ports.now) (leg_pairs (held (board_history (made_by mid) k)))) (sym c.front-number.ensures)
-          (subst (λ (h : List BoardEntry). LogsHeld config (g.P.PortMaker.log c.args.at.now.ports.now) (leg_pairs (held h))) (sym (begins_whole config turns old mid step c.turn-step.ensures.same.1 begins)) c.requires.rests.opens))
+    (subst (λ (h : List BoardEntry). LogsHeld config (g.P.PortMaker.log c.args.at.now.ports.now) (leg_pairs (held h))) (sym (begins_whole config turns old mid step c.turn-step.ensures.same.1 begins)) c.requires.rests.opens))
 
 pub end_live-count-requires-clause-empty : goal.end_live-count-requires-clause-empty
 end_live-count-requires-clause-empty g c = c.requires.rests.empty

@@ -62,8 +62,8 @@ expire_live-ended-requires g c =
     let between = c.requires.rests.between in
     let begins = turn_begins g.P.In.InEnd.log g.P.In.InEnd.faults g.P.Out.OutEnd.log g.P.Out.OutEnd.faults config turns old mid step between c.turn-step.ensures.same c.turn-step.ensures.turn in
     let turn = in_turn config turns old mid step (record { number = c.front-number.result; moment = c.advance.result }) c.in-Board.board c.advance.new.self c.args.now
-            (g.P.PortMaker.log c.args.at.now.ports.now) c.turn-step.ensures.same.1 begins c.front-number.ensures (sym c.state.ensures.value ∙ c.in-Board.is) c.advance.ensures.moment
-            c.advance.ensures.shape c.requires.rests.opens in
+    (g.P.PortMaker.log c.args.at.now.ports.now) c.turn-step.ensures.same.1 begins c.front-number.ensures (sym c.state.ensures.value ∙ c.in-Board.is) c.advance.ensures.moment
+    c.advance.ensures.shape c.requires.rests.opens in
     record {
       may = turn.may;
       empty = c.requires.rests.empty;
@@ -105,9 +105,12 @@ put_step-requires-clause-step g c =
     let ticks = tick_begins config turns mid step c.front-number.result c.advance.result c.args.now c.state.result.now c.in-Board.board c.advance.new.self begins
     c.front-number.ensures c.state.ensures.value c.in-Board.is c.advance.ensures.moment in
     let ends = tick_ended config mid new.main.hand.now nested step c.front-number.result c.advance.result c.args.now count new.board.now after ticks left
-    (c.expire_live-ended.ensures.ends (record { in_turn = in_turn config turns old mid step (record { number = c.front-number.result; moment = c.advance.result }) c.in-Board.board c.advance.new.self c.args.now
-            (g.P.PortMaker.log c.args.at.now.ports.now) c.turn-step.ensures.same.1 begins c.front-number.ensures (sym c.state.ensures.value ∙ c.in-Board.is) c.advance.ensures.moment
-            c.advance.ensures.shape c.requires.rests.opens; empty = c.requires.rests.empty })) in
+    (c.expire_live-ended.ensures.ends (record {
+      in_turn = in_turn config turns old mid step (record { number = c.front-number.result; moment = c.advance.result }) c.in-Board.board c.advance.new.self c.args.now
+          (g.P.PortMaker.log c.args.at.now.ports.now) c.turn-step.ensures.same.1 begins c.front-number.ensures (sym c.state.ensures.value ∙ c.in-Board.is) c.advance.ensures.moment
+          c.advance.ensures.shape c.requires.rests.opens;
+      empty = c.requires.rests.empty;
+    })) in
     tick_relates config turns mid nested step c.args.now count (part.Board new.board.now) after ends.0 begins ends.1 ends.2 g.P.In.InEnd.log g.P.In.InEnd.faults g.P.Out.OutEnd.log g.P.Out.OutEnd.faults (taken_of step)
     (moved config (board_history (made_by mid) (front_of step)) (state_of step) (taken_of step) begins.untouched begins.board)
 
@@ -143,9 +146,12 @@ returns-clause-ticks g c =
     let ticks = tick_begins config turns mid step c.front-number.result c.advance.result c.args.now c.state.result.now c.in-Board.board c.advance.new.self begins
     c.front-number.ensures c.state.ensures.value c.in-Board.is c.advance.ensures.moment in
     let ends = tick_ended config mid new.main.hand.now nested step c.front-number.result c.advance.result c.args.now count new.board.now after ticks left
-    (c.expire_live-ended.ensures.ends (record { in_turn = in_turn config turns old mid step (record { number = c.front-number.result; moment = c.advance.result }) c.in-Board.board c.advance.new.self c.args.now
-            (g.P.PortMaker.log c.args.at.now.ports.now) c.turn-step.ensures.same.1 begins c.front-number.ensures (sym c.state.ensures.value ∙ c.in-Board.is) c.advance.ensures.moment
-            c.advance.ensures.shape c.requires.rests.opens; empty = c.requires.rests.empty })) in
+    (c.expire_live-ended.ensures.ends (record {
+      in_turn = in_turn config turns old mid step (record { number = c.front-number.result; moment = c.advance.result }) c.in-Board.board c.advance.new.self c.args.now
+          (g.P.PortMaker.log c.args.at.now.ports.now) c.turn-step.ensures.same.1 begins c.front-number.ensures (sym c.state.ensures.value ∙ c.in-Board.is) c.advance.ensures.moment
+          c.advance.ensures.shape c.requires.rests.opens;
+      empty = c.requires.rests.empty;
+    })) in
     let sames = subst (λ hand. IsSameHand mid hand × SameTurns mid hand) left (nests.same, nests.same_turns) in
     let put = tick_ends config turns mid nested step c.args.now count (part.Board new.board.now) after ends.0 begins ends.1 ends.2 old c.put_step.new.hand tt between
     c.turn-step.ensures.same c.turn-step.ensures.turn.0 sames c.put_step.ensures.same c.put_step.ensures.entry (board_shape new.board.now) refl (left_whole g c) in
@@ -178,9 +184,12 @@ returns-clause-rests g c =
     let ticks = tick_begins config turns mid step c.front-number.result c.advance.result c.args.now c.state.result.now c.in-Board.board c.advance.new.self begins
     c.front-number.ensures c.state.ensures.value c.in-Board.is c.advance.ensures.moment in
     let ends = tick_ended config mid new.main.hand.now nested step c.front-number.result c.advance.result c.args.now count new.board.now after ticks left
-    (c.expire_live-ended.ensures.ends (record { in_turn = in_turn config turns old mid step (record { number = c.front-number.result; moment = c.advance.result }) c.in-Board.board c.advance.new.self c.args.now
-            (g.P.PortMaker.log c.args.at.now.ports.now) c.turn-step.ensures.same.1 begins c.front-number.ensures (sym c.state.ensures.value ∙ c.in-Board.is) c.advance.ensures.moment
-            c.advance.ensures.shape c.requires.rests.opens; empty = c.requires.rests.empty })) in
+    (c.expire_live-ended.ensures.ends (record {
+      in_turn = in_turn config turns old mid step (record { number = c.front-number.result; moment = c.advance.result }) c.in-Board.board c.advance.new.self c.args.now
+          (g.P.PortMaker.log c.args.at.now.ports.now) c.turn-step.ensures.same.1 begins c.front-number.ensures (sym c.state.ensures.value ∙ c.in-Board.is) c.advance.ensures.moment
+          c.advance.ensures.shape c.requires.rests.opens;
+      empty = c.requires.rests.empty;
+    })) in
     let sames = subst (λ hand. IsSameHand mid hand × SameTurns mid hand) left (nests.same, nests.same_turns) in
     let put = tick_ends config turns mid nested step c.args.now count (part.Board new.board.now) after ends.0 begins ends.1 ends.2 old c.put_step.new.hand tt between
     c.turn-step.ensures.same c.turn-step.ensures.turn.0 sames c.put_step.ensures.same c.put_step.ensures.entry (board_shape new.board.now) refl (left_whole g c) in

@@ -1,4 +1,4 @@
-use Rattle.std.proofs.Common.{◌≡◌, lit≤, sym, subst, ◌∙◌, [], arith}
+use Rattle.std.proofs.Common.{◌≡◌, ◌≤◌, sym, subst, ◌∙◌, [], arith}
 use Rattle.turn_table.specs.declared.hands.Hand.{Hand}
 use Rattle.turn_table.specs.Hands.{HasNoTurn}
 use Rattle.relay_core.specs.declared.part.Part.{Part}
@@ -25,7 +25,9 @@ HasNoLeg hand = (cell_kept CONFIG hand 1).legs ≡ []
 pub end_cell-requires-clause-small : goal.end_cell-requires-clause-small
 end_cell-requires-clause-small g c =
     let may = c.in-Some.ensures.may in
-    let none_1 : HasNoLeg c.in-Some.hand = none_first CONFIG c.in-Some.hand 1 may.parts may.whole_parts c.in-Some.ensures.hand.0 (omega arith) (lit≤ tt) in
+    let low : 1 ≤ 1 = omega arith in
+    let high : 1 ≤ 2 = omega arith in
+    let none_1 : HasNoLeg c.in-Some.hand = none_first CONFIG c.in-Some.hand 1 may.parts may.whole_parts c.in-Some.ensures.hand.0 low high in
     let left_2 : c.prepare_cell.new.main.hand.now ≡ c.hand-2-1.given.0 = sym (c.hand-2-1.given.1 (sym c.prepare_cell.ensures.nests.hand_is)) in
     let none_2 = subst (λ hand. HasNoLeg hand) left_2
     (none_still CONFIG _ _ 1 _ c.in-Some.hand c.prepare_cell.new.main.hand.now c.prepare_cell.ensures.nests.same.1 c.prepare_cell.ensures.gained c.in-Ok.ensures.ready.1 none_1) in
