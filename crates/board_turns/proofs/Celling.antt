@@ -15,7 +15,7 @@ use Rattle.port_pool.specs.Reports.{CountsFit}
 use Rattle.call_cell.specs.declared.leg.Leg.{Leg}
 use Rattle.call_cell.specs.declared.cell.Cell as cell
 use Rattle.call_cell.specs.Cells.{CellEntry, Expire, Read, End, since_end}
-use Rattle.call_cell.specs.Shapes.{cell_shape, cell_leg_shapes, ended_shape, IsSmall}
+use Rattle.call_cell.specs.Shapes.{cell_shape, cell_leg_shapes, ended_shape, IsSmall, FormsStay}
 use Rattle.call_cell.proofs.Shaped.{is_small}
 use Rattle.call_cell.specs.Demands.{CountsBelow}
 use Rattle.call_cell.specs.CellHistories.{CellFor}
@@ -90,11 +90,11 @@ module _ {I O : Type 0} (it : I → EndLog InCall) (ic : I → ℕ) (ot : O → 
   pub end_relates : (x : Part I O) (old new : cell.Cell O) (gone : List (Lease × O × O)) (number handed : ℕ) → x ≡ part.Cell old
       → cell_shape new ≡ ended_shape old.config → (IsSmall (cell_leg_shapes old.legs.items) → new.legs.items ≡ [])
       → (IsSmall (cell_leg_shapes old.legs.items) → gone ≡ filter_map (λ (leg : Leg O). parts_of leg) old.legs.items)
-      → ((config : Config) (h : List CellEntry) → CellFor config old h → CellEnds config old new h gone)
+      → ((config : Config) (h : List CellEntry) → CellFor config old h → CellEnds config old new h gone) → FormsStay [] old.legs.items new.legs.items gone
       → Relates it ic ot oc x (leaving number handed (moment_of_cell x) (Cell End) (gone_left ot gone)) (part.Cell new)
-  end_relates x old new gone number handed is shape none went steps =
+  end_relates x old new gone number handed is shape none went steps forms =
       subst (λ (z : Part I O). Relates it ic ot oc z (leaving number handed (moment_of_cell z) (Cell End) (gone_left ot gone)) (part.Cell new)) (sym is)
-      (record { shape = shape; gone = gone; left_are = refl; none = none; went = went; steps = λ config h for. (for.moment, steps config h for) })
+      (record { shape = shape; gone = gone; left_are = refl; none = none; went = went; steps = λ config h for. (for.moment, steps config h for); forms = forms })
 
   pub read_relates : (x : Part I O) (cell : cell.Cell O) (all_reports : List LegReport) (number handed : ℕ) → x ≡ part.Cell cell → TakesReading x
       → ((config : Config) (h : List CellEntry) → CellFor config cell h → CountsBelow (since_end h) → CellReads config cell h all_reports)

@@ -15,7 +15,7 @@ use Rattle.port_pool.specs.Ports.{pair_family, pair_port}
 use Rattle.call_cell.specs.declared.prepare.Prepare as prepared
 use Rattle.call_cell.specs.declared.cell.Cell as cell
 use Rattle.call_cell.specs.Cells.{CellEvent, CellEntry, Prepare, Commit, Relay, Expire, Read, End, since_end}
-use Rattle.call_cell.specs.Shapes.{cell_shape, cell_leg_shapes, offered_shape, answered_shape, IsSmall, LegsGo}
+use Rattle.call_cell.specs.Shapes.{cell_shape, cell_leg_shapes, offered_shape, answered_shape, IsSmall, LegsGo, FormsStay}
 use Rattle.call_cell.specs.SignalEntries.{lasting_entries}
 use Rattle.call_cell.specs.CellHistories.{CellFor}
 use Rattle.call_cell.specs.Commits.{NamesKeys, CellCommits, contexts_due, contexts_due_after, inbound_keys}
@@ -153,8 +153,9 @@ module _ {I O : Type 0} (it : I → EndLog InCall) (ic : I → ℕ) (ot : O → 
       → LegsGo (λ leg. slice_index_or signal.dropped leg.section false) signal.legs.items old.legs.items new.legs.items gone
       → ((config : Config) (h : List CellEntry) (k : List NewKey) (d : List ℕ) → CellFor config old h → PrepareFor signal k d → CanCome config (since_end h) signal call k d
       → CellPrepares config old new h signal call k d now gone)
+      → FormsStay signal.legs.items old.legs.items new.legs.items gone
       → Relates it ic ot oc x (leaving number now (max now (moment_of_cell x)) (Cell (Prepare call (added signal) keys dropped)) (gone_left ot gone)) (part.Cell new)
-  prepare_relates x old new signal call keys dropped now gone number is takes opened shape moves steps =
+  prepare_relates x old new signal call keys dropped now gone number is takes opened shape moves steps forms =
       let o = offer_of x old signal call keys dropped is takes in
       let at : (config : Config) (h : List CellEntry) → CellFor config old h → o.config ≡ config = λ config h for. sym o.stands.config_is ∙ for.config_is in
       subst (λ (z : Part I O). Relates it ic ot oc z (leaving number now (max now (moment_of_cell z)) (Cell (Prepare call (added signal) keys dropped)) (gone_left ot gone)) (part.Cell new)) (sym is)
@@ -179,14 +180,16 @@ module _ {I O : Type 0} (it : I → EndLog InCall) (ic : I → ℕ) (ot : O → 
               (subst (λ (k : Config). CellFor k old o.history) (at config h for) o.stands) for
               (subst (λ (k : Config). CanCome k (since_end o.history) signal call keys dropped) (at config h for) o.comes) new_keys),
         );
+        forms = forms;
       })
 
   pub commit_relates : (x : Part I O) (old new : cell.Cell O) (signal : List SectionSignal) (contexts now : ℕ) (gone : List (Lease × O × O)) (number : ℕ)
       → x ≡ part.Cell old → TakesAnswer x signal contexts → (IsSmall (cell_leg_shapes old.legs.items) → cell_shape new ≡ answered_shape signal (cell_shape old))
       → (IsSmall (cell_leg_shapes old.legs.items) → LegsGo (λ leg. is_rejected signal leg.section) [] old.legs.items new.legs.items gone)
       → ((config : Config) (h : List CellEntry) → CellFor config old h → NamesKeys (since_end h) signal → CellCommits config old new h signal now gone)
+      → FormsStay [] old.legs.items new.legs.items gone
       → Relates it ic ot oc x (leaving number now (max now (moment_of_cell x)) (Cell (Commit signal)) (gone_left ot gone)) (part.Cell new)
-  commit_relates x old new signal contexts now gone number is takes shape moves steps =
+  commit_relates x old new signal contexts now gone number is takes shape moves steps forms =
       let a = answer_of x old signal contexts is takes in
       subst (λ (z : Part I O). Relates it ic ot oc z (leaving number now (max now (moment_of_cell z)) (Cell (Commit signal)) (gone_left ot gone)) (part.Cell new)) (sym is)
       (record {
@@ -199,6 +202,7 @@ module _ {I O : Type 0} (it : I → EndLog InCall) (ic : I → ℕ) (ot : O → 
           steps config h for
               (names_keys_again config old a.history h signal (subst (λ (k : Config). CellFor k old a.history) (sym a.stands.config_is ∙ for.config_is) a.stands) for a.names),
         );
+        forms = forms;
       })
 
   -- the step tells the legs of what was prepared

@@ -91,7 +91,7 @@ put_step-requires-clause-step g c =
     c.turn-step.result.front _ c.state.result.now c.requires.may c.requires.cell.0 c.requires.cell.1 c.requires.keys c.cell_place.ensures c.state.ensures.value
     c.turn-step.ensures.turn.1 in
     end_relates g.I.InEnd.log g.I.InEnd.faults g.O.OutEnd.log g.O.OutEnd.faults c.turn-step.result.taken.value c.in-Cell.held c.end.new.self c.end.new.gone
-    c.args.main.now.entry_id.number c.args.main.now.entry_id.moment (c.turn-step.ensures.turn.0.1 ∙ sym c.state.ensures.value ∙ c.in-Cell.is) (c.end.ensures.shape (held_small c.args.main.now.config.now c.state.result.now c.in-Cell.held _ c.in-Cell.is is.1)) c.end.ensures.none c.end.ensures.legs c.end.ensures.ends
+    c.args.main.now.entry_id.number c.args.main.now.entry_id.moment (c.turn-step.ensures.turn.0.1 ∙ sym c.state.ensures.value ∙ c.in-Cell.is) (c.end.ensures.shape (held_small c.args.main.now.config.now c.state.result.now c.in-Cell.held _ c.in-Cell.is is.1)) c.end.ensures.none c.end.ensures.legs c.end.ensures.ends c.end.ensures.forms
 
 pub returns-clause-nests : goal.returns-clause-nests
 returns-clause-nests g c =

@@ -109,7 +109,7 @@ put_step-requires-clause-step g c =
     let takes = takes_answer c.args.main.now.config.now c.turn-step.result.taken.value own c.args.signal.now c.args.contexts is.1 (c.requires.names c.turn-step.result.front above)
     (space_is c.args.main.now.config.now c.turn-step.result.taken.value (made_by c.args.main.now.hand.now) c.args.cell c.turn-step.result.front c.args.signal.now c.args.contexts is.1 above c.requires.room) in
     commit_relates g.I.InEnd.log g.I.InEnd.faults g.O.OutEnd.log g.O.OutEnd.faults c.turn-step.result.taken.value c.in-Cell.held c.commit.new.self c.args.signal.now c.args.contexts
-    c.args.main.now.entry_id.moment c.commit.new.gone c.args.main.now.entry_id.number (c.turn-step.ensures.turn.0.1 ∙ sym c.state.ensures.value ∙ c.in-Cell.is) takes c.commit.ensures.shape c.commit.ensures.legs c.commit.ensures.commits
+    c.args.main.now.entry_id.moment c.commit.new.gone c.args.main.now.entry_id.number (c.turn-step.ensures.turn.0.1 ∙ sym c.state.ensures.value ∙ c.in-Cell.is) takes c.commit.ensures.shape c.commit.ensures.legs c.commit.ensures.commits c.commit.ensures.forms
 
 pub returns-clause-nests : goal.returns-clause-nests
 returns-clause-nests g c =

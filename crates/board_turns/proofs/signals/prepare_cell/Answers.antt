@@ -115,7 +115,7 @@ put_step-requires-clause-step g c =
     let opened = opened_for g.I.InEnd.log g.O.OutEnd.log c.args.main.now.config.now c.turn-step.result.taken.value _ c.args.signal is.1 c.requires.opened in
     relates_brought g.I.InEnd.log g.I.InEnd.faults g.O.OutEnd.log g.O.OutEnd.faults c.turn-step.result.taken.value (part.Cell c.prepare.new.self) c.args.main.now.entry_id.number c.args.main.now.entry_id.moment (max c.args.main.now.entry_id.moment (moment_of_cell c.turn-step.result.taken.value)) c.args.call c.of-brought.result.value c.args.signal (gone_left g.O.OutEnd.log c.prepare.new.gone) c.of-brought.ensures
     (prepare_relates g.I.InEnd.log g.I.InEnd.faults g.O.OutEnd.log g.O.OutEnd.faults c.turn-step.result.taken.value c.in-Cell.held c.prepare.new.self c.args.signal c.args.call
-    (prepared_keys c.args.signal) (drops_of c.args.signal) c.args.main.now.entry_id.moment c.prepare.new.gone c.args.main.now.entry_id.number (c.turn-step.ensures.turn.0.1 ∙ sym c.state.ensures.value ∙ c.in-Cell.is) takes opened c.prepare.ensures.shape c.prepare.ensures.legs c.prepare.ensures.prepares)
+    (prepared_keys c.args.signal) (drops_of c.args.signal) c.args.main.now.entry_id.moment c.prepare.new.gone c.args.main.now.entry_id.number (c.turn-step.ensures.turn.0.1 ∙ sym c.state.ensures.value ∙ c.in-Cell.is) takes opened c.prepare.ensures.shape c.prepare.ensures.legs c.prepare.ensures.prepares c.prepare.ensures.forms)
 
 pub returns-clause-nests : goal.returns-clause-nests
 returns-clause-nests g c =
