@@ -1,6 +1,8 @@
 -- What a turn gives, and what the close of the table returns, has its ends at home, where what the places began with has.
-use Rattle.std.proofs.Common.{◌≡◌, ◌∙◌, sym, subst, ℕ, ◌<◌, ◌≤◌, List, [], Some, length, arith, slice_get}
+use Rattle.std.proofs.Common.{◌≡◌, ◌∙◌, sym, subst, ℕ, ◌<◌, ◌≤◌, List, [], Option, Some, length, arith, slice_get}
+use Rattle.std.specs.List.{filter_map}
 use Rattle.std.proofs.lemmas.Option.{slice_get_within}
+use Rattle.relay_outside.specs.declared.address.Addr.{Addr}
 use Rattle.relay_outside.specs.declared.ports.InCall.{InCall}
 use Rattle.relay_outside.specs.declared.ports.OutCall.{OutCall}
 use Rattle.relay_outside.specs.declared.settings.Config.{Config}
@@ -9,20 +11,26 @@ use Rattle.turn_table.specs.declared.machine.Entry as table
 use Rattle.turn_table.specs.declared.view.View.{View}
 use Rattle.turn_table.specs.Histories.{Leaves}
 use Rattle.histories.specs.Words.{In}
-use Rattle.port_pool.specs.Ports.{pair_count}
+use Rattle.rtp_packet.specs.declared.head.Half.TheVariants.{Rtp}
+use Rattle.port_pool.specs.Ports.{AreOfPair, pair_count, port_address}
+use Rattle.port_pool.specs.PairBoxes.{at_of, ends_in}
+use Rattle.port_pool.specs.declared.boxes.PairBox.{PairBox}
+use Rattle.port_pool.specs.declared.pairs.Lease.{Lease}
 use Rattle.call_cell.specs.declared.leg.Leg.{Leg}
 use Rattle.call_cell.specs.declared.cell.Cell as cell
+use Rattle.call_cell.specs.CellEnds.{parts_of}
 use Rattle.call_cell.specs.CellHistories.{CellFor}
 use Rattle.relay_core.specs.declared.part.Part.{Part}
 use Rattle.relay_core.specs.declared.part.Part.TheVariants as part
 use Rattle.relay_core.specs.Entries.{box_of}
 use Rattle.relay_core.specs.FirstPlaces.{AreParts, BeginsAs}
 use Rattle.relay_core.specs.Records.{Made}
-use Rattle.relay_core.specs.PlaceHistories.{BoxHome}
+use Rattle.relay_core.specs.PlaceHistories.{AreHome, GoneHome, BoxHome}
 use Rattle.relay_core.specs.Homes.{IsCellHome, KeepsHome, AreEndsHome}
 use Rattle.relay_core.proofs.Closed.{AreClosed, in_range}
 use Rattle.relay_core.proofs.Given.{Gives, begins_as}
 use Rattle.relay_core.proofs.GivenHomes.{box_begins_home}
+use Rattle.relay_core.proofs.Homes.{parts_home}
 use Rattle.relay_core.proofs.HomesKept.{rows_keep_home}
 use Rattle.relay_core.proofs.Stays.{Steps, home_stays}
 use Rattle.relay_core.proofs.WholeFirst.{no_items}
@@ -39,6 +47,22 @@ module _ {T I O : Type 0} (it : I → EndLog InCall) (ic : I → ℕ) (ot : O �
       → Gives it ic ot oc k v n x → KeepsHome ot config x
   cell_home_given config v k n x homes low high g =
       rows_keep_home it ic ot oc config g.start x g.history g.leaves (homes.cells k g.start low high g.starts)
+
+-- What leaves a place.
+
+module _ {I O : Type 0} (it : I → EndLog InCall) (ot : O → EndLog OutCall) (oc : O → ℕ) where
+  -- the in ends of a box are those of its pair
+  pub box_ends_home : (config : Config) (pair : ℕ) (box : PairBox I) (ends : I × I) → BoxHome {I = I} {O = O} it config pair (part.Pair box) → ends_in box ≡ Some ends
+      → AreOfPair it (port_address config pair Rtp) ends.0 ends.1
+  box_ends_home config pair box ends home is =
+      subst (λ (at : Addr). AreOfPair it at ends.0 ends.1) home.0 (subst (λ (o : Option (I × I)). AreHome it (at_of box) o) is home.1)
+
+  -- and legs that go from a cell have the out ends of the pairs that are leased
+  pub cell_parts_home : (config : Config) (c : cell.Cell O) (those : List (Leg O)) (gone : List (Lease × O × O)) → IsCellHome ot config c
+      → ((leg : Leg O) → In leg those → In leg c.legs.items) → gone ≡ filter_map (λ (leg : Leg O). parts_of leg) those → GoneHome ot config gone
+  cell_parts_home config c those gone home within went =
+      subst (λ (l : List (Lease × O × O)). GoneHome ot config l) (sym went)
+      (parts_home ot oc config those (λ leg i. home.legs leg (within leg i)) (λ leg i. home.paired leg (within leg i)))
 
 -- What the places hold before the first step.
 
