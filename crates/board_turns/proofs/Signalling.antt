@@ -154,7 +154,6 @@ module _ {I O : Type 0} (it : I → EndLog InCall) (ic : I → ℕ) (ot : O → 
       → FormsStay signal.legs.items old.legs.items new.legs.items gone
       → ((config : Config) (h : List CellEntry) (k : List NewKey) (d : List ℕ) → CellFor config old h → PrepareFor signal k d → CanCome config (since_end h) signal call k d
       → CellPrepares config old new h signal call k d now gone)
-      → FormsStay signal.legs.items old.legs.items new.legs.items gone
       → Relates it ic ot oc x (leaving number now (max now (moment_of_cell x)) (Cell (Prepare call (added signal) keys dropped)) (gone_left ot gone)) (part.Cell new)
   prepare_relates x old new signal call keys dropped now gone number is takes opened shape moves forms steps =
       let o = offer_of x old signal call keys dropped is takes in
@@ -182,7 +181,6 @@ module _ {I O : Type 0} (it : I → EndLog InCall) (ic : I → ℕ) (ot : O → 
               (subst (λ (k : Config). CellFor k old o.history) (at config h for) o.stands) for
               (subst (λ (k : Config). CanCome k (since_end o.history) signal call keys dropped) (at config h for) o.comes) new_keys),
         );
-        forms = forms;
       })
 
   pub commit_relates : (x : Part I O) (old new : cell.Cell O) (signal : List SectionSignal) (contexts now : ℕ) (gone : List (Lease × O × O)) (number : ℕ)
@@ -190,7 +188,6 @@ module _ {I O : Type 0} (it : I → EndLog InCall) (ic : I → ℕ) (ot : O → 
       → (IsSmall (cell_leg_shapes old.legs.items) → LegsGo (λ leg. is_rejected signal leg.section) [] old.legs.items new.legs.items gone)
       → FormsStay [] old.legs.items new.legs.items gone
       → ((config : Config) (h : List CellEntry) → CellFor config old h → NamesKeys (since_end h) signal → CellCommits config old new h signal now gone)
-      → FormsStay [] old.legs.items new.legs.items gone
       → Relates it ic ot oc x (leaving number now (max now (moment_of_cell x)) (Cell (Commit signal)) (gone_left ot gone)) (part.Cell new)
   commit_relates x old new signal contexts now gone number is takes shape moves forms steps =
       let a = answer_of x old signal contexts is takes in
@@ -206,7 +203,6 @@ module _ {I O : Type 0} (it : I → EndLog InCall) (ic : I → ℕ) (ot : O → 
           steps config h for
               (names_keys_again config old a.history h signal (subst (λ (k : Config). CellFor k old a.history) (sym a.stands.config_is ∙ for.config_is) a.stands) for a.names),
         );
-        forms = forms;
       })
 
   -- the step tells the legs of what was prepared
