@@ -20,7 +20,7 @@ use Rattle.relay_runs.specs.declared.status.Status.{Status}
 use Rattle.relay_runs.specs.declared.status.Status.TheVariants as status
 use Rattle.relay_runs.specs.declared.totals.Counts.{Counts}
 use Rattle.relay_runs.specs.Rounds.{ControlRound, status_after, history_after}
-use Rattle.relay_runs.specs.ServeRuns.{counts_of, turn_counts, sum_of_counts, counts_in, is_turn, Counted, AreExchanges, last_take, HasEnded}
+use Rattle.relay_runs.specs.ServeRuns.{run_counts, turn_counts, sum_of_counts, counts_in, is_turn, Counted, AreExchanges, last_take, HasEnded}
 
 count_append : (p : LinkCall → Bool) (xs ys : List LinkCall) → count_by p (xs ++ ys) ≡ count_by p xs + count_by p ys
 count_append p xs ys = sum_by-append (λ x. cond (p x) 1 0) xs ys
@@ -81,20 +81,20 @@ module _ (config : Config) (h : List BoardEntry) (now : ℕ) where
 
 exchanges_counted : (config : Config) (rounds : List ControlRound) (calls : List LinkCall) → AreExchanges config rounds calls → Counted (counts_in rounds) calls
 exchanges_counted config [] calls none =
-    subst (λ (xs : List LinkCall). Counted (counts_of 0 0 0) xs) (sym none) (record { turns_are = refl; datagrams_are = refl; replies_are = refl })
+    subst (λ (xs : List LinkCall). Counted (run_counts 0 0 0) xs) (sym none) (record { turns_are = refl; datagrams_are = refl; replies_are = refl })
 exchanges_counted config (r ∷ rounds) calls e =
     subst (λ (xs : List LinkCall). Counted (counts_in (r ∷ rounds)) xs) (sym e.2)
     (both_counted e.0 e.1 (counts_in rounds) (turn_counts r.answer) (exchanges_counted config rounds e.0 e.3)
     (did_counted config (history_after config rounds) r.handed r.answer r.heard e.1 e.4))
 
-pub sum_none : (n : Counts) → sum_of_counts n (counts_of 0 0 0) ≡ n
+pub sum_none : (n : Counts) → sum_of_counts n (run_counts 0 0 0) ≡ n
 sum_none n =
     let t : n.turns + 0 ≡ n.turns = omega arith in
     let d : n.datagrams + 0 ≡ n.datagrams = omega arith in
     let r : n.replies + 0 ≡ n.replies = omega arith in
-    ap (λ (k : ℕ). counts_of k (n.datagrams + 0) (n.replies + 0)) t ∙ ap (λ (k : ℕ). counts_of n.turns k (n.replies + 0)) d ∙ ap (λ (k : ℕ). counts_of n.turns n.datagrams k) r
+    ap (λ (k : ℕ). run_counts k (n.datagrams + 0) (n.replies + 0)) t ∙ ap (λ (k : ℕ). run_counts n.turns k (n.replies + 0)) d ∙ ap (λ (k : ℕ). run_counts n.turns n.datagrams k) r
 
-last_counted : (ended : Status) → Counted (counts_of 0 0 0) (last_take ended)
+last_counted : (ended : Status) → Counted (run_counts 0 0 0) (last_take ended)
 last_counted status.Ok = record { turns_are = refl; datagrams_are = refl; replies_are = refl }
 last_counted status.ControlFault = record { turns_are = refl; datagrams_are = refl; replies_are = refl }
 last_counted status.TurnsSpent = record { turns_are = refl; datagrams_are = refl; replies_are = refl }
@@ -107,7 +107,7 @@ last_counted status.ScriptRead = record { turns_are = refl; datagrams_are = refl
 pub calls_counted : (config : Config) (rounds : List ControlRound) (ended : Status) (calls : List LinkCall) → AreExchanges config rounds calls → Counted (counts_in rounds) (calls ++ last_take ended)
 calls_counted config rounds ended calls e =
     subst (λ (n : Counts). Counted n (calls ++ last_take ended)) (sum_none (counts_in rounds))
-    (both_counted calls (last_take ended) (counts_in rounds) (counts_of 0 0 0) (exchanges_counted config rounds calls e) (last_counted ended))
+    (both_counted calls (last_take ended) (counts_in rounds) (run_counts 0 0 0) (exchanges_counted config rounds calls e) (last_counted ended))
 
 -- The turn that ends them.
 
@@ -119,7 +119,7 @@ not_answered turn.Nothing ended is = refl
 not_answered turn.End ended is = refl
 not_answered turn.ReadFault ended is = refl
 
-pub ends_uncounted : (answer : ControlTurn) (ended : Status) → Some ended ≡ status_after answer → turn_counts answer ≡ counts_of 0 0 0
+pub ends_uncounted : (answer : ControlTurn) (ended : Status) → Some ended ≡ status_after answer → turn_counts answer ≡ run_counts 0 0 0
 ends_uncounted turn.Replied ended is = absurd (let k = is in cc)
 ends_uncounted turn.ReplyFault ended is = absurd (let k = is in cc)
 ends_uncounted turn.Silent ended is = absurd (let k = is in cc)

@@ -32,7 +32,7 @@ use Rattle.relay_runs.specs.declared.status.Status.{Status}
 use Rattle.relay_runs.specs.declared.status.Status.TheVariants as status
 use Rattle.relay_runs.specs.declared.totals.Counts.{Counts}
 use Rattle.relay_runs.specs.Rounds.{ControlRound, status_after, entry_due, with_entry, history_after, moments, counted_from, is_second_later, AreControlRounds}
-use Rattle.relay_runs.specs.ServeRuns.{Outside, Gave, IsCaused, HaveCauses, given_in, opening_results, opening_calls_of, OpensBy, draws_made, counts_of, turn_counts, sum_of_counts, counts_in, Counted, AreExchanges, AreCalls, last_take, HasEnded}
+use Rattle.relay_runs.specs.ServeRuns.{Outside, Gave, IsCaused, HaveCauses, given_in, opening_results, opening_calls_of, OpensBy, draws_made, run_counts, turn_counts, sum_of_counts, counts_in, Counted, AreExchanges, AreCalls, last_take, HasEnded}
 use Rattle.relay_runs.specs.RunStates.{Running, AddsSweep, TicksWhenDue, DidTurns}
 use Rattle.relay_runs.proofs.Counts.{calls_counted, sum_none, not_answered, ends_uncounted, ends_below, ends_with, one_take}
 use Rattle.relay_runs.proofs.Rounds.{AddsTurn, turn_rows, turn_heard, tick_rows, one_more, counted_next, no_rows, no_rounds, board_after, board_ticked}
@@ -132,7 +132,7 @@ ticked_causes history now then later causes p q port key (Some calls) entry give
 
 -- no turn yet
 pub begins : (config : Config) (threads : ℕ) (range : Option (ℕ × ℕ)) (rows : List Row) (outside : Outside) → list_of rows ≡ [] → board_of (list_of rows) ≡ [] → outside.link ≡ outside.link_now
-    → outside.timer ≡ outside.timer_now → outside.opened ≡ outside.opened_now → outside.drew ≡ outside.drew_now → Running config threads range rows (counts_of 0 0 0) None outside
+    → outside.timer ≡ outside.timer_now → outside.opened ≡ outside.opened_now → outside.drew ≡ outside.drew_now → Running config threads range rows (run_counts 0 0 0) None outside
 begins config threads range rows outside none board link timer opened drew = record {
   rounds = [];
   are_rounds = no_rounds config threads range rows none;

@@ -96,24 +96,24 @@ HaveCauses outside history = (entry : BoardEntry) (given : Given) → In entry h
 
 -- Counts.
 
-abbrev pub counts_of : ℕ → ℕ → ℕ → Counts
-counts_of turns datagrams replies = record { turns = turns; datagrams = datagrams; replies = replies }
+abbrev pub run_counts : ℕ → ℕ → ℕ → Counts
+run_counts turns datagrams replies = record { turns = turns; datagrams = datagrams; replies = replies }
 
 -- what a control turn counts
 abbrev pub turn_counts : ControlTurn → Counts
-turn_counts turn.Replied = counts_of 1 1 1
-turn_counts turn.ReplyFault = counts_of 1 1 0
-turn_counts turn.Silent = counts_of 1 1 0
-turn_counts turn.Nothing = counts_of 1 0 0
-turn_counts turn.End = counts_of 0 0 0
-turn_counts turn.ReadFault = counts_of 0 0 0
+turn_counts turn.Replied = run_counts 1 1 1
+turn_counts turn.ReplyFault = run_counts 1 1 0
+turn_counts turn.Silent = run_counts 1 1 0
+turn_counts turn.Nothing = run_counts 1 0 0
+turn_counts turn.End = run_counts 0 0 0
+turn_counts turn.ReadFault = run_counts 0 0 0
 
 abbrev pub sum_of_counts : Counts → Counts → Counts
-sum_of_counts a b = counts_of (a.turns + b.turns) (a.datagrams + b.datagrams) (a.replies + b.replies)
+sum_of_counts a b = run_counts (a.turns + b.turns) (a.datagrams + b.datagrams) (a.replies + b.replies)
 
 -- what the rounds count
 abbrev pub counts_in : List ControlRound → Counts
-counts_in [] = counts_of 0 0 0
+counts_in [] = run_counts 0 0 0
 counts_in (r ∷ rounds) = sum_of_counts (counts_in rounds) (turn_counts r.answer)
 
 -- a take that gave a datagram or nothing
