@@ -1,0 +1,9 @@
+pub mod PairOfAddress
+pub mod OnePlace
+pub mod FirstLegs
+pub mod OneClosed
+pub mod StepsJoined
+pub mod RestCalls
+pub mod WholeReady
+pub mod LeftCells
+pub mod AllPorts
