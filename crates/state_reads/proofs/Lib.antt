@@ -1,0 +1,2 @@
+pub mod CellNumbers
+pub mod OneTree
