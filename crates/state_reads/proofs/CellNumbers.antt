@@ -1,5 +1,5 @@
 -- Cells that are written alike have the same counts and generations.
-use Rattle.std.proofs.Common.{◌≡◌, ℕ, zero, suc, arith, List, [], ◌∷◌, All, map, refl, sym, subst}
+use Rattle.std.proofs.Common.{◌≡◌, zero, suc, arith, List, [], ◌∷◌, All, map, refl, sym, subst}
 use Rattle.std.proofs.lemmas.List.Elements.{All-head, All-tail, All-nil}
 use Rattle.ng_bencode.specs.Tree.{Tree}
 use Rattle.port_pool.specs.SavedLeases.{saved_lease}

@@ -25,7 +25,7 @@ some_in_text written Tells IsText text tree None make spells is tells = tt
 some_in_text written Tells IsText text tree (Some it) make spells is tells = make it (subst (Spells text) is spells) tells
 
 -- and that none was
-pub none_in_text : {T : Type 0} (written : T → Tree) (Fits Tells IsText : T → Type 0) (text : List ℕ) (tree : Tree) (read : Option T)
+pub none_in_text : {T S : Type 0} (written : T → Tree) (Fits Tells IsText : T → Type 0) (text : List ℕ) (tree : Tree) (read : Option S)
     → ((it : T) → IsText it → Spells text (written it)) → ((it : T) → IsText it → Tells it)
     → ((other : Tree) → Spells text other → other ≡ tree)
     → IfNone read ((it : T) → Fits it → tree ≡ written it → Tells it → ⊥) → IfNone read ((it : T) → Fits it → IsText it → ⊥)
@@ -34,7 +34,7 @@ none_in_text written Fits Tells IsText text tree None spelled tells only never =
 none_in_text written Fits Tells IsText text tree (Some it) spelled tells only never = tt
 
 -- the same, where memory may be wanting
-pub none_in_result : {T E : Type 0} (written : T → Tree) (Fits Tells IsText : T → Type 0) (text : List ℕ) (tree : Tree) (result : Result (Option T) E)
+pub none_in_result : {T S E : Type 0} (written : T → Tree) (Fits Tells IsText : T → Type 0) (text : List ℕ) (tree : Tree) (result : Result (Option S) E)
     → ((it : T) → IsText it → Spells text (written it)) → ((it : T) → IsText it → Tells it)
     → ((other : Tree) → Spells text other → other ≡ tree)
     → IfOk result (λ read. IfNone read ((it : T) → Fits it → tree ≡ written it → Tells it → ⊥)) → IfOk result (λ read. IfNone read ((it : T) → Fits it → IsText it → ⊥))

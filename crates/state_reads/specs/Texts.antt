@@ -6,10 +6,14 @@ use Rattle.port_pool.specs.declared.saved_pool.PoolSaved.{PoolSaved}
 use Rattle.port_pool.specs.SavedPools.{FitsPool, saved_pairs}
 use Rattle.port_pool.specs.Pools.{Pairs}
 use Rattle.port_pool.specs.Ports.{pair_count, first_port, range_pairs}
+use Rattle.cookie_cache.specs.declared.cache.CookieCache.{CookieCache}
+use Rattle.cookie_cache.specs.declared.saved.CacheSaved.{CacheSaved}
+use Rattle.cookie_cache.specs.Saved.{FitsCache, SavesCache}
 use Rattle.call_cell.specs.declared.saved.CellSaved.{CellSaved}
 use Rattle.state_values.specs.declared.relays.RelaySaved.{RelaySaved}
 use Rattle.state_values.specs.RelayTrees.{relay_tree}
 use Rattle.state_values.specs.PoolTrees.{pool_tree}
+use Rattle.state_values.specs.CacheTrees.{cache_tree}
 use Rattle.state_values.specs.CellTrees.{cell_tree}
 use Rattle.state_reads.specs.Bounds.{RelayCounts, AreCounts, CellCounts}
 
@@ -44,3 +48,14 @@ pub record IsPoolText (config : Config) (text : List ℕ) (saved : PoolSaved) : 
 pub record IsCellText (text : List ℕ) (saved : CellSaved) : Type 0 where
   pub spelled : Spells text (cell_tree saved)
   pub counts : CellCounts saved
+
+-- it is one of some cache
+pub record HasCache (saved : CacheSaved) : Type 0 where
+  pub cache : CookieCache
+  pub fits : FitsCache cache
+  pub saves : SavesCache cache saved
+
+-- The last value
+pub record IsCacheText (text : List ℕ) (saved : CacheSaved) : Type 0 where
+  pub spelled : Spells text (cache_tree saved)
+  pub kept : HasCache saved

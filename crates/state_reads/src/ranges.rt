@@ -1,5 +1,6 @@
 //! Whether the counts of a record are below 2^62, and that its numbers are in the ranges of their types.
 ghost use Rattle.std.specs.Prelude.{ℕ, ◌<◌, ◌^◌, ◌↔◌, IsTrue, All};
+ghost use Rattle.endpoint_learn.specs.SavedLearners.{FitsIp};
 ghost use Rattle.port_pool.specs.SavedLeases.{FitsLease};
 ghost use Rattle.state_values.specs.CellLegTrees.{FitsPacketCounts};
 ghost use Rattle.state_values.specs.SignalTrees.{FitsHolder};
@@ -7,6 +8,7 @@ ghost use Rattle.state_reads.specs.Bounds.{IsCount, AreCounts, PacketCounts, Leg
 
 use call_cell::{Counts, LegSaved};
 use port_pool::{Holder, Lease};
+use relay_outside::Ip;
 
 /// The least number that is no count.
 const COUNT_END: u64 = 1 << 62;
@@ -76,6 +78,16 @@ pub(crate) fn longs_fit(numbers: &[u64])
 {
     for number in numbers {
         let _number = *number;
+    }
+}
+
+/// An address has as many bytes as its version (no run-time use).
+pub(crate) fn ip_fits(ip: Ip)
+    ensures { FitsIp ip }
+{
+    match ip {
+        Ip::V4(_bytes) => {}
+        Ip::V6(_bytes) => {}
     }
 }
 

@@ -1,6 +1,5 @@
 //! The first value: what a relay is run with, its last moment and its counts.
 ghost use Rattle.std.specs.Prelude.{◌≡◌, ◌↔◌, IsTrue, IfOk, IfSome, IfNone};
-ghost use Rattle.endpoint_learn.specs.SavedLearners.{FitsIp};
 ghost use Rattle.state_values.specs.ConfigTrees.{FitsConfig};
 ghost use Rattle.ng_bencode.specs.Tree.{tree_of};
 ghost use Rattle.state_values.specs.RelayTrees.{relay_tree, FitsRelaySaved};
@@ -8,10 +7,10 @@ ghost use Rattle.state_values.specs.declared.relays.RelaySaved.{RelaySaved};
 ghost use Rattle.state_reads.specs.Bounds.{RelayCounts};
 ghost use Rattle.state_reads.specs.Texts.{RelayStands, IsRelayText};
 
-use crate::ranges::is_count;
+use crate::ranges::{ip_fits, is_count};
 use crate::texts::value_of_text;
 use ng_bencode::Value;
-use relay_outside::{Config, Ip, OutOfMemory};
+use relay_outside::{Config, OutOfMemory};
 use state_values::{RelaySaved, read_relay};
 use std::alloc::Global;
 
@@ -20,16 +19,6 @@ fn are_counts(saved: &RelaySaved) -> bool
     ensures { IsTrue result ↔ RelayCounts saved.now }
 {
     is_count(saved.begun) && is_count(saved.drawn)
-}
-
-/// An address has as many bytes as its version (no run-time use).
-fn ip_fits(ip: Ip)
-    ensures { FitsIp ip }
-{
-    match ip {
-        Ip::V4(_bytes) => {}
-        Ip::V6(_bytes) => {}
-    }
 }
 
 /// The fields of a configuration are in their ranges (no run-time use).

@@ -1,6 +1,5 @@
 use Rattle.std.proofs.Common.{◌∙◌, sym, subst, All}
 use Rattle.std.proofs.lemmas.Bool.{false≢true}
-use Rattle.state_values.specs.CellTrees.{cell_tree}
 use Rattle.state_reads.specs.Bounds.{LegRanges}
 use Rattle.state_reads.proofs.OneTree.{from_some}
 use Rattle.state_reads.proofs.CellNumbers.{cell_tells}

@@ -1,6 +1,5 @@
-use Rattle.std.proofs.Common.{◌∙◌, sym, subst, IsTrue}
+use Rattle.std.proofs.Common.{◌∙◌, sym, subst}
 use Rattle.std.proofs.lemmas.Bool.{false≢true}
-use Rattle.port_pool.specs.SavedPools.{saved_pairs}
 use Rattle.state_values.specs.PoolTrees.{IsReadPool}
 use Rattle.state_values.proofs.PoolLaws.{same_pools}
 use Rattle.state_reads.specs.Texts.{PoolStands}

@@ -1,7 +1,6 @@
-use Rattle.std.proofs.Common.{All, get_or, sym, subst, take, refl, arith}
-use Rattle.std.proofs.lemmas.Bool.{false≢true}
+use Rattle.std.proofs.Common.{All, subst, refl}
 use Rattle.std.proofs.lemmas.List.{take_all}
-use Rattle.std.proofs.lemmas.List.Elements.{All-more, All-get_or}
+use Rattle.std.proofs.lemmas.List.Elements.{All-more}
 use Rattle.state_reads.specs.Bounds.{IsCount}
 use Rattle.state_reads.proofs.ranges.are_counts.Goals as goal
 

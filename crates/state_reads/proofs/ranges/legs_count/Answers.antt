@@ -1,6 +1,6 @@
-use Rattle.std.proofs.Common.{All, get_or, sym, subst, take, refl, arith}
+use Rattle.std.proofs.Common.{All, subst, refl}
 use Rattle.std.proofs.lemmas.List.{take_all}
-use Rattle.std.proofs.lemmas.List.Elements.{All-more, All-get_or}
+use Rattle.std.proofs.lemmas.List.Elements.{All-more}
 use Rattle.state_reads.specs.Bounds.{LegCounts}
 use Rattle.state_reads.proofs.ranges.legs_count.Goals as goal
 

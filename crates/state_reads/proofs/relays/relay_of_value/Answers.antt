@@ -1,4 +1,3 @@
-use Rattle.std.proofs.Common.{sym, subst, IsTrue}
 use Rattle.std.proofs.lemmas.Bool.{false≢true}
 use Rattle.state_values.specs.RelayTrees.{relay_tree, FitsRelaySaved}
 use Rattle.state_values.proofs.RelayLaws.{same_relays}
