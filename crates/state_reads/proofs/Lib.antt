@@ -4,3 +4,4 @@ pub mod Rising
 pub mod Ids
 pub mod CallNumbers
 pub mod KeptReplies
+pub mod ToldValues

@@ -1,5 +1,6 @@
 -- Which live calls a board has.
-use Rattle.std.specs.Prelude.{ℕ, ◌+◌, ◌<◌, ◌≤◌, ◌^◌, List, [], ◌∷◌, map}
+use Rattle.std.specs.Prelude.{ℕ, ◌+◌, ◌<◌, ◌≤◌, ◌^◌, List, [], ◌∷◌, map, Vec}
+use Rattle.std.specs.Global.{Global}
 use Rattle.port_pool.specs.Pools.{AreFree, AreFrom}
 use Rattle.ng_bencode.specs.Spells.{Spells}
 use Rattle.call_board.specs.declared.saved_board.CallSaved.{CallSaved}
@@ -35,6 +36,10 @@ pub record CallsStand (begun count : ℕ) (numbers cells : List ℕ) (ids : List
 pub record IsCallsText (begun count : ℕ) (text : List ℕ) (calls : List CallSaved) : Type 0 where
   pub spelled : Spells text (calls_tree calls)
   pub stand : CallsStand begun count (saved_numbers calls) (saved_cells calls) (saved_ids calls)
+
+-- the same of the calls in this memory
+abbrev pub AreCallsOf : (begun count : ℕ) → List ℕ → Vec CallSaved Global → Type 0
+AreCallsOf begun count text calls = IsCallsText begun count text calls.items
 
 -- the ranges of these numbers of a call
 pub record CallRanges (call : CallSaved) : Type 0 where

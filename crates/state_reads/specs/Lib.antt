@@ -1,3 +1,5 @@
-pub mod Calls
 pub mod Bounds
+pub mod Calls
+pub mod Refusals
 pub mod Texts
+pub mod ValueReads

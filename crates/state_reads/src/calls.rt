@@ -3,7 +3,7 @@ ghost use Rattle.std.specs.Prelude.{◌≡◌, List, All, IfOk, IfSome, IfNone};
 ghost use Rattle.call_board.specs.declared.saved_board.CallSaved.{CallSaved};
 ghost use Rattle.ng_bencode.specs.Tree.{tree_of};
 ghost use Rattle.state_values.specs.CallTrees.{calls_tree, FitsCallSaved};
-ghost use Rattle.state_reads.specs.Calls.{saved_numbers, saved_cells, saved_ids, CallsStand, IsCallsText};
+ghost use Rattle.state_reads.specs.Calls.{saved_numbers, saved_cells, saved_ids, CallsStand, IsCallsText, AreCallsOf};
 
 use crate::call_orders::{calls_fit, calls_stand};
 use crate::texts::value_of_text;
@@ -45,7 +45,7 @@ pub fn calls_of_text(
     count: u32,
     text: &[u8],
 ) -> Result<Option<Vec<CallSaved>>, OutOfMemory>
-    ensures some { IfOk result (λ read. IfSome read (λ calls. IsCallsText begun count text.now calls.items)) }
+    ensures some { IfOk result (λ read. IfSome read (AreCallsOf begun count text.now)) }
     ensures none { IfOk result (λ read. IfNone read ((calls : List CallSaved) → All FitsCallSaved calls → IsCallsText begun count text.now calls → ⊥)) }
 {
     let Some(value) = value_of_text(alloc, text)? else {
