@@ -47,6 +47,13 @@ impl StateReader {
         })
     }
 
+    /// How many lines it asked for.
+    pub fn asked(&self) -> u32
+        ensures { result ≡ self.now }
+    {
+        self.asked
+    }
+
     /// Reads the first line of a state.
     pub fn read_heading<S: LineSource>(&mut self, source: &mut S) -> Result<(), LineFault>
         ensures read { Gained (S.log source.old) (S.log source.new) (ReadsOneLine heading self.old result) }

@@ -1,0 +1,10 @@
+use Rattle.state_reads.specs.Texts.{IsCacheText}
+use Rattle.state_reads.specs.Refusals.{NoCache}
+use Rattle.state_reads.proofs.ToldValues.{told_slice}
+use Rattle.state_reads.proofs.value_reads.read_cache_value.Goals as goal
+
+pub returns-clause-read : goal.returns-clause-read
+returns-clause-read g c =
+    told_slice (g.S.LineSource.log c.args.source.now) (g.S.LineSource.log c.read_value.new.source) IsCacheText NoCache c.args.reader.now c.read_value.new.self c.asked.result
+    c.in_ok-text.text.items c.deref.result.now c.cache_of_text.result c.told.result c.told.ensures c.asked.ensures c.deref.ensures.value
+    c.in_ok-text.ensures.fits c.in_ok-text.ensures.number c.cache_of_text.ensures.some c.cache_of_text.ensures.none c.in_ok-text.ensures.read

@@ -1,0 +1,5 @@
+pub mod Bounds
+pub mod Calls
+pub mod Refusals
+pub mod Texts
+pub mod ValueReads
