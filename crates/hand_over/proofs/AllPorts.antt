@@ -1,5 +1,5 @@
 -- All ports are closed, call by call.
-use Rattle.std.proofs.Common.{◌≡◌, ◌∙◌, sym, ap, subst, refl, ◌<◌, ◌≤◌, ◌+◌, ℕ, zero, suc, Bool, true, false, List, [], ◌∷◌, ◌++◌, length, map, take, drop, Option, Some, None, arith, append-nil}
+use Rattle.std.proofs.Common.{◌≡◌, ◌∙◌, sym, ap, subst, refl, ◌≤◌, ◌+◌, ℕ, zero, suc, true, List, [], ◌∷◌, ◌++◌, take, Option, Some, None, arith, append-nil}
 use Rattle.std.specs.Prelude.{slice_get, is_some, option_map}
 use Rattle.std.specs.List.{AllZip}
 use Rattle.relay_outside.specs.declared.address.Addr.{Addr}
@@ -8,12 +8,12 @@ use Rattle.relay_outside.specs.declared.ports.OutCall.{OutCall}
 use Rattle.relay_outside.specs.declared.ports.PortCall.{PortCall}
 use Rattle.relay_outside.specs.declared.settings.Config.{Config}
 use Rattle.relay_outside.specs.DeviceLogs.{EndLog, Gained, WhereLogged}
-use Rattle.relay_outside.proofs.Telling.{gained_less, gained_none}
+use Rattle.relay_outside.proofs.Telling.{gained_less}
 use Rattle.rtp_packet.specs.declared.head.Half.TheVariants.{Rtp, Rtcp}
 use Rattle.histories.specs.Words.{In, here, there}
 use Rattle.histories.proofs.Lists.{maps}
 use Rattle.port_pool.specs.Pools.{AreFree}
-use Rattle.port_pool.specs.Ports.{pair_count, port_address}
+use Rattle.port_pool.specs.Ports.{port_address}
 use Rattle.call_cell.specs.declared.leg.Leg.{Leg}
 use Rattle.call_cell.specs.declared.cell.Cell as cell
 use Rattle.call_cell.specs.Shapes.{cell_leg_shape, cell_shape}
@@ -26,10 +26,9 @@ use Rattle.media_ports.proofs.Closed.{leaves_open, zip-append}
 use Rattle.media_ports.proofs.Telling.{told_after}
 use Rattle.relay_core.specs.declared.part.Part.{Part}
 use Rattle.relay_core.specs.declared.part.Part.TheVariants as part
-use Rattle.relay_core.specs.Entries.{box_of}
 use Rattle.relay_core.specs.WholeParts.{AreWholeParts, shape_of_part}
-use Rattle.hand_over.specs.Closings.{legs_in, legs_at, calls_in, live_calls, leg_pairs, box_ends_at, pair_closings, cell_closings, call_closings, closings}
-use Rattle.hand_over.specs.ClosingSteps.{pairs_of_legs, AreReady, IsLegReady, IsCellReady, ClosesSome, LeavesEmptied, HasBoard}
+use Rattle.hand_over.specs.Closings.{legs_at, calls_there, live_calls, pairs_of_all_legs, box_ends_at, pair_closings, cell_closings, call_closings, all_closings}
+use Rattle.hand_over.specs.ClosingSteps.{pairs_of_legs, AreReady, IsLegReady, LeavesEmptied}
 use Rattle.relay_core.specs.Homes.{AreEndsHome}
 use Rattle.hand_over.specs.Homes.{AreLegsOpen, AreLegsShut}
 use Rattle.hand_over.proofs.OneClosed.{held_ends, legs_of_cell}
@@ -60,7 +59,7 @@ addresses_append config (x ∷ xs) ys = ap (λ (l : List Addr). port_address con
 
 module _ {I O : Type 0} where
   pub calls_are : (config : Config) (parts : List (Part I O)) (whole : AreWholeParts config parts) → live_calls parts ≡ (board_shape whole.board).calls
-  calls_are config parts whole = ap (λ (o : Option (Part I O)). calls_in o) whole.board_is
+  calls_are config parts whole = ap (λ (o : Option (Part I O)). calls_there o) whole.board_is
 
   pub cells_free : (config : Config) (parts : List (Part I O)) (whole : AreWholeParts config parts) → AreFree (config.max_sessions + 1) (cells_of_calls (live_calls parts))
   cells_free config parts whole = subst (λ (l : List LiveShape). AreFree (config.max_sessions + 1) (cells_of_calls l)) (sym (calls_are config parts whole)) whole.whole.apart
@@ -83,7 +82,7 @@ module _ {I O : Type 0} (taken : I → EndLog InCall) (sent : O → EndLog OutCa
       let calls = (board_shape whole.board).calls in
       subst (λ (l : List LiveShape). AreRest taken sent config parts log l) (sym same)
       (rest_at_first taken sent config parts log calls
-      (call_ready taken sent config parts log whole home (subst (λ (l : List LiveShape). WhereLogged log (AllOpen (pair_addresses config (leg_pairs parts l)))) same opened))
+      (call_ready taken sent config parts log whole home (subst (λ (l : List LiveShape). WhereLogged log (AllOpen (pair_addresses config (pairs_of_all_legs parts l)))) same opened))
       (config.max_sessions + 1) whole.whole.apart (pairs_free config parts (board_shape whole.board).pool calls whole.whole.pool))
 
   -- Each leg has its ends, so each address is closed.
@@ -114,23 +113,23 @@ module _ {I O : Type 0} (taken : I → EndLog InCall) (sent : O → EndLog OutCa
 
   calls_zip : (config : Config) (parts : List (Part I O)) (log : Option (List PortCall)) (calls : List LiveShape)
       → ((call : LiveShape) → In call calls → (c : cell.Cell O) → slice_get parts call.cell ≡ Some (part.Cell c) → (leg : Leg O) → In leg c.legs.items → is_some leg.sending.ends ≡ true)
-      → AreRest taken sent config parts log calls → AllZip Closes (pair_addresses config (leg_pairs parts calls)) (call_closings taken sent config parts calls)
+      → AreRest taken sent config parts log calls → AllZip Closes (pair_addresses config (pairs_of_all_legs parts calls)) (call_closings taken sent config parts calls)
   calls_zip config parts log [] has rest = tt
   calls_zip config parts log (call ∷ calls) has rest =
       let ready = rest.0 in
       let legs = legs_of_cell parts call.cell ready.cell ready.cell_is in
       let mine = subst (λ (l : List (Leg O)). AllZip Closes (pair_addresses config (pairs_of_legs l)) (cell_closings taken sent config parts l)) (sym legs)
       (cell_zip config parts log ready.cell.legs.items (has call (here refl) ready.cell ready.cell_is) ready.legs) in
-      subst (λ (l : List Addr). AllZip Closes l (call_closings taken sent config parts (call ∷ calls))) (sym (addresses_append config (pairs_of_legs (legs_at parts call.cell)) (leg_pairs parts calls)))
-      (zip-append Closes (pair_addresses config (pairs_of_legs (legs_at parts call.cell))) (pair_addresses config (leg_pairs parts calls))
+      subst (λ (l : List Addr). AllZip Closes l (call_closings taken sent config parts (call ∷ calls))) (sym (addresses_append config (pairs_of_legs (legs_at parts call.cell)) (pairs_of_all_legs parts calls)))
+      (zip-append Closes (pair_addresses config (pairs_of_legs (legs_at parts call.cell))) (pair_addresses config (pairs_of_all_legs parts calls))
       (cell_closings taken sent config parts (legs_at parts call.cell)) (call_closings taken sent config parts calls) mine (calls_zip config parts log calls (λ c i. has c (there i)) rest.2))
 
   pub all_shut : (config : Config) (parts : List (Part I O)) (old new : Option (List PortCall)) → AreWholeParts config parts → AreEndsHome taken sent config parts → AreLegsOpen config parts old
-      → Gained old new (λ calls. calls ≡ closings taken sent config parts) → AreLegsShut config parts new
+      → Gained old new (λ calls. calls ≡ all_closings taken sent config parts) → AreLegsShut config parts new
   all_shut config parts old new whole home opened gained =
-      let ats = pair_addresses config (leg_pairs parts (live_calls parts)) in
+      let ats = pair_addresses config (pairs_of_all_legs parts (live_calls parts)) in
       let zip = calls_zip config parts old (live_calls parts) (have_ends config parts whole) (rest_of_whole config parts old whole home opened) in
-      told_after old new (λ calls. calls ≡ closings taken sent config parts) (AllOpen ats) (NoneOpen ats)
+      told_after old new (λ calls. calls ≡ all_closings taken sent config parts) (AllOpen ats) (NoneOpen ats)
       (λ calls more o those. (leaves_open ats more calls (subst (λ (cs : List PortCall). AllZip Closes ats cs) (sym those) zip)).closed) opened gained
 
   pub closed_all : (config : Config) (old new : List (Part I O)) (was now : Option (List PortCall)) (calls : List LiveShape) (all : List PortCall) → calls ≡ []

@@ -1,7 +1,6 @@
 -- The first leg of a cell that has its ends, and what the closing of its ports leaves to be closed.
-use Rattle.std.proofs.Common.{◌≡◌, ◌∙◌, sym, ap, subst, refl, ◌<◌, ◌+◌, ℕ, Bool, true, false, cond, ◌⊎◌, inl, inr, List, [], ◌∷◌, ◌++◌, length, map, Option, Some, None, arith}
+use Rattle.std.proofs.Common.{◌≡◌, ◌∙◌, sym, ap, subst, refl, ◌<◌, ℕ, Bool, true, false, cond, ◌⊎◌, inl, inr, List, [], ◌∷◌, ◌++◌, length, Option, Some, None, arith}
 use Rattle.std.specs.Prelude.{is_some}
-use Rattle.std.specs.List.{flat_map}
 use Rattle.std.proofs.lemmas.Grind.{flat_map-append}
 use Rattle.std.proofs.lemmas.List.Elements.{filter-append}
 use Rattle.relay_outside.specs.declared.address.Addr.{Addr}
@@ -17,7 +16,7 @@ use Rattle.call_cell.specs.declared.leg.Leg.{Leg}
 use Rattle.call_cell.specs.TakenEnds.{leased_address, ends_by_address, without_ends, first_ends, without_first}
 use Rattle.relay_core.specs.declared.part.Part.{Part}
 use Rattle.hand_over.specs.Closings.{box_ends_at, pair_closings, leg_closings, cell_closings}
-use Rattle.hand_over.specs.ClosingSteps.{pairs_of_legs, with_ends}
+use Rattle.hand_over.specs.ClosingSteps.{pairs_of_legs, legs_with_ends}
 
 twice : (b : Bool) → b ≡ true → b ≡ false → ⊥
 twice b h n = absurd (let f = sym h ∙ n in cc)
@@ -30,7 +29,7 @@ module _ {O : Type 0} where
     pub back : List (Leg O)
     pub legs_are : those ≡ front ++ leg ∷ back
     pub after_are : without_first those ≡ front ++ without_ends leg ∷ back
-    pub none : with_ends front ≡ []
+    pub none : legs_with_ends front ≡ []
     pub ends_are : leg.sending.ends ≡ Some (a, b)
     pub at_is : at ≡ leased_address config leg.lease
 
@@ -65,51 +64,51 @@ module _ {O : Type 0} where
             back = more.back;
             legs_are = ap (λ (l : List (Leg O)). leg ∷ l) more.legs_are;
             after_are = ap (λ (o : Option (O × O)). cond (is_some o) (without_ends leg ∷ legs) (leg ∷ without_first legs)) is ∙ ap (λ (l : List (Leg O)). leg ∷ l) more.after_are;
-            none = ap (λ (o : Option (O × O)). cond (is_some o) (leg ∷ with_ends more.front) (with_ends more.front)) is ∙ more.none;
+            none = ap (λ (o : Option (O × O)). cond (is_some o) (leg ∷ legs_with_ends more.front) (legs_with_ends more.front)) is ∙ more.none;
             ends_are = more.ends_are;
             at_is = more.at_is;
           }
 
   -- where no leg has any, none changes
-  pub no_first : (config : Config) (those : List (Leg O)) → first_ends config those ≡ None → (without_first those ≡ those) × (with_ends those ≡ [])
+  pub no_first : (config : Config) (those : List (Leg O)) → first_ends config those ≡ None → (without_first those ≡ those) × (legs_with_ends those ≡ [])
   no_first config [] e = (refl, refl)
   no_first config (leg ∷ legs) e = by leg.sending.ends refl e (λ q. no_first config legs q)
     where
       by : (o : Option (O × O)) → leg.sending.ends ≡ o → or_else (ends_by_address (leased_address config leg.lease) o) (first_ends config legs) ≡ None
-          → (first_ends config legs ≡ None → (without_first legs ≡ legs) × (with_ends legs ≡ [])) → (without_first (leg ∷ legs) ≡ leg ∷ legs) × (with_ends (leg ∷ legs) ≡ [])
+          → (first_ends config legs ≡ None → (without_first legs ≡ legs) × (legs_with_ends legs ≡ [])) → (without_first (leg ∷ legs) ≡ leg ∷ legs) × (legs_with_ends (leg ∷ legs) ≡ [])
       by (Some ends) is q rest = absurd (let h = q in cc)
       by None is q rest =
           let more = rest q in (
             ap (λ (o : Option (O × O)). cond (is_some o) (without_ends leg ∷ legs) (leg ∷ without_first legs)) is ∙ ap (λ (l : List (Leg O)). leg ∷ l) more.0,
-            ap (λ (o : Option (O × O)). cond (is_some o) (leg ∷ with_ends legs) (with_ends legs)) is ∙ more.1,
+            ap (λ (o : Option (O × O)). cond (is_some o) (leg ∷ legs_with_ends legs) (legs_with_ends legs)) is ∙ more.1,
           )
 
-  pub unended : (leg : Leg O) (legs : List (Leg O)) → with_ends (leg ∷ legs) ≡ [] → (leg.sending.ends ≡ None) × (with_ends legs ≡ [])
+  pub unended : (leg : Leg O) (legs : List (Leg O)) → legs_with_ends (leg ∷ legs) ≡ [] → (leg.sending.ends ≡ None) × (legs_with_ends legs ≡ [])
   unended leg legs e = by leg.sending.ends refl e
     where
-      by : (o : Option (O × O)) → leg.sending.ends ≡ o → cond (is_some o) (leg ∷ with_ends legs) (with_ends legs) ≡ [] → (leg.sending.ends ≡ None) × (with_ends legs ≡ [])
+      by : (o : Option (O × O)) → leg.sending.ends ≡ o → cond (is_some o) (leg ∷ legs_with_ends legs) (legs_with_ends legs) ≡ [] → (leg.sending.ends ≡ None) × (legs_with_ends legs ≡ [])
       by None is h = (is, h)
       by (Some ends) is h = absurd (let q = h in cc)
 
   -- each of the legs has none
-  pub all_unended : (those : List (Leg O)) → with_ends those ≡ [] → (leg : Leg O) → In leg those → leg.sending.ends ≡ None
+  pub all_unended : (those : List (Leg O)) → legs_with_ends those ≡ [] → (leg : Leg O) → In leg those → leg.sending.ends ≡ None
   all_unended [] e leg among = elim among [ ]
   all_unended (x ∷ those) e leg (here same) = ap (λ (l : Leg O). l.sending.ends) same ∙ (unended x those e).0
   all_unended (x ∷ those) e leg (there more) = all_unended those (unended x those e).1 leg more
 
-  ended_first : (leg : Leg O) (legs : List (Leg O)) (ends : O × O) → leg.sending.ends ≡ Some ends → with_ends (leg ∷ legs) ≡ leg ∷ with_ends legs
-  ended_first leg legs ends is = ap (λ (o : Option (O × O)). cond (is_some o) (leg ∷ with_ends legs) (with_ends legs)) is
+  ended_first : (leg : Leg O) (legs : List (Leg O)) (ends : O × O) → leg.sending.ends ≡ Some ends → legs_with_ends (leg ∷ legs) ≡ leg ∷ legs_with_ends legs
+  ended_first leg legs ends is = ap (λ (o : Option (O × O)). cond (is_some o) (leg ∷ legs_with_ends legs) (legs_with_ends legs)) is
 
   -- one leg fewer has ends then
-  pub one_fewer : (config : Config) (those : List (Leg O)) (at : Addr) (a b : O) → IsFirstLeg config those at a b → length (with_ends (without_first those)) < length (with_ends those)
+  pub one_fewer : (config : Config) (those : List (Leg O)) (at : Addr) (a b : O) → IsFirstLeg config those at a b → length (legs_with_ends (without_first those)) < length (legs_with_ends those)
   one_fewer config those at a b first =
       let p : Leg O → Bool = λ (leg : Leg O). is_some leg.sending.ends in
-      let after : with_ends (without_first those) ≡ with_ends first.back =
-      ap (λ (l : List (Leg O)). with_ends l) first.after_are ∙ filter-append p first.front (without_ends first.leg ∷ first.back)
-      ∙ ap (λ (l : List (Leg O)). l ++ with_ends (without_ends first.leg ∷ first.back)) first.none in
-      let before : with_ends those ≡ first.leg ∷ with_ends first.back =
-      ap (λ (l : List (Leg O)). with_ends l) first.legs_are ∙ filter-append p first.front (first.leg ∷ first.back)
-      ∙ ap (λ (l : List (Leg O)). l ++ with_ends (first.leg ∷ first.back)) first.none ∙ ended_first first.leg first.back (a, b) first.ends_are in
+      let after : legs_with_ends (without_first those) ≡ legs_with_ends first.back =
+      ap (λ (l : List (Leg O)). legs_with_ends l) first.after_are ∙ filter-append p first.front (without_ends first.leg ∷ first.back)
+      ∙ ap (λ (l : List (Leg O)). l ++ legs_with_ends (without_ends first.leg ∷ first.back)) first.none in
+      let before : legs_with_ends those ≡ first.leg ∷ legs_with_ends first.back =
+      ap (λ (l : List (Leg O)). legs_with_ends l) first.legs_are ∙ filter-append p first.front (first.leg ∷ first.back)
+      ∙ ap (λ (l : List (Leg O)). l ++ legs_with_ends (first.leg ∷ first.back)) first.none ∙ ended_first first.leg first.back (a, b) first.ends_are in
       let x = ap (λ (l : List (Leg O)). length l) after in
       let y = ap (λ (l : List (Leg O)). length l) before in
       omega (arith, x, y)
@@ -131,7 +130,7 @@ module _ {O : Type 0} where
   other_pairs count (x ∷ front) leg back free other (inr among) same = other_pairs count front leg back free.2 other (inr among) same
 
 module _ {I O : Type 0} (taken : I → EndLog InCall) (sent : O → EndLog OutCall) where
-  pub none_closed : (config : Config) (parts : List (Part I O)) (those : List (Leg O)) → with_ends those ≡ [] → cell_closings taken sent config parts those ≡ []
+  pub none_closed : (config : Config) (parts : List (Part I O)) (those : List (Leg O)) → legs_with_ends those ≡ [] → cell_closings taken sent config parts those ≡ []
   none_closed config parts [] e = refl
   none_closed config parts (leg ∷ legs) e =
       let un = unended leg legs e in
@@ -145,7 +144,7 @@ module _ {I O : Type 0} (taken : I → EndLog InCall) (sent : O → EndLog OutCa
       ap (λ (i : Option (I × I)). pair_closings taken sent config leg.holder.pair leg.sending.ends i ++ cell_closings taken sent config new legs) (same leg (here refl))
       ∙ ap (λ (cs : List PortCall). leg_closings taken sent config old leg ++ cs) (same_closings config new old legs (λ other among. same other (there among)))
 
-  -- what is left to close is all but the closings of the first leg
+  -- what is left to close is all but the all_closings of the first leg
   pub closed_first : (config : Config) (old new : List (Part I O)) (those : List (Leg O)) (at : Addr) (a b : O) (ins : I × I) (first : IsFirstLeg config those at a b)
       → box_ends_at config old first.leg.holder.pair ≡ Some ins
       → ((leg : Leg O) → In leg first.back → box_ends_at config new leg.holder.pair ≡ box_ends_at config old leg.holder.pair)

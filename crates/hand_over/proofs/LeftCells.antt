@@ -1,5 +1,5 @@
 -- Which cells were emptied, call by call.
-use Rattle.std.proofs.Common.{◌≡◌, ◌∙◌, sym, ap, subst, refl, ◌<◌, ◌≤◌, ◌+◌, ℕ, zero, suc, ◌⊎◌, inl, inr, List, [], ◌∷◌, ◌++◌, length, take, drop, Option, Some, None, arith}
+use Rattle.std.proofs.Common.{◌≡◌, ◌∙◌, sym, ap, subst, refl, ◌≤◌, ◌+◌, ℕ, zero, suc, ◌⊎◌, inl, inr, List, [], ◌∷◌, take, drop, Option, Some, arith}
 use Rattle.std.specs.Prelude.{slice_get}
 use Rattle.relay_outside.specs.declared.ports.InCall.{InCall}
 use Rattle.relay_outside.specs.declared.ports.OutCall.{OutCall}
@@ -9,15 +9,12 @@ use Rattle.relay_outside.specs.DeviceLogs.{EndLog}
 use Rattle.histories.specs.Words.{In, here, there}
 use Rattle.histories.proofs.Lists.{in_append, in_left}
 use Rattle.port_pool.specs.Pools.{AreFree}
-use Rattle.call_cell.specs.declared.leg.Leg.{Leg}
-use Rattle.call_cell.specs.declared.cell.Cell as cell
 use Rattle.call_board.specs.Shapes.{LiveShape}
 use Rattle.call_shapes.specs.WholeRelay.{cells_of_calls}
 use Rattle.media_ports.proofs.Leased.{take_next, drop_next}
 use Rattle.relay_core.specs.declared.part.Part.{Part}
-use Rattle.relay_core.specs.Entries.{box_of}
-use Rattle.hand_over.specs.Closings.{legs_in, legs_at}
-use Rattle.hand_over.specs.ClosingSteps.{with_ends, ClosesSome, IsEmptied, LeavesEmptied}
+use Rattle.hand_over.specs.Closings.{legs_there, legs_at}
+use Rattle.hand_over.specs.ClosingSteps.{legs_with_ends, ClosesSome, IsEmptied, LeavesEmptied}
 use Rattle.hand_over.proofs.RestCalls.{cells_apart}
 
 pub in_first : (calls : List LiveShape) (i : ℕ) (call : LiveShape) → In call (take i calls) → In call calls
@@ -34,13 +31,13 @@ module _ {I O : Type 0} where
   still_emptied : (old mid new : List (Part I O)) (place : ℕ) → slice_get new place ≡ slice_get mid place → IsEmptied old mid place → IsEmptied old new place
   still_emptied old mid new place same is = record {
     keeps = λ was at. let m = is.keeps was at in (m.0, same ∙ m.1, m.2);
-    none = ap (λ (o : Option (Part I O)). with_ends (legs_in o)) same ∙ is.none;
+    none = ap (λ (o : Option (Part I O)). legs_with_ends (legs_there o)) same ∙ is.none;
   }
 
 module _ {I O : Type 0} (taken : I → EndLog InCall) (sent : O → EndLog OutCall) where
   pub left_more : (config : Config) (count : ℕ) (calls : List LiveShape) (i : ℕ) (call : LiveShape) (old mid new : List (Part I O)) (was now : Option (List PortCall))
       → AreFree count (cells_of_calls calls) → ((c : LiveShape) → In c calls → c.cell ≤ config.max_sessions) → slice_get calls i ≡ Some call
-      → ClosesSome taken sent config call.cell mid was new now → with_ends (legs_at new call.cell) ≡ [] → LeavesEmptied config old mid (take i calls)
+      → ClosesSome taken sent config call.cell mid was new now → legs_with_ends (legs_at new call.cell) ≡ [] → LeavesEmptied config old mid (take i calls)
       → LeavesEmptied config old new (take (i + 1) calls)
   left_more config count calls i call old mid new was now free within at steps none left =
       let taken_are = take_next calls i call at in

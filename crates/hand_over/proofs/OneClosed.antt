@@ -1,5 +1,5 @@
 -- One leg of a cell is closed: the first that has its ends.
-use Rattle.std.proofs.Common.{◌≡◌, ◌∙◌, sym, ap, subst, refl, ◌<◌, ◌≤◌, ◌+◌, ℕ, Bool, true, false, cond, ◌⊎◌, inl, inr, List, [], ◌∷◌, ◌++◌, length, map, Option, Some, None, arith}
+use Rattle.std.proofs.Common.{◌≡◌, ◌∙◌, sym, ap, subst, refl, ◌<◌, ℕ, Bool, true, false, cond, ◌⊎◌, inl, inr, List, [], ◌∷◌, ◌++◌, length, map, Option, Some, None, arith}
 use Rattle.std.specs.Prelude.{slice_get}
 use Rattle.std.specs.List.{AllZip}
 use Rattle.relay_outside.specs.declared.address.Addr.{Addr}
@@ -7,8 +7,7 @@ use Rattle.relay_outside.specs.declared.ports.InCall.{InCall}
 use Rattle.relay_outside.specs.declared.ports.OutCall.{OutCall}
 use Rattle.relay_outside.specs.declared.ports.PortCall.{PortCall}
 use Rattle.relay_outside.specs.declared.settings.Config.{Config}
-use Rattle.relay_outside.specs.DeviceLogs.{EndLog, Gained, WhereLogged}
-use Rattle.relay_outside.specs.Ports.{IsOpen}
+use Rattle.relay_outside.specs.DeviceLogs.{EndLog, Gained}
 use Rattle.relay_outside.specs.Settings.{AreFamilies}
 use Rattle.relay_outside.proofs.Telling.{gained_less, gained_none}
 use Rattle.rtp_packet.specs.declared.head.Half.{Half}
@@ -17,15 +16,12 @@ use Rattle.histories.specs.Words.{In, here, there, has}
 use Rattle.histories.proofs.Lists.{in_append, in_left, in_right, it_has, maps}
 use Rattle.port_pool.specs.Ports.{AreOfPair, port_address, pair_count}
 use Rattle.port_pool.specs.Pools.{AreFree}
-use Rattle.port_pool.specs.PairBoxes.{ends_in}
 use Rattle.port_pool.proofs.Addresses.{one_address}
 use Rattle.call_cell.specs.declared.leg.Leg.{Leg}
 use Rattle.call_cell.specs.declared.cell.Cell as cell
 use Rattle.call_cell.specs.declared.saved.CellSaved.{CellSaved}
-use Rattle.call_cell.specs.declared.saved.LegSaved.{LegSaved}
-use Rattle.call_cell.specs.SavedCells.{SavesCell, saved_leg}
+use Rattle.call_cell.specs.SavedCells.{saved_leg}
 use Rattle.call_cell.specs.TakenEnds.{TakesEnds, leased_address, without_ends, first_ends, without_first}
-use Rattle.call_board.specs.Returns.{leg_lease}
 use Rattle.media_ports.specs.Addresses.{pair_addresses}
 use Rattle.media_ports.specs.Calls.{AllOpen, Closes}
 use Rattle.media_ports.proofs.Closed.{open_beside}
@@ -34,8 +30,8 @@ use Rattle.media_ports.proofs.Telling.{told_after}
 use Rattle.relay_core.specs.declared.part.Part.{Part}
 use Rattle.relay_core.specs.declared.part.Part.TheVariants as part
 use Rattle.relay_core.specs.Entries.{box_of}
-use Rattle.hand_over.specs.Closings.{legs_in, legs_at, box_ends_in, box_ends_at, pair_closings, cell_closings}
-use Rattle.hand_over.specs.ClosingSteps.{IsPairOpen, pairs_of_legs, with_ends, KeepsAllButEnds, HoldsEnds, GivesBox, TakesAt, AreReady, IsLegReady, IsCellReady, KeepsCellAt, ClosesSome}
+use Rattle.hand_over.specs.Closings.{legs_there, legs_at, box_ends_in, box_ends_at, pair_closings, cell_closings}
+use Rattle.hand_over.specs.ClosingSteps.{IsPairOpen, pairs_of_legs, legs_with_ends, KeepsAllButEnds, HoldsEnds, GivesBox, TakesAt, AreReady, IsLegReady, IsCellReady, ClosesSome}
 use Rattle.hand_over.proofs.FirstLegs.{IsFirstLeg, first_leg, no_first, other_pairs, closed_first, one_fewer, same_closings}
 
 -- Cells.
@@ -100,7 +96,7 @@ module _ {I O : Type 0} where
   same_cell parts place a b is also = sym (ap (λ (o : Option (Part I O)). cell_or a o) is) ∙ ap (λ (o : Option (Part I O)). cell_or a o) also
 
   pub legs_of_cell : (parts : List (Part I O)) (place : ℕ) (c : cell.Cell O) → slice_get parts place ≡ Some (part.Cell c) → legs_at parts place ≡ c.legs.items
-  legs_of_cell parts place c is = ap (λ (o : Option (Part I O)). legs_in o) is
+  legs_of_cell parts place c is = ap (λ (o : Option (Part I O)). legs_there o) is
 
   pub held_ends : (config : Config) (parts : List (Part I O)) (pair : ℕ) (ends : I × I) → HoldsEnds parts (box_of config pair) ends → box_ends_at config parts pair ≡ Some ends
   held_ends config parts pair ends has = ap (λ (o : Option (Part I O)). box_ends_in o) has.box_is ∙ has.ends_are
@@ -271,7 +267,7 @@ module _ {I O : Type 0} (taken : I → EndLog InCall) (sent : O → EndLog OutCa
 
   pub fewer_left : (config : Config) (place : ℕ) (old mid new : List (Part I O)) (was : Option (List PortCall)) (at : Addr) (a b : O) (ins : I × I) → IsCellReady taken sent config old was place
       → (take : TakesAt old mid place (Some (at, a, b))) (next : IsNext config old was take.was.legs.items at a b) → GivesBox mid new (box_of config next.first.leg.holder.pair) ins
-      → length (with_ends (legs_at new place)) < length (with_ends (legs_at old place))
+      → length (legs_with_ends (legs_at new place)) < length (legs_with_ends (legs_at old place))
   fewer_left config place old mid new was at a b ins ready take next gives =
       let those = take.was.legs.items in
       let low = ready.within in
@@ -279,14 +275,14 @@ module _ {I O : Type 0} (taken : I → EndLog InCall) (sent : O → EndLog OutCa
       let apart_box : place ≡ box_of config p → ⊥ = λ e. absurd (omega (arith, e, low)) in
       let after : legs_at new place ≡ without_first those = legs_of_cell new place take.now (gives.others place apart_box ∙ take.now_is) ∙ take.takes.legs in
       let before : legs_at old place ≡ those = legs_of_cell old place take.was take.was_is in
-      let x = ap (λ (l : List (Leg O)). length (with_ends l)) after in
-      let y = ap (λ (l : List (Leg O)). length (with_ends l)) before in
+      let x = ap (λ (l : List (Leg O)). length (legs_with_ends l)) after in
+      let y = ap (λ (l : List (Leg O)). length (legs_with_ends l)) before in
       let less = one_fewer config those at a b next.first in
       omega (arith, x, y, less)
 
   -- none is closed, where none has its ends
   pub closes_none : (config : Config) (place : ℕ) (old new : List (Part I O)) (was : Option (List PortCall)) → IsCellReady taken sent config old was place
-      → TakesAt old new place None → ClosesSome taken sent config place old was new was × (with_ends (legs_at new place) ≡ [])
+      → TakesAt old new place None → ClosesSome taken sent config place old was new was × (legs_with_ends (legs_at new place) ≡ [])
   closes_none config place old new was ready take =
       let those = take.was.legs.items in
       let have = known config old was place take.was ready take.was_is in
@@ -321,5 +317,5 @@ module _ {I O : Type 0} (taken : I → EndLog InCall) (sent : O → EndLog OutCa
           still_open = λ q also not_in opened. opened;
           length_is = take.length_is;
         },
-        ap (λ (l : List (Leg O)). with_ends l) after ∙ none.1,
+        ap (λ (l : List (Leg O)). legs_with_ends l) after ∙ none.1,
       )

@@ -1,13 +1,11 @@
 -- The pair of an address.
-use Rattle.std.proofs.Common.{◌≡◌, ◌∙◌, sym, ap, subst, refl, ◌≤◌, ◌<◌, ℕ, ◌+◌, ◌-◌, ◌*◌, ◌/◌, Bool, true, false, cond, nat_lt, arith, ltb-false}
+use Rattle.std.proofs.Common.{◌≡◌, ◌∙◌, sym, ap, refl, ◌<◌, ℕ, ◌+◌, ◌-◌, ◌/◌, Bool, true, false, cond, nat_lt, arith, ltb-false}
 use Rattle.rtp_packet.specs.declared.head.Half.TheVariants.{Rtp}
 use Rattle.relay_outside.specs.declared.settings.Config.{Config}
 use Rattle.relay_outside.specs.declared.address.Addr.{Addr}
-use Rattle.relay_outside.specs.declared.address.Ip.{Ip}
-use Rattle.relay_outside.specs.declared.address.Family.{Family}
 use Rattle.relay_outside.specs.declared.address.Family.TheVariants.{V4, V6}
 use Rattle.relay_outside.specs.Settings.{AreFamilies, ip_family}
-use Rattle.port_pool.specs.Ports.{first_port, range_pairs, pair_count, pair_family, pair_port, port_address, place_in_family}
+use Rattle.port_pool.specs.Ports.{first_port, range_pairs, pair_count, pair_family, port_address, place_in_family}
 use Rattle.port_pool.proofs.Addresses.{interface_family}
 
 -- the family of an address is that of its pair

@@ -1,17 +1,15 @@
 -- The calls whose cells are still to be closed.
-use Rattle.std.proofs.Common.{◌≡◌, ◌∙◌, sym, ap, subst, refl, ◌<◌, ◌≤◌, ◌+◌, ℕ, zero, suc, ◌⊎◌, inl, inr, Bool, true, false, List, [], ◌∷◌, ◌++◌, length, take, drop, map, Option, Some, None, arith, append_assoc}
+use Rattle.std.proofs.Common.{◌≡◌, ◌∙◌, sym, ap, subst, refl, ◌≤◌, ℕ, zero, suc, true, List, [], ◌∷◌, ◌++◌, take, drop, Option, Some, arith, append_assoc}
 use Rattle.std.specs.Prelude.{slice_get}
-use Rattle.std.specs.List.{flat_map}
 use Rattle.relay_outside.specs.declared.ports.InCall.{InCall}
 use Rattle.relay_outside.specs.declared.ports.OutCall.{OutCall}
 use Rattle.relay_outside.specs.declared.ports.PortCall.{PortCall}
 use Rattle.relay_outside.specs.declared.settings.Config.{Config}
-use Rattle.relay_outside.specs.DeviceLogs.{EndLog, Gained, WhereLogged}
-use Rattle.relay_outside.proofs.Telling.{gained_both, gained_less}
+use Rattle.relay_outside.specs.DeviceLogs.{EndLog, Gained}
+use Rattle.relay_outside.proofs.Telling.{gained_both}
 use Rattle.histories.specs.Words.{In, here, there, has}
-use Rattle.histories.proofs.Lists.{in_append, it_has, maps}
+use Rattle.histories.proofs.Lists.{it_has, maps}
 use Rattle.port_pool.specs.Pools.{AreFree}
-use Rattle.port_pool.specs.Ports.{pair_count}
 use Rattle.call_cell.specs.declared.leg.Leg.{Leg}
 use Rattle.call_cell.specs.declared.cell.Cell as cell
 use Rattle.call_board.specs.Shapes.{LiveShape}
@@ -19,8 +17,8 @@ use Rattle.call_shapes.specs.WholeRelay.{cells_of_calls}
 use Rattle.relay_core.specs.declared.part.Part.{Part}
 use Rattle.relay_core.specs.declared.part.Part.TheVariants as part
 use Rattle.relay_core.specs.Entries.{box_of}
-use Rattle.hand_over.specs.Closings.{legs_in, legs_at, box_ends_in, box_ends_at, cell_closings, call_closings, leg_closings, leg_pairs}
-use Rattle.hand_over.specs.ClosingSteps.{IsPairOpen, pairs_of_legs, with_ends, IsLegReady, IsCellReady, KeepsCellAt, ClosesSome, IsEmptied}
+use Rattle.hand_over.specs.Closings.{legs_there, legs_at, box_ends_in, cell_closings, call_closings}
+use Rattle.hand_over.specs.ClosingSteps.{pairs_of_legs, legs_with_ends, IsCellReady, ClosesSome}
 use Rattle.hand_over.proofs.FirstLegs.{same_closings}
 use Rattle.hand_over.proofs.OneClosed.{kept_ready, within_range, legs_of_cell}
 use Rattle.hand_over.proofs.StepsJoined.{all_closed}
@@ -99,8 +97,8 @@ module _ {I O : Type 0} (taken : I → EndLog InCall) (sent : O → EndLog OutCa
         (λ other i. record {
           differ = (ready.1 other i).differ;
           pairs = λ pair x y. (ready.1 other i).pairs pair
-              (subst (λ (o : Option (Part I O)). In pair (pairs_of_legs (legs_in o))) mine x)
-              (subst (λ (o : Option (Part I O)). In pair (pairs_of_legs (legs_in o)))
+              (subst (λ (o : Option (Part I O)). In pair (pairs_of_legs (legs_there o))) mine x)
+              (subst (λ (o : Option (Part I O)). In pair (pairs_of_legs (legs_there o)))
               (other_same config place other.cell old new was now steps (apart other (there i)) (within_rest rest ready.2 other i)) y);
         }),
         rest_stays config place old new was now rest steps (λ other i. apart other (there i)) ready.2,
@@ -117,7 +115,7 @@ module _ {I O : Type 0} (taken : I → EndLog InCall) (sent : O → EndLog OutCa
   closings_stay config place old new was now [] steps apart ready = refl
   closings_stay config place old new was now (call ∷ rest) steps apart ready =
       let mine = other_same config place call.cell old new was now steps (apart call (here refl)) ready.0.within in
-      let legs : legs_at new call.cell ≡ legs_at old call.cell = ap (λ (o : Option (Part I O)). legs_in o) mine in
+      let legs : legs_at new call.cell ≡ legs_at old call.cell = ap (λ (o : Option (Part I O)). legs_there o) mine in
       ap (λ (l : List (Leg O)). cell_closings taken sent config new l ++ call_closings taken sent config new rest) legs
       ∙ ap (λ (cs : List PortCall). cs ++ call_closings taken sent config new rest)
       (same_closings taken sent config new old (legs_at old call.cell)
@@ -126,7 +124,7 @@ module _ {I O : Type 0} (taken : I → EndLog InCall) (sent : O → EndLog OutCa
 
   -- the first of the rest was closed
   pub closed_more : (config : Config) (old new : List (Part I O)) (first was now : Option (List PortCall)) (call : LiveShape) (rest : List LiveShape) (all : List PortCall)
-      → AreRest config old was (call ∷ rest) → ClosesSome taken sent config call.cell old was new now → with_ends (legs_at new call.cell) ≡ []
+      → AreRest config old was (call ∷ rest) → ClosesSome taken sent config call.cell old was new now → legs_with_ends (legs_at new call.cell) ≡ []
       → Gained first was (λ calls. calls ++ call_closings taken sent config old (call ∷ rest) ≡ all) → Gained first now (λ calls. calls ++ call_closings taken sent config new rest ≡ all)
   closed_more config old new first was now call rest all ready steps none gained =
       gained_both first was now (λ calls. calls ++ call_closings taken sent config old (call ∷ rest) ≡ all) (λ calls. calls ≡ cell_closings taken sent config old (legs_at old call.cell))

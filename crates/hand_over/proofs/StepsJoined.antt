@@ -1,6 +1,5 @@
 -- Several legs of a cell are closed, one after the other.
-use Rattle.std.proofs.Common.{◌≡◌, ◌∙◌, sym, ap, subst, refl, ◌<◌, ◌≤◌, ◌+◌, ℕ, List, [], ◌∷◌, ◌++◌, length, Option, Some, append_assoc}
-use Rattle.std.specs.Prelude.{slice_get}
+use Rattle.std.proofs.Common.{◌≡◌, ◌∙◌, sym, ap, subst, refl, ℕ, List, [], ◌++◌, Option, append_assoc}
 use Rattle.relay_outside.specs.declared.ports.InCall.{InCall}
 use Rattle.relay_outside.specs.declared.ports.OutCall.{OutCall}
 use Rattle.relay_outside.specs.declared.ports.PortCall.{PortCall}
@@ -10,10 +9,8 @@ use Rattle.relay_outside.proofs.Telling.{gained_both, gained_less, gained_none}
 use Rattle.histories.specs.Words.{In}
 use Rattle.call_cell.specs.declared.cell.Cell as cell
 use Rattle.relay_core.specs.declared.part.Part.{Part}
-use Rattle.relay_core.specs.declared.part.Part.TheVariants as part
-use Rattle.relay_core.specs.Entries.{box_of}
 use Rattle.hand_over.specs.Closings.{legs_at, cell_closings}
-use Rattle.hand_over.specs.ClosingSteps.{pairs_of_legs, with_ends, KeepsAllButEnds, IsCellReady, KeepsCellAt, ClosesSome}
+use Rattle.hand_over.specs.ClosingSteps.{pairs_of_legs, legs_with_ends, KeepsAllButEnds, IsCellReady, ClosesSome}
 use Rattle.hand_over.proofs.FirstLegs.{none_closed}
 use Rattle.std.proofs.Common.{append-nil}
 
@@ -54,7 +51,7 @@ module _ {I O : Type 0} (taken : I → EndLog InCall) (sent : O → EndLog OutCa
       }
 
   -- where none is left with ends, all were closed
-  pub all_closed : (config : Config) (place : ℕ) (old new : List (Part I O)) (was now : Option (List PortCall)) → ClosesSome taken sent config place old was new now → with_ends (legs_at new place) ≡ []
+  pub all_closed : (config : Config) (place : ℕ) (old new : List (Part I O)) (was now : Option (List PortCall)) → ClosesSome taken sent config place old was new now → legs_with_ends (legs_at new place) ≡ []
       → Gained was now (λ calls. calls ≡ cell_closings taken sent config old (legs_at old place))
   all_closed config place old new was now steps none =
       gained_less was now (λ calls. calls ++ cell_closings taken sent config new (legs_at new place) ≡ cell_closings taken sent config old (legs_at old place))

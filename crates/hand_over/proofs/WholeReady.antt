@@ -1,7 +1,6 @@
 -- Of whole parts all calls are ready to be closed.
-use Rattle.std.proofs.Common.{◌≡◌, ◌∙◌, sym, ap, subst, refl, ◌<◌, ◌≤◌, ◌+◌, ℕ, zero, suc, ◌⊎◌, inl, inr, Bool, true, false, List, [], ◌∷◌, ◌++◌, ◌==◌, length, map, filter, Option, Some, None, arith}
-use Rattle.std.specs.Prelude.{slice_get, is_some}
-use Rattle.std.specs.List.{flat_map}
+use Rattle.std.proofs.Common.{◌≡◌, ◌∙◌, sym, ap, subst, refl, ◌<◌, ◌≤◌, ◌+◌, ℕ, Bool, true, false, List, [], ◌∷◌, ◌++◌, map, Option, Some, None, arith}
+use Rattle.std.specs.Prelude.{slice_get}
 use Rattle.std.proofs.lemmas.List.{map-append}
 use Rattle.relay_outside.specs.declared.ports.InCall.{InCall}
 use Rattle.relay_outside.specs.declared.ports.OutCall.{OutCall}
@@ -9,23 +8,21 @@ use Rattle.relay_outside.specs.declared.ports.PortCall.{PortCall}
 use Rattle.relay_outside.specs.declared.address.Addr.{Addr}
 use Rattle.relay_outside.specs.declared.settings.Config.{Config}
 use Rattle.relay_outside.specs.DeviceLogs.{EndLog, WhereLogged}
-use Rattle.rtp_packet.specs.declared.head.Half.TheVariants.{Rtp, Rtcp}
-use Rattle.histories.specs.Words.{In, here, there, has, first}
+use Rattle.rtp_packet.specs.declared.head.Half.TheVariants.{Rtp}
+use Rattle.histories.specs.Words.{In, here, there, has}
 use Rattle.histories.proofs.Lists.{in_left, in_right, it_has, maps, mapped, spreads, spread, keeps, equal}
 use Rattle.port_pool.specs.declared.holder.Holder.{Holder}
 use Rattle.port_pool.specs.declared.boxes.Opened.{Opened}
-use Rattle.port_pool.specs.declared.boxes.PairBox.{PairBox}
-use Rattle.port_pool.specs.PairBoxes.{holder_in, holder_of, ends_in, pair_ends, at_of}
+use Rattle.port_pool.specs.PairBoxes.{holder_in, holder_of, pair_ends, at_of}
 use Rattle.port_pool.specs.Pools.{Pairs, AreFree, AreFrom}
 use Rattle.port_pool.specs.Ports.{AreOfPair, pair_count, port_address}
 use Rattle.call_cell.specs.declared.leg.Leg.{Leg}
-use Rattle.call_cell.specs.declared.cell.Cell as cell
-use Rattle.call_cell.specs.Shapes.{CellLegShape, CellShape, cell_shape, cell_leg_shape}
+use Rattle.call_cell.specs.Shapes.{CellLegShape, cell_shape, cell_leg_shape}
 use Rattle.call_board.specs.Shapes.{LiveShape, board_shape}
-use Rattle.call_shapes.specs.Agreement.{CallAgrees, IsLegOf}
-use Rattle.call_shapes.specs.WholeRelay.{PoolHolds, AreWhole, cells_of_calls, held_legs, holder_among}
+use Rattle.call_shapes.specs.Agreement.{CallAgrees}
+use Rattle.call_shapes.specs.WholeRelay.{PoolHolds, cells_of_calls, held_legs, holder_among}
 use Rattle.call_shapes.specs.Turns.{pairs_held}
-use Rattle.call_shapes.proofs.Times.{times, one_if, times_none, stands}
+use Rattle.call_shapes.proofs.Times.{times, times_none, stands}
 use Rattle.call_shapes.proofs.Pools.{once_times}
 use Rattle.call_shapes.proofs.Holders.{found_among}
 use Rattle.media_ports.specs.Addresses.{pair_addresses}
@@ -34,14 +31,13 @@ use Rattle.media_ports.proofs.Telling.{told_less}
 use Rattle.relay_core.specs.declared.part.Part.{Part}
 use Rattle.relay_core.specs.declared.part.Part.TheVariants as part
 use Rattle.relay_core.specs.Entries.{box_of}
-use Rattle.relay_core.specs.PlaceHistories.{AreHome, LegsHome, BoxHome, CellHome}
-use Rattle.relay_core.specs.WholeParts.{AreWholeParts, shape_of_part, cell_shape_at, box_holder_at, holder_of_part}
-use Rattle.hand_over.specs.Closings.{legs_in, legs_at, calls_in, live_calls, leg_pairs}
-use Rattle.hand_over.specs.ClosingSteps.{IsPairOpen, pairs_of_legs, HoldsEnds, AreReady, IsLegReady, IsCellReady}
+use Rattle.relay_core.specs.PlaceHistories.{AreHome, LegsHome}
+use Rattle.relay_core.specs.WholeParts.{AreWholeParts, shape_of_part, cell_shape_at, holder_of_part}
+use Rattle.hand_over.specs.Closings.{legs_there, legs_at, pairs_of_all_legs}
+use Rattle.hand_over.specs.ClosingSteps.{IsPairOpen, pairs_of_legs, HoldsEnds, AreReady, IsCellReady}
 use Rattle.relay_core.specs.Homes.{AreEndsHome}
-use Rattle.hand_over.specs.Homes.{AreLegsOpen}
 use Rattle.hand_over.proofs.OneClosed.{legs_of_cell}
-use Rattle.hand_over.proofs.RestCalls.{ArePlacesApart, AllApart, AreRest}
+use Rattle.hand_over.proofs.RestCalls.{AreRest}
 
 -- Numbers of which each stands once.
 
@@ -86,13 +82,13 @@ module _ {O : Type 0} where
   pairs_shaped (leg ∷ legs) = ap (λ (ps : List ℕ). leg.holder.pair ∷ ps) (pairs_shaped legs)
 
 module _ {I O : Type 0} where
-  pairs_in_shape : (config : Config) (o : Option (Part I O)) → pairs_held (map (λ (leg : CellLegShape). leg.holder) (shape_of_part config o).legs) ≡ pairs_of_legs (legs_in o)
+  pairs_in_shape : (config : Config) (o : Option (Part I O)) → pairs_held (map (λ (leg : CellLegShape). leg.holder) (shape_of_part config o).legs) ≡ pairs_of_legs (legs_there o)
   pairs_in_shape config None = refl
   pairs_in_shape config (Some (part.Board b)) = refl
   pairs_in_shape config (Some (part.Cell c)) = pairs_shaped c.legs.items
   pairs_in_shape config (Some (part.Pair p)) = refl
 
-  pairs_of_call : (config : Config) (parts : List (Part I O)) (calls : List LiveShape) → pairs_held (held_legs (cell_shape_at config parts) calls) ≡ leg_pairs parts calls
+  pairs_of_call : (config : Config) (parts : List (Part I O)) (calls : List LiveShape) → pairs_held (held_legs (cell_shape_at config parts) calls) ≡ pairs_of_all_legs parts calls
   pairs_of_call config parts [] = refl
   pairs_of_call config parts (call ∷ calls) =
       map-append (λ (leg : Holder). leg.pair) (map (λ (leg : CellLegShape). leg.holder) (cell_shape_at config parts call.cell).legs) (held_legs (cell_shape_at config parts) calls)
@@ -101,7 +97,7 @@ module _ {I O : Type 0} where
 
   -- the pairs of all legs differ
   pub pairs_free : (config : Config) (parts : List (Part I O)) (pool : Pairs) (calls : List LiveShape) → PoolHolds config pool (held_legs (cell_shape_at config parts) calls)
-      → AreFree (pair_count config) (leg_pairs parts calls)
+      → AreFree (pair_count config) (pairs_of_all_legs parts calls)
   pairs_free config parts pool calls holds =
       let held = held_legs (cell_shape_at config parts) calls in
       subst (λ (ps : List ℕ). AreFree (pair_count config) ps) (pairs_of_call config parts calls)
@@ -155,7 +151,7 @@ module _ {I O : Type 0} (taken : I → EndLog InCall) (sent : O → EndLog OutCa
 
   -- a call's cell is ready, where the pairs of its legs differ
   pub call_ready : (config : Config) (parts : List (Part I O)) (log : Option (List PortCall)) (whole : AreWholeParts config parts) → AreEndsHome taken sent config parts
-      → WhereLogged log (AllOpen (pair_addresses config (leg_pairs parts (board_shape whole.board).calls)))
+      → WhereLogged log (AllOpen (pair_addresses config (pairs_of_all_legs parts (board_shape whole.board).calls)))
       → (call : LiveShape) → In call (board_shape whole.board).calls → AreFree (pair_count config) (pairs_of_legs (legs_at parts call.cell)) → IsCellReady taken sent config parts log call.cell
   call_ready config parts log whole home opened call among free =
       let calls = (board_shape whole.board).calls in
@@ -179,29 +175,29 @@ module _ {I O : Type 0} (taken : I → EndLog InCall) (sent : O → EndLog OutCa
             subst (λ (o : Option (Part I O)). In leg.holder (map (λ (l : CellLegShape). l.holder) (shape_of_part config o).legs)) (sym has.1)
             (maps (λ (l : CellLegShape). l.holder) (cell_shape c).legs (maps (λ (l : Leg O). cell_leg_shape l) c.legs.items i)) in
             let held = spreads (λ (one : LiveShape). map (λ (l : CellLegShape). l.holder) (cell_shape_at config parts one.cell).legs) calls among shape_in in
-            let pair_in : In leg.holder.pair (leg_pairs parts calls) =
+            let pair_in : In leg.holder.pair (pairs_of_all_legs parts calls) =
             spreads (λ (one : LiveShape). map (λ (l : Leg O). l.holder.pair) (legs_at parts one.cell)) calls among
             (subst (λ (l : List (Leg O)). In leg.holder.pair (pairs_of_legs l)) (sym legs_are) (maps (λ (l : Leg O). l.holder.pair) c.legs.items i)) in
             record {
               lease_is = is.lease_is;
               ready = ready_by config parts log leg.holder.pair leg.sending.ends (at_home leg i) (box_ready config parts whole home leg.holder held)
-                  (told_less log (AllOpen (pair_addresses config (leg_pairs parts calls))) (AllOpen (pair_addresses config (leg.holder.pair ∷ [])))
-                  (λ more o. open_one config (leg_pairs parts calls) leg.holder.pair more pair_in o) opened);
+                  (told_less log (AllOpen (pair_addresses config (pairs_of_all_legs parts calls))) (AllOpen (pair_addresses config (leg.holder.pair ∷ [])))
+                  (λ more o. open_one config (pairs_of_all_legs parts calls) leg.holder.pair more pair_in o) opened);
             };
       }
 
   pub rest_at_first : (config : Config) (parts : List (Part I O)) (log : Option (List PortCall)) (calls : List LiveShape)
       → ((call : LiveShape) → In call calls → AreFree (pair_count config) (pairs_of_legs (legs_at parts call.cell)) → IsCellReady taken sent config parts log call.cell)
-      → (count : ℕ) → AreFree count (cells_of_calls calls) → AreFree (pair_count config) (leg_pairs parts calls) → AreRest taken sent config parts log calls
+      → (count : ℕ) → AreFree count (cells_of_calls calls) → AreFree (pair_count config) (pairs_of_all_legs parts calls) → AreRest taken sent config parts log calls
   rest_at_first config parts log [] ready count cells pairs = tt
   rest_at_first config parts log (call ∷ calls) ready count cells pairs =
       let mine = pairs_of_legs (legs_at parts call.cell) in (
-        ready call (here refl) (free_left (pair_count config) mine (leg_pairs parts calls) pairs),
+        ready call (here refl) (free_left (pair_count config) mine (pairs_of_all_legs parts calls) pairs),
         (λ other i. record {
           differ = λ same. absurd (let f = sym (subst (λ (n : ℕ). has (cells_of_calls calls) n ≡ true) same
               (it_has other.cell (cells_of_calls calls) (maps (λ (c : LiveShape). c.cell) calls i))) ∙ cells.1 in cc);
-          pairs = λ pair x y. free_apart (pair_count config) mine (leg_pairs parts calls) pairs pair x
+          pairs = λ pair x y. free_apart (pair_count config) mine (pairs_of_all_legs parts calls) pairs pair x
               (spreads (λ (one : LiveShape). map (λ (l : Leg O). l.holder.pair) (legs_at parts one.cell)) calls i y);
         }),
-        rest_at_first config parts log calls (λ c i. ready c (there i)) count cells.2 (free_right (pair_count config) mine (leg_pairs parts calls) pairs),
+        rest_at_first config parts log calls (λ c i. ready c (there i)) count cells.2 (free_right (pair_count config) mine (pairs_of_all_legs parts calls) pairs),
       )

@@ -6,7 +6,7 @@ use Rattle.relay_outside.specs.declared.ports.OutCall.{OutCall}
 use Rattle.relay_outside.specs.declared.ports.PortCall.{PortCall}
 use Rattle.relay_outside.specs.declared.settings.Config.{Config}
 use Rattle.relay_outside.specs.DeviceLogs.{EndLog, Gained, WhereLogged}
-use Rattle.rtp_packet.specs.declared.head.Half.TheVariants.{Rtp, Rtcp}
+use Rattle.rtp_packet.specs.declared.head.Half.TheVariants.{Rtp}
 use Rattle.histories.specs.Words.{In}
 use Rattle.port_pool.specs.declared.boxes.PairBox.{PairBox}
 use Rattle.port_pool.specs.Ports.{AreOfPair, port_address, pair_count}
@@ -36,8 +36,8 @@ module _ {O : Type 0} where
   pairs_of_legs those = map (λ (leg : Leg O). leg.holder.pair) those
 
   -- the legs that have their ends
-  abbrev pub with_ends : List (Leg O) → List (Leg O)
-  with_ends those = filter (λ (leg : Leg O). is_some leg.sending.ends) those
+  abbrev pub legs_with_ends : List (Leg O) → List (Leg O)
+  legs_with_ends those = filter (λ (leg : Leg O). is_some leg.sending.ends) those
 
   -- a cell that stays, but for the ends of its legs
   pub record KeepsAllButEnds (old new : cell.Cell O) : Type 0 where
@@ -45,31 +45,31 @@ module _ {O : Type 0} where
 
 module _ {I O : Type 0} where
   -- the state is an open box
-  abbrev pub CanShut : Part I O → Type 0
-  CanShut (part.Pair box) = IsSome (ends_in box)
-  CanShut _ = ⊥
+  abbrev pub IsOpenBox : Part I O → Type 0
+  IsOpenBox (part.Pair box) = IsSome (ends_in box)
+  IsOpenBox _ = ⊥
 
   -- the box gave these ends
-  abbrev pub Shuts : Part I O → Part I O → I × I → Type 0
-  Shuts (part.Pair was) (part.Pair now) ends = (ends_in was ≡ Some ends) × (ends_in now ≡ None)
-  Shuts _ _ ends = ⊥
+  abbrev pub GaveBoxEnds : Part I O → Part I O → I × I → Type 0
+  GaveBoxEnds (part.Pair was) (part.Pair now) ends = (ends_in was ≡ Some ends) × (ends_in now ≡ None)
+  GaveBoxEnds _ _ ends = ⊥
 
   -- the state is a cell, and gave the ends of its first leg that has some
-  abbrev pub IsCell : Part I O → Type 0
-  IsCell (part.Cell held) = Unit {0}
-  IsCell _ = ⊥
+  abbrev pub HoldsCell : Part I O → Type 0
+  HoldsCell (part.Cell held) = Unit {0}
+  HoldsCell _ = ⊥
 
-  abbrev pub IsBoard : Part I O → Type 0
-  IsBoard (part.Board held) = Unit {0}
-  IsBoard _ = ⊥
+  abbrev pub HoldsBoard : Part I O → Type 0
+  HoldsBoard (part.Board held) = Unit {0}
+  HoldsBoard _ = ⊥
 
   -- the first place has the board
   abbrev pub HasBoard : List (Part I O) → Type 0
   HasBoard parts = (held : board.Board) × (slice_get parts 0 ≡ Some (part.Board held))
 
-  abbrev pub Takes : Part I O → Part I O → Option (Addr × O × O) → Type 0
-  Takes (part.Cell was) (part.Cell now) ends = TakesEnds was now ends
-  Takes _ _ ends = ⊥
+  abbrev pub GaveEnds : Part I O → Part I O → Option (Addr × O × O) → Type 0
+  GaveEnds (part.Cell was) (part.Cell now) ends = TakesEnds was now ends
+  GaveEnds _ _ ends = ⊥
 
   -- the place holds a box with these ends
   pub record HoldsEnds (parts : List (Part I O)) (place : ℕ) (ends : I × I) : Type 0 where
@@ -141,7 +141,7 @@ module _ {I O : Type 0} where
   -- the cell at the place is saved as before, and no leg of it has its ends
   pub record IsEmptied (old new : List (Part I O)) (place : ℕ) : Type 0 where
     pub keeps : KeepsCellAt old new place
-    pub none : with_ends (legs_at new place) ≡ []
+    pub none : legs_with_ends (legs_at new place) ≡ []
 
   -- the cells of these calls were emptied, and all other cells and the board are as they were
   pub record LeavesEmptied (config : Config) (old new : List (Part I O)) (calls : List LiveShape) : Type 0 where

@@ -22,26 +22,26 @@ module _ {I O : Type 0} where
   box_ends_in (Some (part.Pair box)) = ends_in box
   box_ends_in _ = None
 
-  abbrev pub legs_in : Option (Part I O) → List (Leg O)
-  legs_in (Some (part.Cell cell)) = cell.legs.items
-  legs_in _ = []
+  abbrev pub legs_there : Option (Part I O) → List (Leg O)
+  legs_there (Some (part.Cell cell)) = cell.legs.items
+  legs_there _ = []
 
-  abbrev pub calls_in : Option (Part I O) → List LiveShape
-  calls_in (Some (part.Board board)) = (board_shape board).calls
-  calls_in _ = []
+  abbrev pub calls_there : Option (Part I O) → List LiveShape
+  calls_there (Some (part.Board board)) = (board_shape board).calls
+  calls_there _ = []
 
   abbrev pub box_ends_at : Config → List (Part I O) → (pair : ℕ) → Option (I × I)
   box_ends_at config parts pair = box_ends_in (slice_get parts (box_of config pair))
 
   abbrev pub legs_at : List (Part I O) → (place : ℕ) → List (Leg O)
-  legs_at parts place = legs_in (slice_get parts place)
+  legs_at parts place = legs_there (slice_get parts place)
 
   abbrev pub live_calls : List (Part I O) → List LiveShape
-  live_calls parts = calls_in (slice_get parts 0)
+  live_calls parts = calls_there (slice_get parts 0)
 
   -- the pairs of all legs, by call and in the order of each cell
-  abbrev pub leg_pairs : List (Part I O) → List LiveShape → List ℕ
-  leg_pairs parts calls = flat_map (λ (call : LiveShape). map (λ (leg : Leg O). leg.holder.pair) (legs_at parts call.cell)) calls
+  abbrev pub pairs_of_all_legs : List (Part I O) → List LiveShape → List ℕ
+  pairs_of_all_legs parts calls = flat_map (λ (call : LiveShape). map (λ (leg : Leg O). leg.holder.pair) (legs_at parts call.cell)) calls
 
 -- The ports of each leg, that for RTP first, with what their ends tell: those of the box of the leg's pair, and those of the leg
 module _ {I O : Type 0} (taken : I → EndLog InCall) (sent : O → EndLog OutCall) where
@@ -63,5 +63,5 @@ module _ {I O : Type 0} (taken : I → EndLog InCall) (sent : O → EndLog OutCa
   abbrev pub call_closings : Config → List (Part I O) → List LiveShape → List PortCall
   call_closings config parts calls = flat_map (λ (call : LiveShape). cell_closings config parts (legs_at parts call.cell)) calls
 
-  abbrev pub closings : Config → List (Part I O) → List PortCall
-  closings config parts = call_closings config parts (live_calls parts)
+  abbrev pub all_closings : Config → List (Part I O) → List PortCall
+  all_closings config parts = call_closings config parts (live_calls parts)

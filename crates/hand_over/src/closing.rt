@@ -8,8 +8,8 @@ ghost use Rattle.media_ports.specs.Calls.{AllOpen};
 ghost use Rattle.relay_core.specs.WholeParts.{AreWholeParts};
 ghost use Rattle.relay_core.specs.Homes.{AreEndsHome};
 ghost use Rattle.hand_over.specs.Homes.{AreLegsOpen, AreLegsShut};
-ghost use Rattle.hand_over.specs.Closings.{legs_at, closings, live_calls};
-ghost use Rattle.hand_over.specs.ClosingSteps.{IsCellReady, ClosesSome, LeavesEmptied, with_ends};
+ghost use Rattle.hand_over.specs.Closings.{legs_at, all_closings, live_calls};
+ghost use Rattle.hand_over.specs.ClosingSteps.{IsCellReady, ClosesSome, LeavesEmptied, legs_with_ends};
 
 use crate::addresses::{box_place, pair_at, rtcp_address};
 use crate::calls::{cell_of_call, live_count};
@@ -44,8 +44,8 @@ fn close_next<P: PortMaker>(
     requires room { config.now.max_sessions + 1 + pair_count config.now ≤ length parts.old }
     requires ready { IsCellReady P.In.log P.Out.log config.now parts.old (P.log ports.old) place }
     ensures step { ClosesSome P.In.log P.Out.log config.now place parts.old (P.log ports.old) parts.new (P.log ports.new) }
-    ensures fewer { result ≡ true → length (with_ends (legs_at parts.new place)) < length (with_ends (legs_at parts.old place)) }
-    ensures none { result ≡ false → with_ends (legs_at parts.new place) ≡ [] }
+    ensures fewer { result ≡ true → length (legs_with_ends (legs_at parts.new place)) < length (legs_with_ends (legs_at parts.old place)) }
+    ensures none { result ≡ false → legs_with_ends (legs_at parts.new place) ≡ [] }
     ensures later { P.faults ports.old ≤ P.faults ports.new }
 {
     prove!(config.port_max <= 65_535);
@@ -69,7 +69,7 @@ fn close_cell<P: PortMaker>(
     requires room { config.now.max_sessions + 1 + pair_count config.now ≤ length parts.old }
     requires ready { IsCellReady P.In.log P.Out.log config.now parts.old (P.log ports.old) place }
     ensures steps { ClosesSome P.In.log P.Out.log config.now place parts.old (P.log ports.old) parts.new (P.log ports.new) }
-    ensures none { with_ends (legs_at parts.new place) ≡ [] }
+    ensures none { legs_with_ends (legs_at parts.new place) ≡ [] }
     ensures later { P.faults ports.old ≤ P.faults ports.new }
 {
     while close_next(config, parts, place, ports) {}
@@ -81,7 +81,7 @@ pub fn close_ports<P: PortMaker>(config: &Config, parts: &mut [Part<P::In, P::Ou
     requires whole { AreWholeParts config.now parts.old }
     requires home { AreEndsHome P.In.log P.Out.log config.now parts.old }
     requires open { AreLegsOpen config.now parts.old (P.log ports.old) }
-    ensures closes { Gained (P.log ports.old) (P.log ports.new) (λ calls. calls ≡ closings P.In.log P.Out.log config.now parts.old) }
+    ensures closes { Gained (P.log ports.old) (P.log ports.new) (λ calls. calls ≡ all_closings P.In.log P.Out.log config.now parts.old) }
     ensures shut { AreLegsShut config.now parts.old (P.log ports.new) }
     ensures left { LeavesEmptied config.now parts.old parts.new (live_calls parts.old) }
     ensures length { length parts.new ≡ length parts.old }

@@ -17,7 +17,7 @@ use Rattle.state_values.proofs.KeyedTrees.{same_entries, same_value, same_rest}
 use Rattle.state_values.proofs.ListTrees.{same_list}
 use Rattle.state_values.proofs.SignalLaws.{same_bytes, same_holder}
 use Rattle.state_values.proofs.CellLegLaws.{same_counts}
-use Rattle.state_reads.specs.Bounds.{IsCount, PacketCounts, LegCounts, LegRanges, CellCounts}
+use Rattle.state_reads.specs.Bounds.{IsCountBelow, PacketCounts, LegCounts, LegRanges, CellCounts}
 
 leases_same : (a b : Lease) → FitsLease a → FitsLease b → lease_tree a ≡ lease_tree b → a ≡ b
 unfolding lease_tree
@@ -36,8 +36,8 @@ leg_tells a b ranges fits same counts =
     let lease = leases_same a.lease b.lease ranges.lease fits.lease (same_value fourth) in
     record {
       packets = subst (λ (it : Counts). PacketCounts it) (sym packets) counts.packets;
-      holder = subst (λ (it : Holder). IsCount it.generation) (sym holder) counts.holder;
-      lease = subst (λ (it : Lease). IsCount it.generation) (sym lease) counts.lease;
+      holder = subst (λ (it : Holder). IsCountBelow it.generation) (sym holder) counts.holder;
+      lease = subst (λ (it : Lease). IsCountBelow it.generation) (sym lease) counts.lease;
     }
 
 cons_all : {A : Type 0} (P : A → Type 0) (x : A) (xs : List A) → P x → All P xs → All P (x ∷ xs)

@@ -9,30 +9,30 @@ use Rattle.state_values.specs.CellLegTrees.{FitsPacketCounts}
 use Rattle.state_values.specs.declared.relays.RelaySaved.{RelaySaved}
 
 -- below 2 ^ 62
-abbrev pub IsCount : ℕ → Type 0
-IsCount number = number < 2 ^ 62
+abbrev pub IsCountBelow : ℕ → Type 0
+IsCountBelow number = number < 2 ^ 62
 
 -- of calls that were begun, and of keys that were drawn
 pub record RelayCounts (saved : RelaySaved) : Type 0 where
-  pub begun : IsCount saved.begun
-  pub drawn : IsCount saved.drawn
+  pub begun : IsCountBelow saved.begun
+  pub drawn : IsCountBelow saved.drawn
 
 -- as the generation of each pair
 abbrev pub AreCounts : List ℕ → Type 0
-AreCounts generations = All IsCount generations
+AreCounts generations = All IsCountBelow generations
 
 -- of accepted and sent packets
 pub record PacketCounts (counts : Counts) : Type 0 where
-  pub rtp_accepted : IsCount counts.rtp_accepted
-  pub rtp_sent : IsCount counts.rtp_sent
-  pub rtcp_accepted : IsCount counts.rtcp_accepted
-  pub rtcp_sent : IsCount counts.rtcp_sent
+  pub rtp_accepted : IsCountBelow counts.rtp_accepted
+  pub rtp_sent : IsCountBelow counts.rtp_sent
+  pub rtcp_accepted : IsCountBelow counts.rtcp_accepted
+  pub rtcp_sent : IsCountBelow counts.rtcp_sent
 
 -- those of a leg, and the generation of its holder and of its lease
 pub record LegCounts (leg : LegSaved) : Type 0 where
   pub packets : PacketCounts leg.counts
-  pub holder : IsCount leg.holder.generation
-  pub lease : IsCount leg.lease.generation
+  pub holder : IsCountBelow leg.holder.generation
+  pub lease : IsCountBelow leg.lease.generation
 
 -- of each leg of the cell
 abbrev pub CellCounts : CellSaved → Type 0

@@ -22,7 +22,7 @@ AreRising from [] below = from ≤ below
 AreRising from (number ∷ numbers) below = (from ≤ number) × AreRising (number + 1) numbers below
 
 -- each once, and one of the cells from 1 to the count
-pub record AreCells (count : ℕ) (cells : List ℕ) : Type 0 where
+pub record AreCellsOf (count : ℕ) (cells : List ℕ) : Type 0 where
   pub once : AreFree (count + 1) cells
   pub from_one : AreFrom 1 cells
 
@@ -30,7 +30,7 @@ pub record AreCells (count : ℕ) (cells : List ℕ) : Type 0 where
 pub record CallsStand (begun count : ℕ) (numbers cells : List ℕ) (ids : List (List ℕ)) : Type 0 where
   pub rise : AreRising 0 numbers begun
   pub apart : IdsApart ids
-  pub placed : AreCells count cells
+  pub placed : AreCellsOf count cells
 
 -- The third value: the live calls of a board that began so many, and has so many cells
 pub record IsCallsText (begun count : ℕ) (text : List ℕ) (calls : List CallSaved) : Type 0 where

@@ -4,7 +4,7 @@ ghost use Rattle.std.specs.List.{list_any};
 ghost use Rattle.std.specs.Str.{bytes_eq};
 ghost use Rattle.port_pool.specs.Pools.{AreFree, AreFrom};
 ghost use Rattle.call_board.specs.SavedBoards.{IdsApart};
-ghost use Rattle.state_reads.specs.Calls.{saved_numbers, saved_cells, saved_ids, AreRising, AreCells, CallsStand, CallRanges};
+ghost use Rattle.state_reads.specs.Calls.{saved_numbers, saved_cells, saved_ids, AreRising, AreCellsOf, CallsStand, CallRanges};
 
 use call_board::CallSaved;
 use relay_outside::OutOfMemory;
@@ -78,7 +78,7 @@ fn are_once(alloc: Global, end: usize, cells: &[u32]) -> Result<bool, AllocError
 
 /// Whether each has a cell of its own, of so many.
 fn cells_apart(alloc: Global, count: u32, calls: &[CallSaved]) -> Result<bool, OutOfMemory>
-    ensures { IfOk result (λ are. IsTrue are ↔ AreCells count (saved_cells calls.now)) }
+    ensures { IfOk result (λ are. IsTrue are ↔ AreCellsOf count (saved_cells calls.now)) }
 {
     let cells = cells_of(alloc, calls)?;
     let once = are_once(alloc, count as usize + 1, &cells)?;

@@ -4,7 +4,7 @@ ghost use Rattle.endpoint_learn.specs.SavedLearners.{FitsIp};
 ghost use Rattle.port_pool.specs.SavedLeases.{FitsLease};
 ghost use Rattle.state_values.specs.CellLegTrees.{FitsPacketCounts};
 ghost use Rattle.state_values.specs.SignalTrees.{FitsHolder};
-ghost use Rattle.state_reads.specs.Bounds.{IsCount, AreCounts, PacketCounts, LegCounts, LegRanges};
+ghost use Rattle.state_reads.specs.Bounds.{IsCountBelow, AreCounts, PacketCounts, LegCounts, LegRanges};
 
 use call_cell::{Counts, LegSaved};
 use port_pool::{Holder, Lease};
@@ -15,7 +15,7 @@ const COUNT_END: u64 = 1 << 62;
 
 /// Whether the number is below 2^62.
 pub(crate) fn is_count(number: u64) -> bool
-    ensures { IsTrue result ↔ IsCount number }
+    ensures { IsTrue result ↔ IsCountBelow number }
 {
     number < COUNT_END
 }

@@ -1,7 +1,7 @@
-use Rattle.std.proofs.Common.{◌≡◌, ap, ◌∙◌, ◌-◌, ◌/◌, ◌+◌, ℕ}
+use Rattle.std.proofs.Common.{ap, ◌∙◌, ◌-◌, ◌/◌, ℕ}
 use Rattle.relay_outside.specs.declared.address.Ip.{Ip}
 use Rattle.relay_outside.specs.Settings.{ip_family}
-use Rattle.hand_over.proofs.PairOfAddress.{pair_of_first, pair_of_later}
+use Rattle.hand_over.proofs.PairOfAddress.{pair_of_first}
 use Rattle.hand_over.proofs.addresses.pair_at.Goals as goal
 
 pub returns-in-V4 : goal.returns-in-V4

@@ -1,6 +1,6 @@
-use Rattle.std.proofs.Common.{◌≡◌, ◌≤◌, ◌+◌, ℕ, List, length}
+use Rattle.std.proofs.Common.{◌≡◌, ◌≤◌, length}
 use Rattle.hand_over.specs.Closings.{legs_at}
-use Rattle.hand_over.specs.ClosingSteps.{ClosesSome, with_ends}
+use Rattle.hand_over.specs.ClosingSteps.{ClosesSome, legs_with_ends}
 use Rattle.hand_over.proofs.closing.close_cell.Given as goal
 
 abbrev pub invariant-loop : goal.invariant-loop
@@ -13,4 +13,4 @@ invariant-loop g l =
     }
 
 abbrev pub decreases-loop : goal.decreases-loop
-decreases-loop g l = length (with_ends (legs_at l.parts l.place))
+decreases-loop g l = length (legs_with_ends (legs_at l.parts l.place))

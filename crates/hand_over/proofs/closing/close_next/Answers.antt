@@ -1,20 +1,13 @@
-use Rattle.std.proofs.Common.{◌≡◌, ◌∙◌, ap, sym, subst, ◌<◌, ◌≤◌, ◌+◌, ℕ, List, [], ◌∷◌, Option, Some, None, length, arith}
+use Rattle.std.proofs.Common.{◌≡◌, ◌∙◌, ap, sym, subst, ℕ, [], ◌∷◌, Option, arith}
 use Rattle.relay_outside.specs.declared.address.Addr.{Addr}
-use Rattle.relay_outside.specs.declared.ports.PortCall.{PortCall}
 use Rattle.relay_outside.specs.declared.ports.PortCall.TheVariants.{Close}
 use Rattle.relay_outside.specs.DeviceLogs.{Gained, WhereLogged}
-use Rattle.relay_outside.proofs.Telling.{gained_less}
-use Rattle.rtp_packet.specs.declared.head.Half.TheVariants.{Rtp}
-use Rattle.port_pool.specs.Ports.{AreOfPair, pair_count, rtcp_address, port_address}
+use Rattle.port_pool.specs.Ports.{AreOfPair, rtcp_address}
 use Rattle.port_pool.proofs.Addresses.{below_end}
-use Rattle.call_cell.specs.declared.leg.Leg.{Leg}
-use Rattle.call_cell.specs.TakenEnds.{without_first}
 use Rattle.media_ports.specs.Calls.{AllOpen}
 use Rattle.relay_core.specs.Entries.{box_of}
-use Rattle.hand_over.specs.Closings.{legs_at, pair_closings}
-use Rattle.hand_over.specs.ClosingSteps.{HoldsEnds, GivesBox, TakesAt, with_ends}
-use Rattle.hand_over.proofs.FirstLegs.{one_fewer}
-use Rattle.hand_over.proofs.OneClosed.{IsNext, next_of, closes_one, closes_none, ins_home, fewer_left}
+use Rattle.hand_over.specs.ClosingSteps.{HoldsEnds, GivesBox, TakesAt}
+use Rattle.hand_over.proofs.OneClosed.{next_of, closes_one, closes_none, ins_home, fewer_left}
 use Rattle.hand_over.proofs.closing.close_next.Goals as goal
 
 pub returns-in_default-clause-step : goal.returns-in_default-clause-step
